@@ -1,0 +1,4 @@
+pub mod Calendar
+pub mod Money
+pub mod DayFields
+pub mod DayLemmas

@@ -1,0 +1,17 @@
+//! Money, rates and the calendar of the books: cents, thousandths of a percent, civil days and
+//! months, and their texts.
+#![tactic(auto)]
+
+mod civil;
+mod day;
+mod money;
+mod month;
+mod out_of_memory;
+mod steps;
+
+pub use civil::{add_days, add_months, days360, first_day, last_day, month_of};
+pub use day::Day;
+pub use money::{Cents, Rate, day_interest, month_interest, share_bp};
+pub use month::Month;
+pub use out_of_memory::OutOfMemory;
+pub use steps::Steps;

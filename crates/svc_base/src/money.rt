@@ -1,0 +1,55 @@
+//! Amounts of money, rates, and what a rate takes of an amount.
+
+ghost use Rattle.std.specs.Prelude.{◌≡◌, ◌<◌, ◌≤◌, ◌^◌, ◌*◌, pos};
+ghost use Rattle.svc_base.specs.Money as money;
+
+/// An amount of money in cents.
+pub type Cents = i64;
+
+/// A yearly rate in thousandths of a percent: 6.875% is 6875.
+pub type Rate = u32;
+
+/// One month's interest on a balance, in cents, half a cent rounded up.
+#[tactic(auto, using(std::proofs::lemmas::Int::ints), unfolding(crate::specs::Money::month_interest))]
+pub fn month_interest(upb: Cents, rate: Rate) -> Cents
+    requires amount { money.IsAmount upb }
+    requires rate { rate ≤ 25_000 }
+    ensures { result ≡ money.month_interest upb rate }
+{
+    half_up(upb as u128 * u128::from(rate), 1_200_000)
+}
+
+/// The interest of some days of a year of 360, in cents, half a cent rounded up.
+#[tactic(auto, using(std::proofs::lemmas::Int::ints), unfolding(crate::specs::Money::day_interest))]
+pub fn day_interest(upb: Cents, rate: Rate, days: u32) -> Cents
+    requires amount { money.IsAmount upb }
+    requires rate { rate ≤ 25_000 }
+    requires days { days ≤ 60_000 }
+    ensures { result ≡ money.day_interest upb rate days }
+{
+    half_up(
+        upb as u128 * u128::from(rate) * u128::from(days),
+        36_000_000,
+    )
+}
+
+/// So many hundredths of a percent of an amount, in cents, half a cent rounded up.
+#[tactic(auto, using(std::proofs::lemmas::Int::ints), unfolding(crate::specs::Money::share_bp))]
+pub fn share_bp(cents: Cents, bp: u32) -> Cents
+    requires amount { money.IsAmount cents }
+    requires bp { bp ≤ 10_000 }
+    ensures { result ≡ money.share_bp cents bp }
+{
+    half_up(cents as u128 * u128::from(bp), 10_000)
+}
+
+/// `a / b` rounded to the nearest whole number, a half upwards.
+fn half_up(a: u128, b: u128) -> Cents
+    requires positive { 0 < b }
+    requires divisor { b < 2 ^ 62 }
+    requires dividend { a < 2 ^ 65 }
+    requires fits { a < 2 ^ 62 * b }
+    ensures { result ≡ pos (money.half_up a b) }
+{
+    ((2 * a + b) / (2 * b)) as Cents
+}

@@ -1,0 +1,80 @@
+//! A month of a year.
+
+ghost use Rattle.std.specs.Prelude.{◌≡◌, ℕ, ◌+◌, ◌*◌, ◌<◌, ◌≤◌, ◌-◌};
+ghost use Rattle.svc_base.specs.Calendar.{year_of_month, number_in_year};
+
+use std::marker::Model;
+
+/// A month of a year: its value in contracts is the count of months since January of the year 0.
+#[derive(Clone, Copy, Debug, PartialEq, Eq, PartialOrd, Ord, Hash)]
+pub struct Month {
+    number: u32,
+}
+
+impl Model for Month {
+    ghost use Rattle.std.specs.Prelude.{ℕ, ◌<◌};
+
+    ghost Value = { ℕ };
+
+    ghost view = { λ m. m.number };
+
+    ghost invariant = { λ m. m.number < 36_000 };
+
+    ghost inverse = { λ n. record { number = n } };
+}
+
+impl Month {
+    /// The month of that number, from 1, in a year before 3000.
+    pub fn new(year: u32, month: u32) -> Month
+        requires year { year < 3_000 }
+        requires first { 1 ≤ month }
+        requires last { month ≤ 12 }
+        ensures { result ≡ 12 * year + (month - 1) }
+    {
+        Month {
+            number: 12 * year + (month - 1),
+        }
+    }
+
+    /// Its year.
+    pub fn year(&self) -> u32
+        ensures { result ≡ year_of_month self.now }
+    {
+        self.number / 12
+    }
+
+    /// Its number in the year, from 1.
+    pub fn month(&self) -> u32
+        ensures { result ≡ number_in_year self.now }
+    {
+        self.number % 12 + 1
+    }
+
+    /// The count of months since January of the year 0.
+    pub fn number(&self) -> u32
+        ensures value { result ≡ self.now }
+        ensures bound { self.now < 36_000 }
+    {
+        self.number
+    }
+
+    /// The month that many months later.
+    pub fn plus(&self, n: u32) -> Month
+        requires { self.now + n < 36_000 }
+        ensures { result ≡ self.now + n }
+    {
+        Month {
+            number: self.number + n,
+        }
+    }
+
+    /// The month before.
+    pub fn previous(&self) -> Month
+        requires { 0 < self.now }
+        ensures { result + 1 ≡ self.now }
+    {
+        Month {
+            number: self.number - 1,
+        }
+    }
+}

@@ -1,0 +1,51 @@
+//! The entries of a loan's account, and the events of its books.
+
+use crate::escrow::Settled;
+use svc_base::{Cents, Day};
+
+/// What an entry does.
+#[derive(Clone, Copy, Debug, PartialEq, Eq)]
+pub enum Act {
+    /// A payment.
+    Pay(Cents),
+    /// A payment on the principal alone.
+    Curtail(Cents),
+    /// A payment that is to satisfy the loan.
+    Payoff(Cents),
+    /// A payment into escrow.
+    Deposit(Cents),
+    /// A bill paid from escrow, and the number of its line.
+    Disburse(Cents, u32),
+    /// A payment out to the borrower.
+    Refund(Cents),
+    /// Late charges that are given up.
+    Waive(Cents),
+    /// An escrow analysis.
+    Analyse(Settled),
+}
+
+/// An accepted entry: the number of its command, its effective day and its act.
+#[derive(Clone, Copy, Debug, PartialEq, Eq)]
+pub struct Entry {
+    pub number: u32,
+    pub day: Day,
+    pub act: Act,
+}
+
+/// What happens to a loan's books on a day.
+#[derive(Clone, Copy, Debug, PartialEq, Eq)]
+pub enum What {
+    /// A month begins.
+    MonthMark,
+    /// The grace of that installment is over.
+    LateMark(u32),
+    /// An entry takes effect.
+    Act(Act),
+}
+
+/// An event of a loan's books.
+#[derive(Clone, Copy, Debug, PartialEq, Eq)]
+pub struct Event {
+    pub day: Day,
+    pub what: What,
+}

@@ -1,0 +1,50 @@
+//! The books of one loan.
+
+use crate::escrow::EscrowPlan;
+use svc_base::{Cents, Day, Month};
+
+/// Where a loan stands at a day. All amounts are cents.
+#[derive(Clone, Copy, Debug, PartialEq, Eq)]
+pub struct Books {
+    /// The day that they stand for.
+    pub day: Day,
+    /// The unpaid principal balance.
+    pub upb: Cents,
+    /// The number of the open installment.
+    pub next: u32,
+    /// The escrow balance; below 0 where the servicer advances.
+    pub escrow: Cents,
+    /// Money that is not yet applied.
+    pub suspense: Cents,
+    /// Late charges that are owed.
+    pub late_owed: Cents,
+    /// Interest collected since boarding, the fee included.
+    pub interest: Cents,
+    /// The servicing fee in that interest.
+    pub fee: Cents,
+    /// Principal collected since boarding.
+    pub principal: Cents,
+    /// The part of it that was paid ahead as a curtailment.
+    pub curtailed: Cents,
+    /// Late charges collected since boarding.
+    pub late_paid: Cents,
+    /// The newest escrow plan, and the one before it.
+    pub plan: EscrowPlan,
+    pub earlier: EscrowPlan,
+    /// The day on which the balance came to 0.
+    pub satisfied: Option<Day>,
+}
+
+/// What one month did to a loan, in cents.
+#[derive(Clone, Copy, Debug, PartialEq, Eq)]
+pub struct MonthFacts {
+    pub month: Month,
+    /// The balance at the month's end.
+    pub upb: Cents,
+    /// Principal curtailed, interest and fee collected in the month.
+    pub curtailed: Cents,
+    pub interest: Cents,
+    pub fee: Cents,
+    /// The loan is satisfied at the month's end.
+    pub satisfied: bool,
+}
