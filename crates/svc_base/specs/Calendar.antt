@@ -15,6 +15,10 @@ number_in_year m = m % 12 + 1
 unfoldable pub month_length : ℕ → ℕ
 month_length m = days_in_month (pos (year_of_month m)) (number_in_year m)
 
+-- the months that the books reach end with December 2140
+abbrev pub months_end : ℕ
+months_end = 25_692
+
 -- the month of a day
 abbrev pub month_of : ℕ → ℕ
 month_of d = d / 31

@@ -30,9 +30,9 @@ pub fn last_day(month: Month) -> Day
     Day::new(month, month_length(month))
 }
 
-/// The month that many months later.
+/// The month that many months later, up to the end of 2140.
 pub fn add_months(month: Month, n: u32) -> Month
-    requires { month + n < 36_000 }
+    requires { month + n < calendar.months_end }
     ensures { result ≡ month + n }
 {
     month.plus(n)
@@ -49,9 +49,9 @@ fn month_length(month: Month) -> u32
     }
 }
 
-/// The day that many days later; its month is before the year 3000.
+/// The day that many days later, up to the end of 2140.
 pub fn add_days(day: Day, n: u32) -> Day
-    requires { calendar.month_of (calendar.day_after day n) < 36_000 }
+    requires { calendar.month_of (calendar.day_after day n) < calendar.months_end }
     ensures { result ≡ calendar.day_after day n }
 {
     let length = month_length(day.in_month());

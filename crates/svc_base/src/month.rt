@@ -1,7 +1,7 @@
 //! A month of a year.
 
 ghost use Rattle.std.specs.Prelude.{◌≡◌, ℕ, ◌+◌, ◌*◌, ◌<◌, ◌≤◌, ◌-◌};
-ghost use Rattle.svc_base.specs.Calendar.{year_of_month, number_in_year};
+ghost use Rattle.svc_base.specs.Calendar.{year_of_month, number_in_year, months_end};
 
 use std::marker::Model;
 
@@ -13,20 +13,21 @@ pub struct Month {
 
 impl Model for Month {
     ghost use Rattle.std.specs.Prelude.{ℕ, ◌<◌};
+    ghost use Rattle.svc_base.specs.Calendar.{months_end};
 
     ghost Value = { ℕ };
 
     ghost view = { λ m. m.number };
 
-    ghost invariant = { λ m. m.number < 36_000 };
+    ghost invariant = { λ m. m.number < months_end };
 
     ghost inverse = { λ n. record { number = n } };
 }
 
 impl Month {
-    /// The month of that number, from 1, in a year before 3000.
+    /// The month of that number, from 1, in a year up to 2140.
     pub fn new(year: u32, month: u32) -> Month
-        requires year { year < 3_000 }
+        requires year { year ≤ 2140 }
         requires first { 1 ≤ month }
         requires last { month ≤ 12 }
         ensures { result ≡ 12 * year + (month - 1) }
@@ -53,14 +54,14 @@ impl Month {
     /// The count of months since January of the year 0.
     pub fn number(&self) -> u32
         ensures value { result ≡ self.now }
-        ensures bound { self.now < 36_000 }
+        ensures bound { self.now < months_end }
     {
         self.number
     }
 
     /// The month that many months later.
     pub fn plus(&self, n: u32) -> Month
-        requires { self.now + n < 36_000 }
+        requires { self.now + n < months_end }
         ensures { result ≡ self.now + n }
     {
         Month {

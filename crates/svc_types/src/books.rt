@@ -35,6 +35,18 @@ pub struct Books {
     pub satisfied: Option<Day>,
 }
 
+/// An installment that is open: its number, its due day and its parts, in cents.
+#[derive(Clone, Copy, Debug, PartialEq, Eq)]
+pub struct Installment {
+    pub k: u32,
+    pub due: Day,
+    pub interest: Cents,
+    /// The servicing fee in the interest.
+    pub fee: Cents,
+    pub principal: Cents,
+    pub escrow: Cents,
+}
+
 /// What one month did to a loan, in cents.
 #[derive(Clone, Copy, Debug, PartialEq, Eq)]
 pub struct MonthFacts {

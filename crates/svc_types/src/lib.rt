@@ -8,7 +8,7 @@ mod faults;
 mod terms;
 
 pub use account::{Act, Entry, Event, What};
-pub use books::{Books, MonthFacts};
+pub use books::{Books, Installment, MonthFacts};
 pub use escrow::{EscrowPlan, Figures, LineKind, PartPlan, Plan, PlanPart, Settled, SurplusPlan};
 pub use faults::{LineWhy, PlanFault, TermFault};
 pub use terms::{RemitType, Terms};

@@ -1,0 +1,5 @@
+pub mod Installments
+pub mod Settling
+pub mod Payoff
+pub mod Step
+pub mod Books

@@ -1,0 +1,2 @@
+//! The definitions that a loan's books are compared with, and what follows from them.
+#![tactic(auto)]
