@@ -1,1 +1,3 @@
 pub mod CalendarLemmas
+pub mod MoneyLemmas
+pub mod CentsRules

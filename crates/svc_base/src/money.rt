@@ -1,6 +1,6 @@
 //! Amounts of money, rates, and what a rate takes of an amount.
 
-ghost use Rattle.std.specs.Prelude.{◌≡◌, ◌<◌, ◌≤◌, ◌^◌, ◌*◌, pos};
+ghost use Rattle.std.specs.Prelude.{◌≡◌, ◌<◌, ◌≤◌, ◌^◌, ◌*◌, pos, ◌≤ℤ◌};
 ghost use Rattle.svc_base.specs.Money as money;
 
 /// An amount of money in cents.
@@ -10,22 +10,26 @@ pub type Cents = i64;
 pub type Rate = u32;
 
 /// One month's interest on a balance, in cents, half a cent rounded up.
-#[tactic(auto, using(std::proofs::lemmas::Int::ints), unfolding(crate::specs::Money::month_interest))]
+#[tactic(auto, using(std::proofs::lemmas::Int::ints, crate::proofs::MoneyLemmas::month_interest_most), unfolding(crate::specs::Money::month_interest))]
 pub fn month_interest(upb: Cents, rate: Rate) -> Cents
     requires amount { money.IsAmount upb }
     requires rate { rate ≤ 25_000 }
-    ensures { result ≡ money.month_interest upb rate }
+    ensures value { result ≡ money.month_interest upb rate }
+    ensures low { pos 0 ≤ℤ result }
+    ensures high { result ≤ℤ pos 208_333_333 }
 {
     half_up(upb as u128 * u128::from(rate), 1_200_000)
 }
 
 /// The interest of some days of a year of 360, in cents, half a cent rounded up.
-#[tactic(auto, using(std::proofs::lemmas::Int::ints), unfolding(crate::specs::Money::day_interest))]
+#[tactic(auto, using(std::proofs::lemmas::Int::ints, crate::proofs::MoneyLemmas::day_interest_most), unfolding(crate::specs::Money::day_interest))]
 pub fn day_interest(upb: Cents, rate: Rate, days: u32) -> Cents
     requires amount { money.IsAmount upb }
     requires rate { rate ≤ 25_000 }
     requires days { days ≤ 60_000 }
-    ensures { result ≡ money.day_interest upb rate days }
+    ensures value { result ≡ money.day_interest upb rate days }
+    ensures low { pos 0 ≤ℤ result }
+    ensures high { result ≤ℤ pos 416_666_666_667 }
 {
     half_up(
         upb as u128 * u128::from(rate) * u128::from(days),
@@ -34,11 +38,13 @@ pub fn day_interest(upb: Cents, rate: Rate, days: u32) -> Cents
 }
 
 /// So many hundredths of a percent of an amount, in cents, half a cent rounded up.
-#[tactic(auto, using(std::proofs::lemmas::Int::ints), unfolding(crate::specs::Money::share_bp))]
+#[tactic(auto, using(std::proofs::lemmas::Int::ints, crate::proofs::MoneyLemmas::share_bp_most), unfolding(crate::specs::Money::share_bp))]
 pub fn share_bp(cents: Cents, bp: u32) -> Cents
     requires amount { money.IsAmount cents }
     requires bp { bp ≤ 10_000 }
-    ensures { result ≡ money.share_bp cents bp }
+    ensures value { result ≡ money.share_bp cents bp }
+    ensures low { pos 0 ≤ℤ result }
+    ensures high { result ≤ℤ pos 10_000_000_000 }
 {
     half_up(cents as u128 * u128::from(bp), 10_000)
 }

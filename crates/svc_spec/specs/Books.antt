@@ -25,8 +25,8 @@ pub record IsPlan (p : EscrowPlan) : Type 0 where
   pub deficient : IsSum p.deficient
   pub deficient_months : p.deficient_months ≤ 60
 
--- what holds of a loan's books whatever its sums have come to
-pub record AreSound (t : Terms) (b : Books) : Type 0 where
+-- what holds of the numbers of a loan's books, whatever its sums have come to
+pub record HaveSigns (t : Terms) (b : Books) : Type 0 where
   pub upb_low : pos 0 ≤ℤ b.upb
   pub upb_high : b.upb ≤ℤ t.principal
   pub next_low : 1 ≤ b.next
@@ -39,7 +39,6 @@ pub record AreSound (t : Terms) (b : Books) : Type 0 where
   pub principal : pos 0 ≤ℤ b.principal
   pub curtailed : pos 0 ≤ℤ b.curtailed
   pub late_paid : pos 0 ≤ℤ b.late_paid
-  pub satisfied : is_some b.satisfied ≡ int_le b.upb (pos 0)
   pub plan : IsPlan b.plan
   pub earlier : IsPlan b.earlier
 
@@ -55,9 +54,10 @@ pub record AreWithin (b : Books) : Type 0 where
   pub curtailed : b.curtailed ≤ℤ pos 1_000_000_000_000_000_000
   pub late_paid : b.late_paid ≤ℤ pos 1_000_000_000_000_000_000
 
--- books of a loan with these terms
+-- books of a loan with these terms: a satisfied loan has a balance of 0, and no other has
 pub record AreBooks (t : Terms) (b : Books) : Type 0 where
-  pub sound : AreSound t b
+  pub signs : HaveSigns t b
+  pub satisfied : is_some b.satisfied ≡ int_le b.upb (pos 0)
   pub within : AreWithin b
 
 -- the plan of a loan at boarding

@@ -25,9 +25,13 @@ interest_part t upb = month_interest upb t.rate
 abbrev pub fee_part : Terms → ℤ → ℤ
 fee_part t upb = month_interest upb t.fee
 
--- the principal of installment k: what the level payment leaves, and at the term all of the balance
+-- the principal that the level payment leaves
+unfoldable pub level_principal : Terms → ℤ → ℤ
+level_principal t upb = int_min upb (t.pi -ℤ interest_part t upb)
+
+-- the principal of installment k; at the term it is all of the balance
 unfoldable pub principal_part : Terms → ℤ → ℕ → ℤ
-principal_part t upb k = if k == t.term then upb else int_min upb (t.pi -ℤ interest_part t upb)
+principal_part t upb k = if k == t.term then upb else level_principal t upb
 
 -- whether an amount that starts with a plan is asked in month m
 abbrev pub is_asked : ℕ → ℕ → ℕ → Bool

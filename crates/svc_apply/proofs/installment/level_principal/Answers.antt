@@ -1,0 +1,16 @@
+use Rattle.std.proofs.Common.{◌≡◌, FitsSigned, w64, arith}
+use Rattle.std.proofs.lemmas.Int.{ints, clamps, to_z-of_z}
+use Rattle.svc_base.specs.Money.{month_interest}
+use Rattle.svc_base.proofs.MoneyLemmas.{month_interest_low}
+use Rattle.svc_spec.specs.Installments.{level_principal}
+use Rattle.svc_apply.proofs.installment.level_principal.Goals as goal
+
+pub overflow_sub-terms : goal.overflow_sub-terms
+overflow_sub-terms c = omega (arith, ints, month_interest_low c.args.terms.now.principal c.args.terms.now.rate)
+
+pub returns : goal.returns
+unfolding level_principal
+returns c =
+    let fits : FitsSigned w64 c.args.upb = c.ranges.upb in
+    let interest : c.month_interest-interest.result ≡ month_interest c.args.upb c.args.terms.now.rate = simp to_z-of_z at c.month_interest-interest.ensures.value in
+    omega (arith, ints, clamps, c.min.ensures.value, month_interest_low c.args.terms.now.principal c.args.terms.now.rate)

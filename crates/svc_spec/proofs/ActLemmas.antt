@@ -1,0 +1,233 @@
+-- What the acts and marks keep: the signs of the numbers, and all money.
+use Rattle.std.proofs.Common.{◌≡◌, ℕ, zero, suc, ◌+◌, ◌≤◌, ◌<◌, Bool, true, false, cond, arith, refl, sym, ap, subst, ◌∙◌}
+use Rattle.std.specs.Prelude.{ℤ, pos, ◌+ℤ◌, ◌-ℤ◌, ◌≤ℤ◌, ◌<ℤ◌, ◌&&◌, ◌==◌, int_lt, int_le, nat_le, is_some, is_none, Option, Some, None, if◌then◌else◌}
+use Rattle.std.specs.Int.{int_min, int_max}
+use Rattle.std.proofs.lemmas.Int.{ints, clamps}
+use Rattle.svc_base.specs.Calendar.{month_of, IsDay, IsReadDay, months_end}
+use Rattle.svc_base.specs.Money.{month_interest, day_interest, share_bp, IsAmount}
+use Rattle.svc_base.proofs.MoneyLemmas.{month_interest_low, month_interest_rises, day_interest_low, day_interest_rises, share_bp_low}
+use Rattle.svc_base.proofs.CentsRules.{int_le-true, int_le-false, int_lt-true, int_lt-false, from_int_le, from_not_int_le, from_int_lt, from_not_int_lt}
+use Rattle.svc_types.specs.declared.terms.Terms.{Terms}
+use Rattle.svc_types.specs.declared.escrow.EscrowPlan.{EscrowPlan}
+use Rattle.svc_types.specs.declared.escrow.Settled.{Settled}
+use Rattle.svc_types.specs.declared.books.Books.{Books}
+use Rattle.svc_types.specs.declared.account.Act.{Act}
+use Rattle.svc_types.specs.declared.account.Act.TheVariants.{Pay, Curtail, Payoff, Deposit, Disburse, Refund, Waive, Analyse}
+use Rattle.svc_types.specs.declared.account.Event.{Event}
+use Rattle.svc_types.specs.declared.account.What.{What}
+use Rattle.svc_types.specs.declared.account.What.TheVariants as what
+use Rattle.svc_types.specs.Terms.{IsSound}
+use Rattle.svc_spec.specs.Installments.{interest_part, fee_part, whole_part, principal_part, escrow_part, due_month}
+use Rattle.svc_spec.specs.Settling.{moves, moved_one, moved, late_taken, is_overdue, marked, settled}
+use Rattle.svc_spec.specs.Payoff.{payoff_sum, payoff_principal, payoff_days, escrow_advanced}
+use Rattle.svc_spec.specs.Step.{paid_in, charged, curtailed, paid_off, payoff_tried, deposited, from_suspense, refunded, waived, analysed, acted, happened, step, brought, paid_out, brought_by, paid_out_by}
+use Rattle.svc_spec.specs.Books.{IsSum, IsPlan, HaveSigns, AreWithin, AreBooks, IsAct, IsWhat, total}
+use Rattle.svc_spec.proofs.InstallmentLemmas.{IsBalance, principal_part_bounds, escrow_part_bounds}
+use Rattle.svc_spec.proofs.SettlingLemmas.{is_movable, moves_more, moves_none, both, from_nat_eq, from_not_nat_eq}
+
+-- no balance rises, and no mark of a satisfied loan changes
+pub record Falls (b b' : Books) : Type 0 where
+  pub upb : b'.upb ≤ℤ b.upb
+  pub satisfied : b'.satisfied ≡ b.satisfied
+
+pub paid_in_signs : (t : Terms) (c : ℤ) (b : Books) → IsSum c → HaveSigns t b → HaveSigns t (paid_in c b)
+paid_in_signs t c b a h = let suspense = h.suspense in let low = a.low in record { upb_low = h.upb_low; upb_high = h.upb_high; next_low = h.next_low; next_high = h.next_high; next_open = h.next_open; suspense = omega (arith, ints); late_owed = h.late_owed; interest = h.interest; fee = h.fee; principal = h.principal; curtailed = h.curtailed; late_paid = h.late_paid; plan = h.plan; earlier = h.earlier }
+
+paid_in_total : (c : ℤ) (b : Books) → total (paid_in c b) ≡ total b +ℤ c
+paid_in_total c b = omega (arith, ints)
+
+-- ---- late marks
+
+charged_signs : (t : Terms) (k : ℕ) (b : Books) → HaveSigns t b → HaveSigns t (charged t k b)
+unfolding charged
+charged_signs t k b h =
+    elim (int_lt (pos 0) b.upb && nat_le b.next k) as (λ v. HaveSigns t (if v then record b { late_owed = b.late_owed +ℤ share_bp t.pi t.late } else b)) [
+        true ↦ let owed = h.late_owed in let low = share_bp_low t.pi t.late in record { upb_low = h.upb_low; upb_high = h.upb_high; next_low = h.next_low; next_high = h.next_high; next_open = h.next_open; suspense = h.suspense; late_owed = omega (arith, ints); interest = h.interest; fee = h.fee; principal = h.principal; curtailed = h.curtailed; late_paid = h.late_paid; plan = h.plan; earlier = h.earlier }
+        | false ↦ h
+    ]
+
+charged_total : (t : Terms) (k : ℕ) (b : Books) → total (charged t k b) ≡ total b
+unfolding charged
+charged_total t k b = elim (int_lt (pos 0) b.upb && nat_le b.next k) as (λ v. total (if v then record b { late_owed = b.late_owed +ℤ share_bp t.pi t.late } else b) ≡ total b) [ true ↦ refl | false ↦ refl ]
+
+le_refl : (z : ℤ) → z ≤ℤ z
+le_refl z = omega (arith, ints)
+
+charged_falls : (t : Terms) (k : ℕ) (b : Books) → Falls b (charged t k b)
+unfolding charged
+charged_falls t k b = elim (int_lt (pos 0) b.upb && nat_le b.next k) as (λ v. Falls b (if v then record b { late_owed = b.late_owed +ℤ share_bp t.pi t.late } else b)) [
+        true ↦ record { upb = le_refl b.upb; satisfied = refl }
+        | false ↦ record { upb = le_refl b.upb; satisfied = refl }
+    ]
+
+-- ---- curtailments
+
+curtailed_signs : (t : Terms) (c : ℤ) (b : Books) → IsSum c → HaveSigns t b → HaveSigns t (curtailed c b)
+unfolding curtailed
+curtailed_signs t c b a h =
+    let c_low = a.low in
+    let upb_low = h.upb_low in
+    let upb_high = h.upb_high in
+    let suspense = h.suspense in
+    let principal = h.principal in
+    let before = h.curtailed in
+    record { upb_low = omega (arith, ints, clamps); upb_high = omega (arith, ints, clamps); next_low = h.next_low; next_high = h.next_high; next_open = λ left. h.next_open (omega (arith, ints, clamps)); suspense = omega (arith, ints, clamps); late_owed = h.late_owed; interest = h.interest; fee = h.fee; principal = omega (arith, ints, clamps); curtailed = omega (arith, ints, clamps); late_paid = h.late_paid; plan = h.plan; earlier = h.earlier }
+
+curtailed_total : (c : ℤ) (b : Books) → total (curtailed c b) ≡ total b +ℤ c
+unfolding curtailed
+curtailed_total c b = omega (arith, ints)
+
+curtailed_falls : (c : ℤ) (b : Books) → IsSum c → pos 0 ≤ℤ b.upb → Falls b (curtailed c b)
+unfolding curtailed
+curtailed_falls c b a low = let c_low = a.low in record { upb = omega (arith, ints, clamps); satisfied = refl }
+
+-- ---- payoffs
+
+paid_off_signs : (t : Terms) (d : ℕ) (b : Books) → HaveSigns t b → payoff_sum t d b ≤ℤ b.suspense → HaveSigns t (paid_off t d b)
+unfolding paid_off
+paid_off_signs t d b h covered =
+    let upb_low = h.upb_low in
+    let upb_high = h.upb_high in
+    let owed = h.late_owed in
+    let paid = h.late_paid in
+    let interest = h.interest in
+    let fee = h.fee in
+    let principal = h.principal in
+    let days = day_interest_low b.upb t.rate (payoff_days t d b) in
+    let part = day_interest_low b.upb t.fee (payoff_days t d b) in
+    record { upb_low = omega (arith, ints); upb_high = omega (arith, ints); next_low = h.next_low; next_high = h.next_high; next_open = λ left. absurd (omega (arith, ints)); suspense = omega (arith, ints); late_owed = omega (arith, ints); interest = omega (arith, ints); fee = omega (arith, ints); principal = omega (arith, ints); curtailed = h.curtailed; late_paid = omega (arith, ints); plan = h.plan; earlier = h.earlier }
+
+owed_principal : (t : Terms) (d : ℕ) (b : Books) → int_lt (pos 0) b.upb ≡ true → payoff_principal t d b ≡ b.upb +ℤ day_interest b.upb t.rate (payoff_days t d b)
+unfolding payoff_principal
+owed_principal t d b owed = rw owed
+
+paid_off_total : (t : Terms) (d : ℕ) (b : Books) → int_lt (pos 0) b.upb ≡ true → total (paid_off t d b) ≡ total b
+unfolding paid_off payoff_sum
+paid_off_total t d b owed = omega (arith, ints, owed_principal t d b owed)
+
+payoff_tried_signs : (t : Terms) (d : ℕ) (b : Books) → HaveSigns t b → HaveSigns t (payoff_tried t d b)
+unfolding payoff_tried
+payoff_tried_signs t d b h =
+    elim (int_lt (pos 0) b.upb && int_le (payoff_sum t d b) b.suspense) as (λ v. (int_lt (pos 0) b.upb && int_le (payoff_sum t d b) b.suspense) ≡ v → HaveSigns t (if v then paid_off t d b else b)) [
+        true ↦ λ e. paid_off_signs t d b h (from_int_le (payoff_sum t d b) b.suspense (both (int_lt (pos 0) b.upb) (int_le (payoff_sum t d b) b.suspense) e).1)
+        | false ↦ λ e. h
+    ] refl
+
+payoff_tried_total : (t : Terms) (d : ℕ) (b : Books) → total (payoff_tried t d b) ≡ total b
+unfolding payoff_tried
+payoff_tried_total t d b =
+    elim (int_lt (pos 0) b.upb && int_le (payoff_sum t d b) b.suspense) as (λ v. (int_lt (pos 0) b.upb && int_le (payoff_sum t d b) b.suspense) ≡ v → total (if v then paid_off t d b else b) ≡ total b) [
+        true ↦ λ e. paid_off_total t d b (both (int_lt (pos 0) b.upb) (int_le (payoff_sum t d b) b.suspense) e).0
+        | false ↦ λ e. refl
+    ] refl
+
+payoff_tried_falls : (t : Terms) (d : ℕ) (b : Books) → pos 0 ≤ℤ b.upb → Falls b (payoff_tried t d b)
+unfolding payoff_tried paid_off
+payoff_tried_falls t d b low =
+    elim (int_lt (pos 0) b.upb && int_le (payoff_sum t d b) b.suspense) as (λ v. Falls b (if v then paid_off t d b else b)) [
+        true ↦ record { upb = low; satisfied = refl }
+        | false ↦ record { upb = le_refl b.upb; satisfied = refl }
+    ]
+
+-- ---- deposits, refunds, waivers, analyses
+
+deposited_signs : (t : Terms) (c : ℤ) (b : Books) → IsSum c → HaveSigns t b → HaveSigns t (deposited c b)
+unfolding deposited
+deposited_signs t c b a h =
+    elim (int_lt (pos 0) b.upb) as (λ v. HaveSigns t (if v then record b { escrow = b.escrow +ℤ c } else record b { suspense = b.suspense +ℤ c })) [
+        true ↦ record { upb_low = h.upb_low; upb_high = h.upb_high; next_low = h.next_low; next_high = h.next_high; next_open = h.next_open; suspense = h.suspense; late_owed = h.late_owed; interest = h.interest; fee = h.fee; principal = h.principal; curtailed = h.curtailed; late_paid = h.late_paid; plan = h.plan; earlier = h.earlier }
+        | false ↦ paid_in_signs t c b a h
+    ]
+
+deposited_total : (c : ℤ) (b : Books) → total (deposited c b) ≡ total b +ℤ c
+unfolding deposited
+deposited_total c b =
+    elim (int_lt (pos 0) b.upb) as (λ v. total (if v then record b { escrow = b.escrow +ℤ c } else record b { suspense = b.suspense +ℤ c }) ≡ total b +ℤ c) [ true ↦ omega (arith, ints) | false ↦ omega (arith, ints) ]
+
+deposited_falls : (c : ℤ) (b : Books) → Falls b (deposited c b)
+unfolding deposited
+deposited_falls c b =
+    elim (int_lt (pos 0) b.upb) as (λ v. Falls b (if v then record b { escrow = b.escrow +ℤ c } else record b { suspense = b.suspense +ℤ c })) [ true ↦ record { upb = le_refl b.upb; satisfied = refl } | false ↦ record { upb = le_refl b.upb; satisfied = refl } ]
+
+-- what a refund takes from suspense is there
+pub from_suspense_bounds : (c : ℤ) (b : Books) → IsSum c → pos 0 ≤ℤ b.suspense → (pos 0 ≤ℤ from_suspense c b) × (from_suspense c b ≤ℤ b.suspense) × (from_suspense c b ≤ℤ c)
+unfolding from_suspense
+from_suspense_bounds c b a low =
+    let c_low = a.low in
+    elim (int_lt (pos 0) b.upb) as (λ v. (pos 0 ≤ℤ (if v then pos 0 else int_min b.suspense c)) × ((if v then pos 0 else int_min b.suspense c) ≤ℤ b.suspense) × ((if v then pos 0 else int_min b.suspense c) ≤ℤ c)) [
+        true ↦ (omega (arith, ints), low, c_low)
+        | false ↦ (omega (arith, ints, clamps), omega (arith, ints, clamps), omega (arith, ints, clamps))
+    ]
+
+refunded_signs : (t : Terms) (c : ℤ) (b : Books) → IsSum c → HaveSigns t b → HaveSigns t (refunded c b)
+unfolding refunded
+refunded_signs t c b a h =
+    let taken = from_suspense_bounds c b a h.suspense in
+    let suspense = h.suspense in
+    record { upb_low = h.upb_low; upb_high = h.upb_high; next_low = h.next_low; next_high = h.next_high; next_open = h.next_open; suspense = omega (arith, ints); late_owed = h.late_owed; interest = h.interest; fee = h.fee; principal = h.principal; curtailed = h.curtailed; late_paid = h.late_paid; plan = h.plan; earlier = h.earlier }
+
+refunded_total : (c : ℤ) (b : Books) → total (refunded c b) +ℤ c ≡ total b
+unfolding refunded
+refunded_total c b = omega (arith, ints)
+
+waived_signs : (t : Terms) (c : ℤ) (b : Books) → IsSum c → HaveSigns t b → HaveSigns t (waived c b)
+waived_signs t c b a h =
+    let owed = h.late_owed in
+    let c_low = a.low in
+    record { upb_low = h.upb_low; upb_high = h.upb_high; next_low = h.next_low; next_high = h.next_high; next_open = h.next_open; suspense = h.suspense; late_owed = omega (arith, ints, clamps); interest = h.interest; fee = h.fee; principal = h.principal; curtailed = h.curtailed; late_paid = h.late_paid; plan = h.plan; earlier = h.earlier }
+
+analysed_signs : (t : Terms) (s : Settled) (b : Books) → IsPlan s.plan → HaveSigns t b → HaveSigns t (analysed s b)
+unfolding analysed
+analysed_signs t s b a h =
+    let earlier : IsPlan (if s.plan.start == b.plan.start then b.earlier else b.plan) = elim (s.plan.start == b.plan.start) as (λ v. IsPlan (if v then b.earlier else b.plan)) [ true ↦ h.earlier | false ↦ h.plan ] in
+    record { upb_low = h.upb_low; upb_high = h.upb_high; next_low = h.next_low; next_high = h.next_high; next_open = h.next_open; suspense = h.suspense; late_owed = h.late_owed; interest = h.interest; fee = h.fee; principal = h.principal; curtailed = h.curtailed; late_paid = h.late_paid; plan = a; earlier = earlier }
+
+analysed_total : (s : Settled) (b : Books) → total (analysed s b) +ℤ s.refund ≡ total b
+unfolding analysed
+analysed_total s b = omega (arith, ints)
+
+analysed_falls : (s : Settled) (b : Books) → Falls b (analysed s b)
+unfolding analysed
+analysed_falls s b = record { upb = le_refl b.upb; satisfied = refl }
+
+refunded_falls : (c : ℤ) (b : Books) → Falls b (refunded c b)
+unfolding refunded
+refunded_falls c b = record { upb = le_refl b.upb; satisfied = refl }
+
+-- ---- all of them
+
+pub happened_signs : (t : Terms) (d : ℕ) (w : What) (b : Books) → IsWhat w → HaveSigns t b → HaveSigns t (happened t d w b)
+happened_signs t d what.MonthMark b a h = h
+happened_signs t d (what.LateMark k) b a h = charged_signs t k b h
+happened_signs t d (what.Act (Pay c)) b a h = paid_in_signs t c b a h
+happened_signs t d (what.Act (Curtail c)) b a h = curtailed_signs t c b a h
+happened_signs t d (what.Act (Payoff c)) b a h = payoff_tried_signs t d (paid_in c b) (paid_in_signs t c b a h)
+happened_signs t d (what.Act (Deposit c)) b a h = deposited_signs t c b a h
+happened_signs t d (what.Act (Disburse c line)) b a h = record { upb_low = h.upb_low; upb_high = h.upb_high; next_low = h.next_low; next_high = h.next_high; next_open = h.next_open; suspense = h.suspense; late_owed = h.late_owed; interest = h.interest; fee = h.fee; principal = h.principal; curtailed = h.curtailed; late_paid = h.late_paid; plan = h.plan; earlier = h.earlier }
+happened_signs t d (what.Act (Refund c)) b a h = refunded_signs t c b a h
+happened_signs t d (what.Act (Waive c)) b a h = waived_signs t c b a h
+happened_signs t d (what.Act (Analyse s)) b a h = analysed_signs t s b a.2 h
+
+pub happened_total : (t : Terms) (d : ℕ) (w : What) (b : Books) → total (happened t d w b) +ℤ paid_out_by w ≡ total b +ℤ brought_by w
+happened_total t d what.MonthMark b = refl
+happened_total t d (what.LateMark k) b = omega (arith, ints, charged_total t k b)
+happened_total t d (what.Act (Pay c)) b = omega (arith, ints)
+happened_total t d (what.Act (Curtail c)) b = omega (arith, ints, curtailed_total c b)
+happened_total t d (what.Act (Payoff c)) b = omega (arith, ints, payoff_tried_total t d (paid_in c b), paid_in_total c b)
+happened_total t d (what.Act (Deposit c)) b = omega (arith, ints, deposited_total c b)
+happened_total t d (what.Act (Disburse c line)) b = omega (arith, ints)
+happened_total t d (what.Act (Refund c)) b = omega (arith, ints, refunded_total c b)
+happened_total t d (what.Act (Waive c)) b = omega (arith, ints)
+happened_total t d (what.Act (Analyse s)) b = omega (arith, ints, analysed_total s b)
+
+pub happened_falls : (t : Terms) (d : ℕ) (w : What) (b : Books) → IsWhat w → pos 0 ≤ℤ b.upb → Falls b (happened t d w b)
+happened_falls t d what.MonthMark b a low = record { upb = le_refl b.upb; satisfied = refl }
+happened_falls t d (what.LateMark k) b a low = charged_falls t k b
+happened_falls t d (what.Act (Pay c)) b a low = record { upb = le_refl b.upb; satisfied = refl }
+happened_falls t d (what.Act (Curtail c)) b a low = curtailed_falls c b a low
+happened_falls t d (what.Act (Payoff c)) b a low = let tried = payoff_tried_falls t d (paid_in c b) low in record { upb = tried.upb; satisfied = tried.satisfied }
+happened_falls t d (what.Act (Deposit c)) b a low = deposited_falls c b
+happened_falls t d (what.Act (Disburse c line)) b a low = record { upb = le_refl b.upb; satisfied = refl }
+happened_falls t d (what.Act (Refund c)) b a low = refunded_falls c b
+happened_falls t d (what.Act (Waive c)) b a low = record { upb = le_refl b.upb; satisfied = refl }
+happened_falls t d (what.Act (Analyse s)) b a low = analysed_falls s b

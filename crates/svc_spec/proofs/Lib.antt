@@ -1,0 +1,5 @@
+pub mod InstallmentLemmas
+pub mod SettlingLemmas
+pub mod StepLemmas
+pub mod ActLemmas
+pub mod WholeStep
