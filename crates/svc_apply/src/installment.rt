@@ -4,8 +4,9 @@ ghost use Rattle.std.specs.Prelude.{◌≡◌, ◌+◌, ◌≤◌};
 ghost use Rattle.svc_base.specs.Calendar.{IsReadDay};
 ghost use Rattle.svc_base.specs.Money.{IsAmount};
 ghost use Rattle.svc_types.specs.Terms.{IsSound};
-ghost use Rattle.svc_spec.specs.Books.{AreBooks, IsPlan, IsSum};
+ghost use Rattle.svc_spec.specs.Books.{AreBooks, HaveSigns, IsPlan, IsSum};
 ghost use Rattle.svc_spec.specs.Installments as rule;
+ghost use Rattle.svc_apply.specs.Room.{HasParts};
 
 use svc_base::{Cents, Month, add_months, first_day, month_interest};
 use svc_types::{Books, EscrowPlan, Installment, Terms};
@@ -21,16 +22,26 @@ pub fn open_installment(books: &Books, terms: &Terms) -> Option<Installment>
     if books.upb <= 0 {
         return None;
     }
+    Some(installment(books, terms))
+}
+
+/// The parts that the open installment has on the balance.
+pub(crate) fn installment(books: &Books, terms: &Terms) -> Installment
+    requires terms { IsSound terms.now }
+    requires boarded { IsReadDay terms.now.boarded }
+    requires signs { HaveSigns terms.now books.now }
+    ensures value { result ≡ rule.installment terms.now books.now }
+    ensures parts { HasParts result books.now.upb }
+{
     let month = due_month(terms, books.next);
-    let interest = month_interest(books.upb, terms.rate);
-    Some(Installment {
+    Installment {
         k: books.next,
         due: first_day(month),
-        interest,
+        interest: month_interest(books.upb, terms.rate),
         fee: month_interest(books.upb, terms.fee),
         principal: principal_part(terms, books.upb, books.next),
         escrow: escrow_part(&books.plan, &books.earlier, month),
-    })
+    }
 }
 
 /// The month in which installment k is due.

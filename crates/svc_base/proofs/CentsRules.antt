@@ -1,6 +1,7 @@
 -- What `grind` needs of signed amounts: casts, and the lesser and the greater of two.
 use Rattle.std.proofs.Common.{◌≡◌, true, false, arith}
-use Rattle.std.specs.Prelude.{ℤ, ◌≤ℤ◌, ◌<ℤ◌, int_lt, int_le}
+use Rattle.std.specs.Prelude.{ℕ, ℤ, ◌≤ℤ◌, ◌<ℤ◌, int_lt, int_le, nat_le}
+use Rattle.std.specs.Ordering.{nat_cmp, is_le}
 use Rattle.std.proofs.lemmas.Int.{ints, clamps, to_z-of_z}
 
 pub ruleset cents = (ints, clamps, to_z-of_z)
@@ -30,3 +31,7 @@ from_int_le a b h = grind (arith, ints)
 
 pub from_not_int_le : (a b : ℤ) → int_le a b ≡ false → b <ℤ a
 from_not_int_le a b h = grind (arith, ints)
+
+-- how days compare
+pub is_le-nat_cmp : (a b : ℕ) → is_le (nat_cmp a b) ≡ nat_le a b
+is_le-nat_cmp a b = grind arith

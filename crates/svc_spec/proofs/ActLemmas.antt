@@ -18,12 +18,12 @@ use Rattle.svc_types.specs.declared.account.What.{What}
 use Rattle.svc_types.specs.declared.account.What.TheVariants as what
 use Rattle.svc_types.specs.Terms.{IsSound}
 use Rattle.svc_spec.specs.Installments.{interest_part, fee_part, whole_part, principal_part, escrow_part, due_month}
-use Rattle.svc_spec.specs.Settling.{moves, moved_one, moved, late_taken, is_overdue, marked, settled}
+use Rattle.svc_spec.specs.Settling.{is_movable, moves, moved_one, moved, late_taken, is_overdue, marked, settled}
 use Rattle.svc_spec.specs.Payoff.{payoff_sum, payoff_principal, payoff_days, escrow_advanced}
 use Rattle.svc_spec.specs.Step.{paid_in, charged, curtailed, paid_off, payoff_tried, deposited, from_suspense, refunded, waived, analysed, acted, happened, step, brought, paid_out, brought_by, paid_out_by}
 use Rattle.svc_spec.specs.Books.{IsSum, IsPlan, HaveSigns, AreWithin, AreBooks, IsAct, IsWhat, total}
 use Rattle.svc_spec.proofs.InstallmentLemmas.{IsBalance, principal_part_bounds, escrow_part_bounds}
-use Rattle.svc_spec.proofs.SettlingLemmas.{is_movable, moves_more, moves_none, both, from_nat_eq, from_not_nat_eq}
+use Rattle.svc_spec.proofs.SettlingLemmas.{moves_more, moves_none, both, from_nat_eq, from_not_nat_eq}
 
 -- no balance rises, and no mark of a satisfied loan changes
 pub record Falls (b b' : Books) : Type 0 where
@@ -97,7 +97,7 @@ paid_off_signs t d b h covered =
     let part = day_interest_low b.upb t.fee (payoff_days t d b) in
     record { upb_low = omega (arith, ints); upb_high = omega (arith, ints); next_low = h.next_low; next_high = h.next_high; next_open = λ left. absurd (omega (arith, ints)); suspense = omega (arith, ints); late_owed = omega (arith, ints); interest = omega (arith, ints); fee = omega (arith, ints); principal = omega (arith, ints); curtailed = h.curtailed; late_paid = omega (arith, ints); plan = h.plan; earlier = h.earlier }
 
-owed_principal : (t : Terms) (d : ℕ) (b : Books) → int_lt (pos 0) b.upb ≡ true → payoff_principal t d b ≡ b.upb +ℤ day_interest b.upb t.rate (payoff_days t d b)
+pub owed_principal : (t : Terms) (d : ℕ) (b : Books) → int_lt (pos 0) b.upb ≡ true → payoff_principal t d b ≡ b.upb +ℤ day_interest b.upb t.rate (payoff_days t d b)
 unfolding payoff_principal
 owed_principal t d b owed = rw owed
 

@@ -3,3 +3,4 @@ pub mod SettlingLemmas
 pub mod StepLemmas
 pub mod ActLemmas
 pub mod WholeStep
+pub mod BooksLemmas

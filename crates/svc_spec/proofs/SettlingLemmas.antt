@@ -6,9 +6,10 @@ use Rattle.svc_base.proofs.CentsRules.{int_le-true, int_le-false, int_lt-true, f
 use Rattle.svc_types.specs.declared.terms.Terms.{Terms}
 use Rattle.svc_types.specs.declared.escrow.EscrowPlan.{EscrowPlan}
 use Rattle.svc_types.specs.declared.books.Books.{Books}
+use Rattle.svc_types.specs.declared.books.Installment.{Installment}
 use Rattle.svc_types.specs.Terms.{IsSound}
-use Rattle.svc_spec.specs.Installments.{whole_part, principal_part, due_month}
-use Rattle.svc_spec.specs.Settling.{greatest, need, they_exist, due_count, can_move, moves, moved_one, moved}
+use Rattle.svc_spec.specs.Installments.{whole_part, principal_part, due_month, installment}
+use Rattle.svc_spec.specs.Settling.{greatest, need, they_exist, due_count, can_move, is_movable, moves, moved_one, moved, paid_installment}
 use Rattle.svc_spec.specs.Books.{IsPlan, HaveSigns}
 use Rattle.svc_spec.proofs.InstallmentLemmas.{IsBalance, whole_part_low, balance_left}
 
@@ -61,10 +62,6 @@ le_shift a x s =
 can_shift : (t : Terms) (b : Books) (k : ℕ) → int_lt (pos 0) b.upb ≡ true → can_move t b (suc k) ≡ can_move t (moved_one t b) k
 unfolding they_exist need moved_one
 can_shift t b k owed = rw (owed, le_shift (whole_part t b.plan b.earlier b.upb b.next) (need t b.plan b.earlier (b.upb -ℤ principal_part t b.upb b.next) (suc b.next) k) b.suspense)
-
--- whether the open installment is due by a month, and suspense covers it
-abbrev pub is_movable : Terms → ℕ → Books → Bool
-is_movable t by b = nat_le (due_month t b.next) by && (int_lt (pos 0) b.upb && int_le (whole_part t b.plan b.earlier b.upb b.next) b.suspense)
 
 -- the parts of a test that holds
 pub both : (a b : Bool) → (a && b) ≡ true → (a ≡ true) × (b ≡ true)
@@ -120,3 +117,39 @@ moves_none t by b s h e =
             let none : due_count t by b.next ≡ 0 = omega arith in
             rw none
     ] refl
+
+-- ---- what the test of the open installment answers
+
+pub nat_le-true : (a b : ℕ) → a ≤ b → nat_le a b ≡ true
+nat_le-true a b h = grind arith
+
+pub nat_le-false : (a b : ℕ) → b < a → nat_le a b ≡ false
+nat_le-false a b h = grind arith
+
+and_true : (a b c : Bool) → a ≡ true → b ≡ true → c ≡ true → (a && (b && c)) ≡ true
+and_true a b c ha hb hc = rw (ha, hb, hc)
+
+third_false : (a b c : Bool) → c ≡ false → (a && (b && c)) ≡ false
+third_false true true c h = h
+third_false true false c h = refl
+third_false false b c h = refl
+
+pub is_movable-true : (t : Terms) (by : ℕ) (b : Books) → due_month t b.next ≤ by → pos 0 <ℤ b.upb → whole_part t b.plan b.earlier b.upb b.next ≤ℤ b.suspense → is_movable t by b ≡ true
+is_movable-true t by b due owed covered = and_true _ _ _ (nat_le-true (due_month t b.next) by due) (int_lt-true (pos 0) b.upb owed) (int_le-true (whole_part t b.plan b.earlier b.upb b.next) b.suspense covered)
+
+pub is_movable-short : (t : Terms) (by : ℕ) (b : Books) → b.suspense <ℤ whole_part t b.plan b.earlier b.upb b.next → is_movable t by b ≡ false
+is_movable-short t by b short = third_false (nat_le (due_month t b.next) by) (int_lt (pos 0) b.upb) (int_le (whole_part t b.plan b.earlier b.upb b.next) b.suspense) (int_le-false (whole_part t b.plan b.earlier b.upb b.next) b.suspense short)
+
+-- ---- the books that moving leaves
+
+pub moved-more : (t : Terms) (by : ℕ) (b : Books) → 1 ≤ b.next → is_movable t by b ≡ true → moved t (moves t by (moved_one t b)) (moved_one t b) ≡ moved t (moves t by b) b
+unfolding moved
+moved-more t by b low m = rw (moves_more t by b low m)
+
+pub moved-none : (t : Terms) (by : ℕ) (b : Books) → IsSound t → HaveSigns t b → is_movable t by b ≡ false → moved t (moves t by b) b ≡ b
+unfolding moved
+moved-none t by b s h m = rw (moves_none t by b s h m)
+
+pub moved_one-is : (t : Terms) (i : Installment) (b : Books) → i ≡ installment t b → paid_installment i b ≡ moved_one t b
+unfolding moved_one
+moved_one-is t i b e = ap (λ x. paid_installment x b) e

@@ -19,12 +19,12 @@ use Rattle.svc_types.specs.declared.account.What.{What}
 use Rattle.svc_types.specs.declared.account.What.TheVariants as what
 use Rattle.svc_types.specs.Terms.{IsSound}
 use Rattle.svc_spec.specs.Installments.{interest_part, fee_part, whole_part, principal_part, escrow_part, due_month}
-use Rattle.svc_spec.specs.Settling.{moves, moved_one, moved, late_taken, is_overdue, marked, settled}
+use Rattle.svc_spec.specs.Settling.{is_movable, moves, moved_one, moved, late_paid, late_taken, is_overdue, marked, settled}
 use Rattle.svc_spec.specs.Payoff.{payoff_sum, payoff_principal, payoff_days, escrow_advanced}
 use Rattle.svc_spec.specs.Step.{paid_in, charged, curtailed, paid_off, payoff_tried, deposited, from_suspense, refunded, waived, analysed, acted, happened, step, brought, paid_out, brought_by, paid_out_by}
 use Rattle.svc_spec.specs.Books.{IsSum, IsPlan, HaveSigns, AreWithin, AreBooks, IsAct, IsWhat, total}
 use Rattle.svc_spec.proofs.InstallmentLemmas.{IsBalance, principal_part_bounds, escrow_part_bounds}
-use Rattle.svc_spec.proofs.SettlingLemmas.{is_movable, moves_more, moves_none, both, from_nat_eq, from_not_nat_eq}
+use Rattle.svc_spec.proofs.SettlingLemmas.{moves_more, moves_none, both, from_nat_eq, from_not_nat_eq}
 
 -- ---- one installment
 
@@ -86,7 +86,7 @@ moved_keeps t by P s keep (suc n) b e h p =
 pub late_taken_signs : (t : Terms) (d : ℕ) (b : Books) → HaveSigns t b → HaveSigns t (late_taken t d b)
 unfolding late_taken
 late_taken_signs t d b h =
-    elim (is_overdue t d b) as (λ v. HaveSigns t (if v then b else record b { suspense = b.suspense -ℤ int_min b.suspense b.late_owed; late_owed = b.late_owed -ℤ int_min b.suspense b.late_owed; late_paid = b.late_paid +ℤ int_min b.suspense b.late_owed })) [
+    elim (is_overdue t d b) as (λ v. HaveSigns t (if v then b else late_paid b)) [
         true ↦ h
         | false ↦
             let suspense = h.suspense in
@@ -98,7 +98,7 @@ late_taken_signs t d b h =
 pub late_taken_total : (t : Terms) (d : ℕ) (b : Books) → total (late_taken t d b) ≡ total b
 unfolding late_taken
 late_taken_total t d b =
-    elim (is_overdue t d b) as (λ v. total (if v then b else record b { suspense = b.suspense -ℤ int_min b.suspense b.late_owed; late_owed = b.late_owed -ℤ int_min b.suspense b.late_owed; late_paid = b.late_paid +ℤ int_min b.suspense b.late_owed }) ≡ total b) [
+    elim (is_overdue t d b) as (λ v. total (if v then b else late_paid b) ≡ total b) [
         true ↦ refl
         | false ↦ omega (arith, ints)
     ]

@@ -18,12 +18,12 @@ use Rattle.svc_types.specs.declared.account.What.{What}
 use Rattle.svc_types.specs.declared.account.What.TheVariants as what
 use Rattle.svc_types.specs.Terms.{IsSound}
 use Rattle.svc_spec.specs.Installments.{interest_part, fee_part, whole_part, principal_part, escrow_part, due_month}
-use Rattle.svc_spec.specs.Settling.{moves, moved_one, moved, late_taken, is_overdue, marked, settled}
+use Rattle.svc_spec.specs.Settling.{is_movable, moves, moved_one, moved, late_paid, late_taken, is_overdue, marked, settled}
 use Rattle.svc_spec.specs.Payoff.{payoff_sum, payoff_principal, payoff_days, escrow_advanced}
 use Rattle.svc_spec.specs.Step.{paid_in, charged, curtailed, paid_off, payoff_tried, deposited, from_suspense, refunded, waived, analysed, acted, happened, step, brought, paid_out, brought_by, paid_out_by}
 use Rattle.svc_spec.specs.Books.{IsSum, IsPlan, HaveSigns, AreWithin, AreBooks, IsAct, IsWhat, total, boarding_plan, start}
 use Rattle.svc_spec.proofs.InstallmentLemmas.{IsBalance, principal_part_bounds, escrow_part_bounds}
-use Rattle.svc_spec.proofs.SettlingLemmas.{is_movable, moves_more, moves_none, both, from_nat_eq, from_not_nat_eq}
+use Rattle.svc_spec.proofs.SettlingLemmas.{moves_more, moves_none, both, from_nat_eq, from_not_nat_eq}
 
 use Rattle.svc_spec.proofs.StepLemmas.{CanPay, moved_one_signs, moved_one_total, moved_keeps, late_taken_signs, late_taken_total, marked_signs, marked_total}
 use Rattle.svc_spec.proofs.ActLemmas.{Falls, happened_signs, happened_total, happened_falls}
@@ -42,7 +42,7 @@ moved_one_falls t a b s h c f =
 late_taken_falls : (t : Terms) (d : ℕ) (a b : Books) → Falls a b → Falls a (late_taken t d b)
 unfolding late_taken
 late_taken_falls t d a b f =
-    elim (is_overdue t d b) as (λ v. Falls a (if v then b else record b { suspense = b.suspense -ℤ int_min b.suspense b.late_owed; late_owed = b.late_owed -ℤ int_min b.suspense b.late_owed; late_paid = b.late_paid +ℤ int_min b.suspense b.late_owed })) [
+    elim (is_overdue t d b) as (λ v. Falls a (if v then b else late_paid b)) [
         true ↦ f
         | false ↦ record { upb = f.upb; satisfied = f.satisfied }
     ]
@@ -130,3 +130,57 @@ start_books t s =
         satisfied = sym (int_le-false t.principal (pos 0) (omega (arith, ints)));
         within = record { escrow_low = omega (arith, ints); escrow_high = omega (arith, ints); suspense = omega (arith, ints); late_owed = omega (arith, ints); interest = omega (arith, ints); fee = omega (arith, ints); principal = omega (arith, ints); curtailed = omega (arith, ints); late_paid = omega (arith, ints) }
     }
+
+-- ---- the number of the open installment rises by the installments that are moved
+
+moved_next : (t : Terms) (n : ℕ) (b : Books) → (moved t n b).next ≡ b.next + n
+unfolding moved moved_one
+moved_next t zero b = omega arith
+moved_next t (suc n) b = omega (arith, moved_next t n (moved_one t b))
+
+late_taken_next : (t : Terms) (d : ℕ) (b : Books) → (late_taken t d b).next ≡ b.next
+unfolding late_taken
+late_taken_next t d b = elim (is_overdue t d b) as (λ v. (let x : Books = if v then b else late_paid b in x.next ≡ b.next)) [ true ↦ refl | false ↦ refl ]
+
+marked_next : (d : ℕ) (b : Books) → (marked d b).next ≡ b.next
+unfolding marked
+marked_next d b = elim (int_le b.upb (pos 0) && is_none b.satisfied) as (λ v. (let x : Books = if v then record b { satisfied = Some d } else b in x.next ≡ b.next)) [ true ↦ refl | false ↦ refl ]
+
+pub settled_next : (t : Terms) (d : ℕ) (b : Books) → (settled t d b).next ≡ b.next + moves t (month_of d + 1) b
+unfolding settled
+settled_next t d b =
+    let by = month_of d + 1 in
+    omega (arith, marked_next d (late_taken t d (moved t (moves t by b) b)), late_taken_next t d (moved t (moves t by b) b), moved_next t (moves t by b) b)
+
+charged_next : (t : Terms) (k : ℕ) (b : Books) → (charged t k b).next ≡ b.next
+unfolding charged
+charged_next t k b = elim (int_lt (pos 0) b.upb && nat_le b.next k) as (λ v. (let x : Books = if v then record b { late_owed = b.late_owed +ℤ share_bp t.pi t.late } else b in x.next ≡ b.next)) [ true ↦ refl | false ↦ refl ]
+
+payoff_tried_next : (t : Terms) (d : ℕ) (b : Books) → (payoff_tried t d b).next ≡ b.next
+unfolding payoff_tried paid_off
+payoff_tried_next t d b = elim (int_lt (pos 0) b.upb && int_le (payoff_sum t d b) b.suspense) as (λ v. (let x : Books = if v then paid_off t d b else b in x.next ≡ b.next)) [ true ↦ refl | false ↦ refl ]
+
+deposited_next : (c : ℤ) (b : Books) → (deposited c b).next ≡ b.next
+unfolding deposited
+deposited_next c b = elim (int_lt (pos 0) b.upb) as (λ v. (let x : Books = if v then record b { escrow = b.escrow +ℤ c } else record b { suspense = b.suspense +ℤ c } in x.next ≡ b.next)) [ true ↦ refl | false ↦ refl ]
+
+happened_next : (t : Terms) (d : ℕ) (w : What) (b : Books) → (happened t d w b).next ≡ b.next
+unfolding curtailed refunded analysed
+happened_next t d what.MonthMark b = refl
+happened_next t d (what.LateMark k) b = charged_next t k b
+happened_next t d (what.Act (Pay c)) b = refl
+happened_next t d (what.Act (Curtail c)) b = refl
+happened_next t d (what.Act (Payoff c)) b = payoff_tried_next t d (paid_in c b)
+happened_next t d (what.Act (Deposit c)) b = deposited_next c b
+happened_next t d (what.Act (Disburse c line)) b = refl
+happened_next t d (what.Act (Refund c)) b = refl
+happened_next t d (what.Act (Waive c)) b = refl
+happened_next t d (what.Act (Analyse s)) b = refl
+
+-- a step moves as many installments as settling finds behind the event
+pub step_next : (t : Terms) (e : Event) (b : Books) → (step t e b).next ≡ b.next + moves t (month_of e.day + 1) (marked e.day (happened t e.day e.what b))
+unfolding step
+step_next t e b = omega (arith, settled_next t e.day (marked e.day (happened t e.day e.what b)), marked_next e.day (happened t e.day e.what b), happened_next t e.day e.what b)
+
+pub happened_marked_signs : (t : Terms) (d : ℕ) (w : What) (b : Books) → IsWhat w → HaveSigns t b → HaveSigns t (marked d (happened t d w b))
+happened_marked_signs t d w b a h = marked_signs t d (happened t d w b) (happened_signs t d w b a h)

@@ -5,7 +5,8 @@ use Rattle.svc_base.specs.Calendar.{month_of}
 use Rattle.svc_types.specs.declared.terms.Terms.{Terms}
 use Rattle.svc_types.specs.declared.escrow.EscrowPlan.{EscrowPlan}
 use Rattle.svc_types.specs.declared.books.Books.{Books}
-use Rattle.svc_spec.specs.Installments.{due_month, due_day, interest_part, fee_part, principal_part, escrow_part, whole_part}
+use Rattle.svc_types.specs.declared.books.Installment.{Installment}
+use Rattle.svc_spec.specs.Installments.{due_month, due_day, interest_part, fee_part, principal_part, escrow_part, whole_part, installment}
 
 -- the greatest number up to n that passes the test, and 0 where none does
 abbrev pub greatest : (ℕ → Bool) → ℕ → ℕ
@@ -34,17 +35,25 @@ can_move t b j = they_exist t b.upb b.next j && int_le (need t b.plan b.earlier 
 unfoldable pub moves : Terms → ℕ → Books → ℕ
 moves t by b = greatest (can_move t b) (due_count t by b.next)
 
--- the books after the open installment is paid from suspense
-unfoldable pub moved_one : Terms → Books → Books
-moved_one t b = record b {
-  suspense = b.suspense -ℤ whole_part t b.plan b.earlier b.upb b.next;
-  interest = b.interest +ℤ interest_part t b.upb;
-  fee = b.fee +ℤ fee_part t b.upb;
-  principal = b.principal +ℤ principal_part t b.upb b.next;
-  escrow = b.escrow +ℤ escrow_part b.plan b.earlier (due_month t b.next);
-  upb = b.upb -ℤ principal_part t b.upb b.next;
-  next = suc b.next
+-- the books after an installment is paid from suspense
+abbrev pub paid_installment : Installment → Books → Books
+paid_installment i b = record b {
+  suspense = b.suspense -ℤ (i.interest +ℤ i.principal +ℤ i.escrow);
+  interest = b.interest +ℤ i.interest;
+  fee = b.fee +ℤ i.fee;
+  principal = b.principal +ℤ i.principal;
+  escrow = b.escrow +ℤ i.escrow;
+  upb = b.upb -ℤ i.principal;
+  next = suc i.k
 }
+
+-- the books after the open installment is paid
+unfoldable pub moved_one : Terms → Books → Books
+moved_one t b = paid_installment (installment t b) b
+
+-- whether the open installment is due by a month, and suspense covers it
+abbrev pub is_movable : Terms → ℕ → Books → Bool
+is_movable t by b = nat_le (due_month t b.next) by && (int_lt (pos 0) b.upb && int_le (whole_part t b.plan b.earlier b.upb b.next) b.suspense)
 
 -- the books after the next j installments are paid from suspense
 unfoldable pub moved : Terms → ℕ → Books → Books
@@ -55,15 +64,17 @@ moved t (suc j) b = moved t j (moved_one t b)
 abbrev pub is_overdue : Terms → ℕ → Books → Bool
 is_overdue t day b = int_lt (pos 0) b.upb && nat_le (due_day t b.next) day
 
+-- the books after late charges are paid, as far as suspense goes
+abbrev pub late_paid : Books → Books
+late_paid b = record b {
+  suspense = b.suspense -ℤ int_min b.suspense b.late_owed;
+  late_owed = b.late_owed -ℤ int_min b.suspense b.late_owed;
+  late_paid = b.late_paid +ℤ int_min b.suspense b.late_owed
+}
+
 -- late charges are paid only where no installment is overdue
 unfoldable pub late_taken : Terms → ℕ → Books → Books
-late_taken t day b =
-    if is_overdue t day b then b
-    else record b {
-      suspense = b.suspense -ℤ int_min b.suspense b.late_owed;
-      late_owed = b.late_owed -ℤ int_min b.suspense b.late_owed;
-      late_paid = b.late_paid +ℤ int_min b.suspense b.late_owed
-    }
+late_taken t day b = if is_overdue t day b then b else late_paid b
 
 -- a loan whose balance came to 0 is satisfied on that day
 unfoldable pub marked : ℕ → Books → Books

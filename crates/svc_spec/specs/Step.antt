@@ -3,6 +3,7 @@ use Rattle.std.specs.Prelude.{ℕ, ◌==◌, ◌&&◌, nat_le, ℤ, pos, ◌+ℤ
 use Rattle.std.specs.Int.{int_min, int_max}
 use Rattle.svc_base.specs.Money.{share_bp, day_interest}
 use Rattle.svc_types.specs.declared.terms.Terms.{Terms}
+use Rattle.svc_types.specs.declared.escrow.EscrowPlan.{EscrowPlan}
 use Rattle.svc_types.specs.declared.escrow.Settled.{Settled}
 use Rattle.svc_types.specs.declared.books.Books.{Books}
 use Rattle.svc_types.specs.declared.account.Act.{Act}
@@ -66,13 +67,17 @@ refunded c b = record b {
 abbrev pub waived : ℤ → Books → Books
 waived c b = record b { late_owed = b.late_owed -ℤ int_min b.late_owed c }
 
--- an analysis: its refund leaves escrow, and its plan follows the newest one, or replaces it where
--- both start in the same month
+-- the plan that a new one leaves as the earlier one: the newest, or, where both start in the same
+-- month, the one before it
+abbrev pub plan_before : EscrowPlan → Books → EscrowPlan
+plan_before newest b = if newest.start == b.plan.start then b.earlier else b.plan
+
+-- an analysis: its refund leaves escrow, and its plan is the newest
 unfoldable pub analysed : Settled → Books → Books
 analysed s b = record b {
   escrow = b.escrow -ℤ s.refund;
   plan = s.plan;
-  earlier = if s.plan.start == b.plan.start then b.earlier else b.plan
+  earlier = plan_before s.plan b
 }
 
 -- what an act does on a day

@@ -1,8 +1,8 @@
 -- Which terms a loan may have.
-use Rattle.std.specs.Prelude.{◌≡◌, ℕ, ◌+◌, ◌*◌, ◌<◌, ◌≤◌, ◌==◌, ◌||◌, ◌&&◌, ◌⊎◌, not, Bool, List, [], ◌∷◌, Option, ℤ, pos, ◌≤ℤ◌, ◌<ℤ◌, int_le, int_lt, nat_le}
+use Rattle.std.specs.Prelude.{◌+◌, ◌≤◌, ◌==◌, ◌||◌, ◌&&◌, not, Bool, List, [], ◌∷◌, Option, ℤ, pos, ◌≤ℤ◌, ◌<ℤ◌, int_le, int_lt, nat_le}
 use Rattle.std.specs.List.{find}
-use Rattle.svc_base.specs.Calendar.{month_of, IsDay}
-use Rattle.svc_base.specs.Money.{month_interest, IsAmount}
+use Rattle.svc_base.specs.Calendar.{month_of}
+use Rattle.svc_base.specs.Money.{month_interest}
 use Rattle.svc_types.specs.declared.terms.Terms.{Terms}
 use Rattle.svc_types.specs.declared.faults.TermFault.{TermFault}
 use Rattle.svc_types.specs.declared.faults.TermFault.TheVariants.{Principal, RateRange, FeeRange, Payment, Term, FirstDue, Grace, Late, Cushion, EscrowPay}

@@ -1,0 +1,149 @@
+-- The books behind an event leave room for settling.
+use Rattle.std.proofs.Common.{◌≡◌, ℕ, true, false, arith, refl}
+use Rattle.std.specs.Prelude.{ℤ, pos, ◌+ℤ◌, ◌-ℤ◌, ◌≤ℤ◌, ◌&&◌, int_lt, int_le, nat_le, is_none, Some, if◌then◌else◌}
+use Rattle.std.proofs.lemmas.Int.{ints, clamps}
+use Rattle.svc_base.specs.Money.{share_bp}
+use Rattle.svc_base.proofs.MoneyLemmas.{day_interest_low, day_interest_rises}
+use Rattle.svc_base.proofs.CentsRules.{from_int_le}
+use Rattle.svc_types.specs.declared.terms.Terms.{Terms}
+use Rattle.svc_types.specs.declared.escrow.Settled.{Settled}
+use Rattle.svc_types.specs.declared.books.Books.{Books}
+use Rattle.svc_types.specs.declared.account.Act.TheVariants.{Pay, Curtail, Payoff, Deposit, Disburse, Refund, Waive, Analyse}
+use Rattle.svc_types.specs.declared.account.What.{What}
+use Rattle.svc_types.specs.declared.account.What.TheVariants as what
+use Rattle.svc_types.specs.Terms.{IsSound}
+use Rattle.svc_spec.specs.Settling.{marked}
+use Rattle.svc_spec.specs.Payoff.{payoff_sum, payoff_days}
+use Rattle.svc_spec.specs.Step.{paid_in, charged, curtailed, paid_off, payoff_tried, deposited, refunded, waived, analysed, happened}
+use Rattle.svc_spec.specs.Books.{IsSum, HaveSigns, AreBooks, IsWhat}
+use Rattle.svc_spec.proofs.SettlingLemmas.{both}
+use Rattle.svc_spec.proofs.ActLemmas.{from_suspense_bounds, owed_principal, paid_in_signs}
+use Rattle.svc_apply.specs.Room.{HasRoom, HasParts, AreSums, AreNear}
+use Rattle.svc_spec.specs.Settling.{paid_installment}
+use Rattle.svc_types.specs.declared.books.Installment.{Installment}
+
+pub paid_installment_room : (i : Installment) (b : Books) → HasParts i b.upb → HasRoom b → HasRoom (paid_installment i b)
+paid_installment_room i b p h = record { upb_low = omega (arith, ints); suspense = omega (arith, ints); interest_low = omega (arith, ints); fee_low = omega (arith, ints); principal_low = omega (arith, ints); late_paid_low = omega (arith, ints); interest = omega (arith, ints); fee = omega (arith, ints); principal = omega (arith, ints); late_paid = omega (arith, ints); escrow = omega (arith, ints); escrow_low = omega (arith, ints) }
+
+-- the sums of books
+pub books_sums : (t : Terms) (b : Books) → IsSound t → AreBooks t b → AreSums b
+books_sums t b s h =
+    let high = h.signs.upb_high in
+    let most = s.principal_high in
+    record { upb_low = h.signs.upb_low; upb_high = omega (arith, ints); suspense = h.signs.suspense; late_owed = h.signs.late_owed; curtailed = h.signs.curtailed; within = h.within }
+
+-- what the signs and the limits say of a step's first part, over plain books
+books_room : (t : Terms) (b : Books) → AreBooks t b → HasRoom b
+books_room t b h =
+    let signs = h.signs in
+    let within = h.within in
+    record { upb_low = omega (arith, ints); suspense = omega (arith, ints); interest_low = omega (arith, ints); fee_low = omega (arith, ints); principal_low = omega (arith, ints); late_paid_low = omega (arith, ints); interest = omega (arith, ints); fee = omega (arith, ints); principal = omega (arith, ints); late_paid = omega (arith, ints); escrow = omega (arith, ints); escrow_low = omega (arith, ints) }
+
+paid_in_room : (t : Terms) (c : ℤ) (b : Books) → IsSum c → AreBooks t b → HasRoom (paid_in c b)
+paid_in_room t c b a h =
+    let signs = h.signs in
+    let within = h.within in
+    record { upb_low = omega (arith, ints); suspense = omega (arith, ints); interest_low = omega (arith, ints); fee_low = omega (arith, ints); principal_low = omega (arith, ints); late_paid_low = omega (arith, ints); interest = omega (arith, ints); fee = omega (arith, ints); principal = omega (arith, ints); late_paid = omega (arith, ints); escrow = omega (arith, ints); escrow_low = omega (arith, ints) }
+
+charged_room : (t : Terms) (k : ℕ) (b : Books) → AreBooks t b → HasRoom (charged t k b)
+unfolding charged
+charged_room t k b h =
+    elim (int_lt (pos 0) b.upb && nat_le b.next k) as (λ v. HasRoom (if v then record b { late_owed = b.late_owed +ℤ share_bp t.pi t.late } else b)) [
+      | true ↦ with_late (books_room t b h)
+      | false ↦ books_room t b h
+    ]
+  where
+    with_late : HasRoom b → HasRoom (record b { late_owed = b.late_owed +ℤ share_bp t.pi t.late })
+    with_late h = record { upb_low = h.upb_low; suspense = h.suspense; interest_low = h.interest_low; fee_low = h.fee_low; principal_low = h.principal_low; late_paid_low = h.late_paid_low; interest = h.interest; fee = h.fee; principal = h.principal; late_paid = h.late_paid; escrow = h.escrow; escrow_low = h.escrow_low }
+
+curtailed_room : (t : Terms) (c : ℤ) (b : Books) → IsSum c → AreBooks t b → HasRoom (curtailed c b)
+unfolding curtailed
+curtailed_room t c b a h =
+    let signs = h.signs in
+    let within = h.within in
+    record { upb_low = omega (arith, ints, clamps); suspense = omega (arith, ints, clamps); interest_low = omega (arith, ints, clamps); fee_low = omega (arith, ints, clamps); principal_low = omega (arith, ints, clamps); late_paid_low = omega (arith, ints, clamps); interest = omega (arith, ints, clamps); fee = omega (arith, ints, clamps); principal = omega (arith, ints, clamps); late_paid = omega (arith, ints, clamps); escrow = omega (arith, ints, clamps); escrow_low = omega (arith, ints, clamps) }
+
+paid_off_room : (t : Terms) (d : ℕ) (b : Books) → IsSound t → HaveSigns t b → AreNear b → int_lt (pos 0) b.upb ≡ true → payoff_sum t d b ≤ℤ b.suspense → HasRoom (paid_off t d b)
+unfolding paid_off payoff_sum
+paid_off_room t d b s h n owed covered =
+    let principal = owed_principal t d b owed in
+    let interest = day_interest_low b.upb t.rate (payoff_days t d b) in
+    let fee = day_interest_low b.upb t.fee (payoff_days t d b) in
+    let less = day_interest_rises b.upb t.fee t.rate (payoff_days t d b) s.fee in
+    record { upb_low = omega (arith, ints, clamps); suspense = omega (arith, ints, clamps); interest_low = omega (arith, ints, clamps); fee_low = omega (arith, ints, clamps); principal_low = omega (arith, ints, clamps); late_paid_low = omega (arith, ints, clamps); interest = omega (arith, ints, clamps); fee = omega (arith, ints, clamps); principal = omega (arith, ints, clamps); late_paid = omega (arith, ints, clamps); escrow = omega (arith, ints, clamps); escrow_low = omega (arith, ints, clamps) }
+
+near_room : (t : Terms) (b : Books) → HaveSigns t b → AreNear b → HasRoom b
+near_room t b h n = record { upb_low = omega (arith, ints); suspense = omega (arith, ints); interest_low = omega (arith, ints); fee_low = omega (arith, ints); principal_low = omega (arith, ints); late_paid_low = omega (arith, ints); interest = omega (arith, ints); fee = omega (arith, ints); principal = omega (arith, ints); late_paid = omega (arith, ints); escrow = omega (arith, ints); escrow_low = omega (arith, ints) }
+
+payoff_tried_room : (t : Terms) (d : ℕ) (b : Books) → IsSound t → HaveSigns t b → AreNear b → HasRoom (payoff_tried t d b)
+unfolding payoff_tried
+payoff_tried_room t d b s h n =
+    elim (int_lt (pos 0) b.upb && int_le (payoff_sum t d b) b.suspense) as (λ v. (int_lt (pos 0) b.upb && int_le (payoff_sum t d b) b.suspense) ≡ v → HasRoom (if v then paid_off t d b else b)) [
+      | true ↦ λ e. let parts = both (int_lt (pos 0) b.upb) (int_le (payoff_sum t d b) b.suspense) e in paid_off_room t d b s h n parts.0 (from_int_le (payoff_sum t d b) b.suspense parts.1)
+      | false ↦ λ e. near_room t b h n
+    ] refl
+
+paid_in_near : (t : Terms) (c : ℤ) (b : Books) → IsSum c → AreBooks t b → AreNear (paid_in c b)
+paid_in_near t c b a h =
+    let signs = h.signs in
+    let within = h.within in
+    record { escrow_low = within.escrow_low; escrow_high = within.escrow_high; suspense_low = omega (arith, ints); suspense_high = omega (arith, ints); late_owed = within.late_owed; interest = within.interest; fee = within.fee; principal = within.principal; late_paid = within.late_paid }
+
+deposited_room : (t : Terms) (c : ℤ) (b : Books) → IsSum c → AreBooks t b → HasRoom (deposited c b)
+unfolding deposited
+deposited_room t c b a h =
+    elim (int_lt (pos 0) b.upb) as (λ v. HasRoom (if v then record b { escrow = b.escrow +ℤ c } else record b { suspense = b.suspense +ℤ c })) [
+      | true ↦ let signs = h.signs in let within = h.within in record { upb_low = omega (arith, ints); suspense = omega (arith, ints); interest_low = omega (arith, ints); fee_low = omega (arith, ints); principal_low = omega (arith, ints); late_paid_low = omega (arith, ints); interest = omega (arith, ints); fee = omega (arith, ints); principal = omega (arith, ints); late_paid = omega (arith, ints); escrow = omega (arith, ints); escrow_low = omega (arith, ints) }
+      | false ↦ paid_in_room t c b a h
+    ]
+
+disbursed_room : (t : Terms) (c : ℤ) (b : Books) → IsSum c → AreBooks t b → HasRoom (record b { escrow = b.escrow -ℤ c })
+disbursed_room t c b a h =
+    let signs = h.signs in
+    let within = h.within in
+    record { upb_low = omega (arith, ints); suspense = omega (arith, ints); interest_low = omega (arith, ints); fee_low = omega (arith, ints); principal_low = omega (arith, ints); late_paid_low = omega (arith, ints); interest = omega (arith, ints); fee = omega (arith, ints); principal = omega (arith, ints); late_paid = omega (arith, ints); escrow = omega (arith, ints); escrow_low = omega (arith, ints) }
+
+refunded_room : (t : Terms) (c : ℤ) (b : Books) → IsSum c → AreBooks t b → HasRoom (refunded c b)
+unfolding refunded
+refunded_room t c b a h =
+    let signs = h.signs in
+    let within = h.within in
+    let taken = from_suspense_bounds c b a h.signs.suspense in
+    record { upb_low = omega (arith, ints); suspense = omega (arith, ints); interest_low = omega (arith, ints); fee_low = omega (arith, ints); principal_low = omega (arith, ints); late_paid_low = omega (arith, ints); interest = omega (arith, ints); fee = omega (arith, ints); principal = omega (arith, ints); late_paid = omega (arith, ints); escrow = omega (arith, ints); escrow_low = omega (arith, ints) }
+
+waived_room : (t : Terms) (c : ℤ) (b : Books) → AreBooks t b → HasRoom (waived c b)
+waived_room t c b h =
+    let signs = h.signs in
+    let within = h.within in
+    record { upb_low = omega (arith, ints); suspense = omega (arith, ints); interest_low = omega (arith, ints); fee_low = omega (arith, ints); principal_low = omega (arith, ints); late_paid_low = omega (arith, ints); interest = omega (arith, ints); fee = omega (arith, ints); principal = omega (arith, ints); late_paid = omega (arith, ints); escrow = omega (arith, ints); escrow_low = omega (arith, ints) }
+
+analysed_room : (t : Terms) (s : Settled) (b : Books) → IsSum s.refund → AreBooks t b → HasRoom (analysed s b)
+unfolding analysed
+analysed_room t s b a h =
+    let signs = h.signs in
+    let within = h.within in
+    record { upb_low = omega (arith, ints); suspense = omega (arith, ints); interest_low = omega (arith, ints); fee_low = omega (arith, ints); principal_low = omega (arith, ints); late_paid_low = omega (arith, ints); interest = omega (arith, ints); fee = omega (arith, ints); principal = omega (arith, ints); late_paid = omega (arith, ints); escrow = omega (arith, ints); escrow_low = omega (arith, ints) }
+
+happened_room : (t : Terms) (d : ℕ) (w : What) (b : Books) → IsSound t → IsWhat w → AreBooks t b → HasRoom (happened t d w b)
+happened_room t d what.MonthMark b s a h = books_room t b h
+happened_room t d (what.LateMark k) b s a h = charged_room t k b h
+happened_room t d (what.Act (Pay c)) b s a h = paid_in_room t c b a h
+happened_room t d (what.Act (Curtail c)) b s a h = curtailed_room t c b a h
+happened_room t d (what.Act (Payoff c)) b s a h = payoff_tried_room t d (paid_in c b) s (paid_in_signs t c b a h.signs) (paid_in_near t c b a h)
+happened_room t d (what.Act (Deposit c)) b s a h = deposited_room t c b a h
+happened_room t d (what.Act (Disburse c line)) b s a h = disbursed_room t c b a h
+happened_room t d (what.Act (Refund c)) b s a h = refunded_room t c b a h
+happened_room t d (what.Act (Waive c)) b s a h = waived_room t c b h
+happened_room t d (what.Act (Analyse x)) b s a h = analysed_room t x b a.0 h
+
+-- and so does the mark of a satisfied loan
+marked_room : (d : ℕ) (b : Books) → HasRoom b → HasRoom (marked d b)
+unfolding marked
+marked_room d b h =
+    elim (int_le b.upb (pos 0) && is_none b.satisfied) as (λ v. HasRoom (if v then record b { satisfied = Some d } else b)) [
+      | true ↦ record { upb_low = h.upb_low; suspense = h.suspense; interest_low = h.interest_low; fee_low = h.fee_low; principal_low = h.principal_low; late_paid_low = h.late_paid_low; interest = h.interest; fee = h.fee; principal = h.principal; late_paid = h.late_paid; escrow = h.escrow; escrow_low = h.escrow_low }
+      | false ↦ h
+    ]
+
+pub event_room : (t : Terms) (d : ℕ) (w : What) (b : Books) → IsSound t → IsWhat w → AreBooks t b → HasRoom (marked d (happened t d w b))
+event_room t d w b s a h = marked_room d (happened t d w b) (happened_room t d w b s a h)

@@ -1,0 +1,137 @@
+//! Settling: what suspense pays by itself, after every event.
+
+ghost use Rattle.std.specs.Prelude.{◌≡◌, ◌+◌, ◌≤◌, pos, ◌≤ℤ◌, ◌+ℤ◌, is_some, IfSome};
+ghost use Rattle.svc_base.specs.Calendar.{IsReadDay, month_of};
+ghost use Rattle.svc_types.specs.Terms.{IsSound};
+ghost use Rattle.svc_spec.specs.Books.{HaveSigns};
+ghost use Rattle.svc_spec.specs.Installments as installments;
+ghost use Rattle.svc_spec.specs.Settling as rule;
+ghost use Rattle.svc_apply.specs.Room.{HasRoom, HasParts};
+
+use crate::installment::{due_month, installment};
+use std::sync::ledger::Ledger;
+use svc_base::{Cents, Day, Steps, first_day};
+use svc_types::{Books, Installment, Terms};
+
+/// Pays installments due by the first day of the month after the day's month, then late charges
+/// where none is overdue, and marks a loan whose balance came to 0.
+pub(crate) fn settle<L: Ledger>(books: &mut Books, terms: &Terms, day: Day, steps: &mut Steps<L>)
+    requires terms { IsSound terms.now }
+    requires boarded { IsReadDay terms.now.boarded }
+    requires signs { HaveSigns terms.now books.old }
+    requires room { HasRoom books.old }
+    ensures books { books.new ≡ rule.settled terms.now day books.old }
+    ensures steps { steps.new ≡ steps.old + rule.moves terms.now (month_of day + 1) books.old }
+{
+    pay_installments(books, terms, day.in_month().number() + 1, steps);
+    take_late(books, terms, day);
+    mark_satisfied(books, day);
+}
+
+/// Pays the open installments that are due by a month, as far as suspense covers them.
+fn pay_installments<L: Ledger>(books: &mut Books, terms: &Terms, by: u32, steps: &mut Steps<L>)
+    requires terms { IsSound terms.now }
+    requires boarded { IsReadDay terms.now.boarded }
+    requires signs { HaveSigns terms.now books.old }
+    requires room { HasRoom books.old }
+    ensures books { books.new ≡ rule.moved terms.now (rule.moves terms.now by books.old) books.old }
+    ensures steps { steps.new ≡ steps.old + rule.moves terms.now by books.old }
+    ensures signs { HaveSigns terms.now books.new }
+    ensures room { HasRoom books.new }
+{
+    while let Some(open) = movable(books, terms, by) {
+        pay_installment(books, &open);
+        steps.tick();
+    }
+}
+
+/// The open installment, where it is due by a month and suspense covers it.
+fn movable(books: &Books, terms: &Terms, by: u32) -> Option<Installment>
+    requires terms { IsSound terms.now }
+    requires boarded { IsReadDay terms.now.boarded }
+    requires signs { HaveSigns terms.now books.now }
+    ensures movable { is_some result ≡ rule.is_movable terms.now by books.now }
+    ensures value { IfSome result (λ found. found ≡ installments.installment terms.now books.now) }
+    ensures parts { IfSome result (λ found. HasParts found books.now.upb) }
+    ensures covered { IfSome result (λ found. (found.interest +ℤ found.principal +ℤ found.escrow) ≤ℤ books.now.suspense) }
+{
+    if due_month(terms, books.next).number() > by || books.upb <= 0 {
+        return None;
+    }
+    let open = installment(books, terms);
+    if sum_of(&open, books.upb) > books.suspense {
+        return None;
+    }
+    Some(open)
+}
+
+/// All that an installment on a balance asks, in cents.
+fn sum_of(open: &Installment, upb: Cents) -> Cents
+    requires { HasParts open.now upb }
+    ensures { result ≡ open.now.interest +ℤ open.now.principal +ℤ open.now.escrow }
+{
+    prove!(open.principal <= upb);
+    open.interest + open.principal + open.escrow
+}
+
+/// Moves the parts of an installment out of suspense.
+fn pay_installment(books: &mut Books, open: &Installment)
+    requires room { HasRoom books.old }
+    requires covered { (open.now.interest +ℤ open.now.principal +ℤ open.now.escrow) ≤ℤ books.old.suspense }
+    requires parts { HasParts open.now books.old.upb }
+    requires next { open.now.k ≤ 480 }
+    ensures { books.new ≡ rule.paid_installment open.now books.old }
+{
+    books.suspense -= sum_of(open, books.upb);
+    books.interest += open.interest;
+    books.fee += open.fee;
+    books.principal += open.principal;
+    books.escrow += open.escrow;
+    books.upb -= open.principal;
+    books.next = open.k + 1;
+}
+
+/// Pays late charges, where no installment is overdue.
+fn take_late(books: &mut Books, terms: &Terms, day: Day)
+    requires terms { IsSound terms.now }
+    requires boarded { IsReadDay terms.now.boarded }
+    requires signs { HaveSigns terms.now books.old }
+    requires room { HasRoom books.old }
+    ensures { books.new ≡ rule.late_taken terms.now day books.old }
+{
+    if is_overdue(books, terms, day) {
+        return;
+    }
+    pay_late(books);
+}
+
+fn is_overdue(books: &Books, terms: &Terms, day: Day) -> bool
+    requires terms { IsSound terms.now }
+    requires boarded { IsReadDay terms.now.boarded }
+    requires signs { HaveSigns terms.now books.now }
+    ensures { result ≡ rule.is_overdue terms.now day books.now }
+{
+    books.upb > 0 && first_day(due_month(terms, books.next)) <= day
+}
+
+fn pay_late(books: &mut Books)
+    requires suspense { pos 0 ≤ℤ books.old.suspense }
+    requires late_owed { pos 0 ≤ℤ books.old.late_owed }
+    requires room { HasRoom books.old }
+    ensures { books.new ≡ rule.late_paid books.old }
+{
+    let paid = books.suspense.min(books.late_owed);
+    books.suspense -= paid;
+    books.late_owed -= paid;
+    books.late_paid += paid;
+}
+
+/// Marks a loan whose balance came to 0 as satisfied on a day.
+#[tactic(auto, using(svc_base::proofs::CentsRules::cents), unfolding(svc_spec::specs::Settling::marked))]
+pub(crate) fn mark_satisfied(books: &mut Books, day: Day)
+    ensures { books.new ≡ rule.marked day books.old }
+{
+    if books.upb <= 0 && books.satisfied.is_none() {
+        books.satisfied = Some(day);
+    }
+}
