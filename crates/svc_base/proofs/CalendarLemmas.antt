@@ -1,7 +1,7 @@
 -- How `day_after` goes through months.
-use Rattle.std.proofs.Common.{◌≡◌, ℕ, zero, suc, ◌+◌, ◌-◌, ◌/◌, ◌<◌, ◌≤◌, true, false, nat_lt, arith, refl, ap, ◌∙◌}
+use Rattle.std.proofs.Common.{◌≡◌, ℕ, zero, suc, ◌+◌, ◌*◌, ◌-◌, ◌/◌, ◌<◌, ◌≤◌, true, false, nat_lt, arith, refl, ap, ◌∙◌}
 use Rattle.svc_base.specs.Calendar.{month_length, day_in_month, month_of, first_day, next_day, day_after, IsDay}
-use Rattle.svc_base.specs.DayLemmas.{month_length_most}
+use Rattle.svc_base.specs.DayLemmas.{month_length_most, month_length_least}
 
 next_within : (d : ℕ) → day_in_month d < month_length (month_of d) → next_day d ≡ d + 1
 next_within d h = grind arith
@@ -60,3 +60,12 @@ pub day_after_least : (d n : ℕ) → d + n ≤ day_after d n
 unfolding day_after
 day_after_least d zero = omega arith
 day_after_least d (suc n) = omega (arith, next_day_later d, day_after_least (next_day d) n)
+
+next_day_most : (d : ℕ) → next_day d ≤ d + 4
+next_day_most d = grind (arith, month_length_least)
+
+-- n days later is at most four numbers on for each
+pub day_after_most : (d n : ℕ) → day_after d n ≤ d + 4 * n
+unfolding day_after
+day_after_most d zero = omega arith
+day_after_most d (suc n) = omega (arith, next_day_most d, day_after_most (next_day d) n)
