@@ -1,8 +1,8 @@
 -- Which terms a loan may have.
-use Rattle.std.specs.Prelude.{◌≡◌, ℕ, ◌+◌, ◌*◌, ◌<◌, ◌≤◌, ◌==◌, ◌||◌, ◌&&◌, ◌⊎◌, not, Bool, List, [], ◌∷◌, Option, ℤ, pos, ◌≤ℤ◌, ◌<ℤ◌, int_le, int_lt, nat_le}
+use Rattle.std.specs.Prelude.{◌+◌, ◌≤◌, ◌==◌, ◌||◌, ◌&&◌, not, Bool, List, [], ◌∷◌, Option, ℤ, pos, ◌≤ℤ◌, ◌<ℤ◌, int_le, int_lt, nat_le}
 use Rattle.std.specs.List.{find}
-use Rattle.svc_base.specs.Calendar.{month_of, IsDay}
-use Rattle.svc_base.specs.Money.{month_interest, IsAmount}
+use Rattle.svc_base.specs.Calendar.{month_of}
+use Rattle.svc_base.specs.Money.{month_interest}
 use Rattle.svc_types.specs.declared.terms.Terms.{Terms}
 use Rattle.svc_types.specs.declared.faults.TermFault.{TermFault}
 use Rattle.svc_types.specs.declared.faults.TermFault.TheVariants.{Principal, RateRange, FeeRange, Payment, Term, FirstDue, Grace, Late, Cushion, EscrowPay}
@@ -28,9 +28,13 @@ is_in_range t EscrowPay = is_between (pos 0) (pos 10_000_000_000) t.escrow
 abbrev pub term_faults : List TermFault
 term_faults = Principal ∷ RateRange ∷ FeeRange ∷ Payment ∷ Term ∷ FirstDue ∷ Grace ∷ Late ∷ Cushion ∷ EscrowPay ∷ []
 
--- the first fault whose range the terms miss, if they miss one
+-- the first of some faults whose range the terms miss, if they miss one
+abbrev pub first_missed : Terms → List TermFault → Option TermFault
+first_missed t faults = find (λ f. not (is_in_range t f)) faults
+
+-- the first fault whose range the terms miss
 abbrev pub term_fault : Terms → Option TermFault
-term_fault t = find (λ f. not (is_in_range t f)) term_faults
+term_fault t = first_missed t term_faults
 
 -- the terms are in every range
 pub record IsSound (t : Terms) : Type 0 where
