@@ -61,15 +61,11 @@ unfolding day_after
 day_after_least d zero = omega arith
 day_after_least d (suc n) = omega (arith, next_day_later d, day_after_least (next_day d) n)
 
-next_day_near : (d : ℕ) → next_day d ≤ d + 4
-next_day_near d =
-    elim (nat_lt (day_in_month d) (month_length (month_of d))) as (λ b. nat_lt (day_in_month d) (month_length (month_of d)) ≡ b → next_day d ≤ d + 4) [
-      | true ↦ λ e. rw e (omega arith)
-      | false ↦ λ e. let past : month_length (month_of d) ≤ day_in_month d = grind arith in rw e (omega (arith, month_length_least (month_of d)))
-    ] refl
+next_day_most : (d : ℕ) → next_day d ≤ d + 4
+next_day_most d = grind (arith, month_length_least)
 
--- and at most four numbers on for each day
+-- n days later is at most four numbers on for each
 pub day_after_most : (d n : ℕ) → day_after d n ≤ d + 4 * n
 unfolding day_after
 day_after_most d zero = omega arith
-day_after_most d (suc n) = omega (arith, next_day_near d, day_after_most (next_day d) n)
+day_after_most d (suc n) = omega (arith, next_day_most d, day_after_most (next_day d) n)

@@ -1,3 +1,4 @@
 pub mod CalendarLemmas
 pub mod MoneyLemmas
 pub mod CentsRules
+pub mod TextLemmas

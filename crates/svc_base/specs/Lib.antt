@@ -2,3 +2,4 @@ pub mod Calendar
 pub mod Money
 pub mod DayFields
 pub mod DayLemmas
+pub mod Text

@@ -1,1 +1,4 @@
 pub mod Terms
+pub mod Words
+pub mod Keys
+pub mod KeyLemmas

@@ -28,9 +28,13 @@ is_in_range t EscrowPay = is_between (pos 0) (pos 10_000_000_000) t.escrow
 abbrev pub term_faults : List TermFault
 term_faults = Principal ∷ RateRange ∷ FeeRange ∷ Payment ∷ Term ∷ FirstDue ∷ Grace ∷ Late ∷ Cushion ∷ EscrowPay ∷ []
 
--- the first fault whose range the terms miss, if they miss one
+-- the first of some faults whose range the terms miss, if they miss one
+abbrev pub first_missed : Terms → List TermFault → Option TermFault
+first_missed t faults = find (λ f. not (is_in_range t f)) faults
+
+-- the first fault whose range the terms miss
 abbrev pub term_fault : Terms → Option TermFault
-term_fault t = find (λ f. not (is_in_range t f)) term_faults
+term_fault t = first_missed t term_faults
 
 -- the terms are in every range
 pub record IsSound (t : Terms) : Type 0 where

@@ -5,10 +5,17 @@ mod account;
 mod books;
 mod escrow;
 mod faults;
+mod key;
 mod terms;
+mod words;
 
 pub use account::{Act, Entry, Event, What};
 pub use books::{Books, Installment, MonthFacts};
 pub use escrow::{EscrowPlan, Figures, LineKind, PartPlan, Plan, PlanPart, Settled, SurplusPlan};
 pub use faults::{LineWhy, PlanFault, TermFault};
+pub use key::{Key, read_key};
 pub use terms::{RemitType, Terms};
+pub use words::{read_kind, read_part, read_surplus, read_type};
+
+#[cfg(test)]
+mod tests;

@@ -1,6 +1,11 @@
 //! The terms of a loan.
 
-use svc_base::{Cents, Day, Month, Rate};
+ghost use Rattle.std.specs.Prelude.{◌≡◌, ◌∷◌, [], IfErr, OnOk};
+ghost use Rattle.svc_types.specs.Terms.{term_fault, first_missed, IsSound};
+ghost use Rattle.svc_types.specs.declared.faults.TermFault.TheVariants.{Principal, RateRange, FeeRange, Payment, Term, FirstDue, Grace, Late, Cushion, EscrowPay};
+
+use crate::faults::TermFault;
+use svc_base::{Cents, Day, Month, Rate, month_interest};
 
 /// How a loan's principal and interest are remitted to its investor: actual or scheduled interest,
 /// and actual or scheduled principal (Fannie Mae Servicing Guide, remittance types).
@@ -41,4 +46,80 @@ pub struct Terms {
     pub escrow: Cents,
     /// How the loan is remitted.
     pub kind: RemitType,
+}
+
+impl Terms {
+    /// Tests each range in order, and names the first that the terms miss.
+    pub fn check(&self) -> Result<(), TermFault>
+        ensures fault { IfErr result (λ fault. term_fault self.now ≡ Some fault) }
+        ensures ok { OnOk result (term_fault self.now ≡ None) }
+        ensures sound { OnOk result (IsSound self.now) }
+    {
+        self.check_interest()?;
+        self.check_others()
+    }
+
+    /// The schedule, and what is asked beside it.
+    fn check_others(&self) -> Result<(), TermFault>
+        ensures fault { IfErr result (λ fault. first_missed self.now (Term ∷ FirstDue ∷ Grace ∷ Late ∷ Cushion ∷ EscrowPay ∷ []) ≡ Some fault) }
+        ensures ok { OnOk result (first_missed self.now (Term ∷ FirstDue ∷ Grace ∷ Late ∷ Cushion ∷ EscrowPay ∷ []) ≡ None) }
+    {
+        self.check_schedule()?;
+        self.check_charges()
+    }
+
+    /// Principal, rates and payment.
+    fn check_interest(&self) -> Result<(), TermFault>
+        ensures fault { IfErr result (λ fault. first_missed self.now (Principal ∷ RateRange ∷ FeeRange ∷ Payment ∷ []) ≡ Some fault) }
+        ensures ok { OnOk result (first_missed self.now (Principal ∷ RateRange ∷ FeeRange ∷ Payment ∷ []) ≡ None) }
+    {
+        if self.principal < 1 || self.principal > 10_000_000_000 {
+            return Err(TermFault::Principal);
+        }
+        if self.rate < 1 || self.rate > 25_000 {
+            return Err(TermFault::RateRange);
+        }
+        if self.fee > self.rate {
+            return Err(TermFault::FeeRange);
+        }
+        if self.pi <= month_interest(self.principal, self.rate) || self.pi > 10_000_000_000 {
+            return Err(TermFault::Payment);
+        }
+        Ok(())
+    }
+
+    /// Installments, their first due date and the days of grace.
+    fn check_schedule(&self) -> Result<(), TermFault>
+        ensures fault { IfErr result (λ fault. first_missed self.now (Term ∷ FirstDue ∷ Grace ∷ []) ≡ Some fault) }
+        ensures ok { OnOk result (first_missed self.now (Term ∷ FirstDue ∷ Grace ∷ []) ≡ None) }
+    {
+        if self.term < 1 || self.term > 480 {
+            return Err(TermFault::Term);
+        }
+        let boarded = self.boarded.in_month().number();
+        if self.first.number() != boarded + 1 && self.first.number() != boarded + 2 {
+            return Err(TermFault::FirstDue);
+        }
+        if self.grace > 28 {
+            return Err(TermFault::Grace);
+        }
+        Ok(())
+    }
+
+    /// Late charge, cushion and escrow payment.
+    fn check_charges(&self) -> Result<(), TermFault>
+        ensures fault { IfErr result (λ fault. first_missed self.now (Late ∷ Cushion ∷ EscrowPay ∷ []) ≡ Some fault) }
+        ensures ok { OnOk result (first_missed self.now (Late ∷ Cushion ∷ EscrowPay ∷ []) ≡ None) }
+    {
+        if self.late > 1_000 {
+            return Err(TermFault::Late);
+        }
+        if self.cushion > 2 {
+            return Err(TermFault::Cushion);
+        }
+        if self.escrow < 0 || self.escrow > 10_000_000_000 {
+            return Err(TermFault::EscrowPay);
+        }
+        Ok(())
+    }
 }

@@ -1,0 +1,7 @@
+use Rattle.svc_base.proofs.TextLemmas.{other_month}
+use Rattle.svc_base.proofs.reading.read_month.Goals as goal
+
+pub returns-then-not-is_read_year-clause-none : goal.returns-then-not-is_read_year-clause-none
+returns-then-not-is_read_year-clause-none c =
+    let civil = c.in-Some.ensures.read in
+    other_month c.args.text.now c.in-Some.month civil.0 civil.1 c.if-not-is_read_year.ensures.outside
