@@ -1,0 +1,23 @@
+use Rattle.std.proofs.Common.{◌≡◌, ◌+◌, ◌-◌, ◌*◌, ◌<◌, ◌≤◌, pos, neg_ℤ, ◌≤ℤ◌, ◌++◌, length, get_or, take, vec_len, vec_capacity}
+use Rattle.std.specs.List.{filter_map}
+use Rattle.std.specs.List.Sorted.{IsNonDecreasingBy}
+use Rattle.custodial_book.specs.declared.part.Account.TheVariants.{T, P}
+use Rattle.custodial_book.specs.declared.row.Row.{Row}
+use Rattle.custodial_book.specs.Parts.{parts}
+use Rattle.custodial_book.specs.Rows.{balance_of, row_of}
+use Rattle.custodial_book.proofs.book.add_changes.Given as goal
+
+abbrev pub invariant-loop-part : goal.invariant-loop-part
+invariant-loop-part l = record {
+  items : l.entries.items ≡ l.fn.entries.items ++ filter_map (row_of l.number l.loan l.before l.after) (take l.part-index parts);
+  room : vec_len l.entries + 11 ≤ vec_capacity l.entries + l.part-index;
+  capacity : vec_capacity l.entries ≡ vec_capacity l.fn.entries;
+  rising : IsNonDecreasingBy (λ (row : Row). row.number) l.entries.items;
+  last : (d : Row) → 0 < length l.entries.items → (get_or l.entries.items (length l.entries.items - 1) d).number ≤ l.number;
+  t_is : l.t ≡ balance_of T l.entries.items;
+  p_is : l.p ≡ balance_of P l.entries.items;
+  t_low : neg_ℤ (pos (1_000_000_000_000_000_000 + 200_000_000_000_000_000 * l.part-index)) ≤ℤ l.t;
+  t_high : l.t ≤ℤ pos (1_000_000_000_000_000_000 + 200_000_000_000_000_000 * l.part-index);
+  p_low : neg_ℤ (pos (1_000_000_000_000_000_000 + 200_000_000_000_000_000 * l.part-index)) ≤ℤ l.p;
+  p_high : l.p ≤ℤ pos (1_000_000_000_000_000_000 + 200_000_000_000_000_000 * l.part-index);
+}

@@ -1,0 +1,261 @@
+//! The book of custodial rows.
+
+ghost use Rattle.std.specs.Prelude.{◌≡◌, ◌+◌, ◌<◌, ◌≤◌, ◌+ℤ◌, ◌-ℤ◌, pos, neg_ℤ, map, [], ◌∷◌, ◌++◌, length, vec_len, vec_capacity, OnOk, OnErr, IsOk, IfSome};
+ghost use Rattle.std.specs.List.Sorted.{IsNonDecreasingBy};
+ghost use Rattle.custodial_book.specs.Rows.{balance_of, row_of, rows_of, rows_of_command, AreTotals, IsBalance, IsChange, IsRunning, ComesNext, cents_by_part};
+ghost use Rattle.custodial_book.specs.Rows as rule;
+ghost use Rattle.custodial_book.specs.Kept.{IsBook};
+ghost use Rattle.custodial_book.specs.WorkedTotals.{no_totals, paid, remitted_once, remitted_ahead, paid_off, payoff_remitted, payoff_reversed, deposited, disbursed_beyond, advance_recovered, another_deposited};
+
+use crate::part::{Account, Part};
+use crate::row::{Row, Totals};
+use std::alloc::Global;
+use std::marker::Model;
+use svc_base::{Cents, OutOfMemory};
+
+/// The rows of all commands in their order, and the balances that they leave. Its value in
+/// contracts is the list of the rows, and for how many more there is room.
+#[derive(Drop)]
+pub struct Book {
+    entries: Vec<Row>,
+    t: Cents,
+    p: Cents,
+}
+
+impl Model for Book {
+    ghost use Rattle.std.specs.Prelude.{◌-◌, vec_len, vec_capacity};
+    ghost use Rattle.custodial_book.specs.Kept.{Kept, IsBook};
+
+    ghost Value = { Kept };
+
+    ghost view = { λ b. record { rows = b.entries.items; spare = vec_capacity b.entries - vec_len b.entries } };
+
+    ghost invariant = { λ b. IsBook b.entries.items b.t b.p };
+}
+
+impl Book {
+    /// A book without rows.
+    pub fn new(alloc: Global) -> Book
+        ensures { result.rows ≡ [] }
+    {
+        Book {
+            entries: Vec::new(alloc),
+            t: 0,
+            p: 0,
+        }
+    }
+
+    /// Makes room for so many rows; fails for want of memory alone.
+    pub fn reserve(&mut self, rows: u32) -> Result<(), OutOfMemory>
+        ensures kept { self.new.rows ≡ self.old.rows }
+        ensures ok { OnOk result (rows ≤ self.new.spare) }
+        ensures never_less { self.old.spare ≤ self.new.spare }
+        ensures succeeds { rows ≤ self.old.spare → IsOk result }
+    {
+        self.entries.reserve(rows as usize)?;
+        Ok(())
+    }
+
+    /// Adds the rows of a command for a loan: what each of its totals changed by, in the order of
+    /// the parts. Fails for want of memory alone.
+    pub fn append(
+        &mut self,
+        number: u32,
+        loan: u32,
+        before: &Totals,
+        after: &Totals,
+    ) -> Result<(), OutOfMemory>
+        requires next { ComesNext number loan self.old.rows }
+        requires before { AreTotals before.now }
+        requires after { AreTotals after.now }
+        requires t { IsBalance (balance_of Account.T (self.old.rows ++ rows_of number loan before.now after.now)) }
+        requires p { IsBalance (balance_of Account.P (self.old.rows ++ rows_of number loan before.now after.now)) }
+        ensures ok { OnOk result (self.new.rows ≡ self.old.rows ++ rows_of number loan before.now after.now) }
+        ensures err { OnErr result (self.new.rows ≡ self.old.rows) }
+        ensures succeeds { 11 ≤ self.old.spare → IsOk result }
+        ensures spare { self.old.spare + length self.old.rows ≤ self.new.spare + length self.new.rows }
+    {
+        self.entries.reserve(Part::ALL.len())?;
+        add_changes(
+            &mut self.entries,
+            &mut self.t,
+            &mut self.p,
+            number,
+            loan,
+            before,
+            after,
+        );
+        Ok(())
+    }
+
+    /// The rows of the command with that number.
+    pub fn rows(&self, number: u32) -> &[Row]
+        ensures { result.now ≡ rows_of_command number self.now.rows }
+    {
+        let first = self.entries.partition_point(|row| row.number < number);
+        let onward = &self.entries[first..];
+        &onward[..onward.partition_point(|row| row.number <= number)]
+    }
+
+    /// What the account holds, in cents.
+    pub fn balance(&self, account: Account) -> Cents
+        ensures value { result ≡ balance_of account self.now.rows }
+        ensures bound { IsBalance result }
+    {
+        match account {
+            Account::T => self.t,
+            Account::P => self.p,
+        }
+    }
+}
+
+/// Rows and balances worked out by hand, by the definitions alone. It does nothing.
+#[tactic(auto, unfolding(crate::specs::Rows::row_of, crate::specs::Rows::balance_of))]
+pub fn worked_rows()
+    ensures first_payment { map cents_by_part (rows_of 3 1 no_totals paid) ≡ (Part.Received, pos 119910) ∷ (Part.Collected, pos 119910) ∷ (Part.Fee, pos 4167) ∷ [] }
+    ensures remitted_ahead { map cents_by_part (rows_of 12 1 remitted_once remitted_ahead) ≡ (Part.PiAdvance, pos 115747) ∷ (Part.Remitted, pos 115747) ∷ [] }
+    ensures held_between { balance_of Account.P (rows_of 3 1 no_totals paid) ≡ pos 115743 }
+    ensures held_at_last { balance_of Account.P (rows_of 3 1 no_totals paid ++ rows_of 11 1 paid remitted_once ++ rows_of 12 1 remitted_once remitted_ahead) ≡ pos 0 }
+
+    ensures payoff_remitted { map cents_by_part (rows_of 12 1 paid_off payoff_remitted) ≡ (Part.Remitted, pos 20095833) ∷ (Part.Residual, pos 47869) ∷ [] }
+    ensures payoff_reversed { map cents_by_part (rows_of 13 1 payoff_remitted payoff_reversed) ≡ (Part.Returned, pos 20030040) ∷ (Part.Collected, neg_ℤ (pos 20030040)) ∷ (Part.Fee, neg_ℤ (pos 2081)) ∷ (Part.PiAdvance, pos 19980090) ∷ (Part.Residual, neg_ℤ (pos 47869)) ∷ [] }
+
+    ensures disbursed_beyond { map cents_by_part (rows_of 7 2 deposited disbursed_beyond) ≡ (Part.Disbursed, pos 200000) ∷ (Part.EscrowAdvance, pos 50000) ∷ [] }
+    ensures advance_recovered { map cents_by_part (rows_of 8 2 disbursed_beyond advance_recovered) ≡ (Part.Received, pos 60000) ∷ (Part.EscrowAdvance, neg_ℤ (pos 50000)) ∷ [] }
+    ensures covered { balance_of Account.T (rows_of 5 2 no_totals deposited ++ rows_of 6 3 no_totals another_deposited ++ rows_of 7 2 deposited disbursed_beyond) ≡ pos 30000 }
+{}
+
+/// Adds a row for each total that changed, and what it moves to the balances t and p.
+fn add_changes(
+    entries: &mut Vec<Row>,
+    t: &mut Cents,
+    p: &mut Cents,
+    number: u32,
+    loan: u32,
+    before: &Totals,
+    after: &Totals,
+)
+    requires room { vec_len entries.old + 11 ≤ vec_capacity entries.old }
+    requires book { IsBook entries.old.items t.old p.old }
+    requires next { ComesNext number loan entries.old.items }
+    requires before { AreTotals before.now }
+    requires after { AreTotals after.now }
+    ensures items { entries.new.items ≡ entries.old.items ++ rows_of number loan before.now after.now }
+    ensures capacity { vec_capacity entries.new ≡ vec_capacity entries.old }
+    ensures rising { IsNonDecreasingBy (λ row. row.number) entries.new.items }
+    ensures t_is { t.new ≡ balance_of Account.T entries.new.items }
+    ensures p_is { p.new ≡ balance_of Account.P entries.new.items }
+{
+    for part in Part::ALL {
+        if let Some(row) = change(number, loan, part, before, after) {
+            add_row(entries, t, p, row);
+        }
+    }
+}
+
+/// The row of that part, where its total changed.
+#[tactic(auto, using(std::proofs::lemmas::Int::ints), unfolding(crate::specs::Rows::row_of))]
+fn change(number: u32, loan: u32, part: Part, before: &Totals, after: &Totals) -> Option<Row>
+    requires before { AreTotals before.now }
+    requires after { AreTotals after.now }
+    ensures row { result ≡ row_of number loan before.now after.now part }
+    ensures number { IfSome result (λ row. row.number ≡ number) }
+    ensures cents { IfSome result (λ row. IsChange row.cents) }
+{
+    let cents = after.of(part) - before.of(part);
+    if cents == 0 {
+        None
+    } else {
+        Some(Row {
+            number,
+            loan,
+            part,
+            cents,
+        })
+    }
+}
+
+/// Adds a row behind the others, and what it moves to the balances t and p.
+fn add_row(entries: &mut Vec<Row>, t: &mut Cents, p: &mut Cents, row: Row)
+    requires room { vec_len entries.old < vec_capacity entries.old }
+    requires change { IsChange row.cents }
+    requires t { IsRunning t.old }
+    requires p { IsRunning p.old }
+    ensures items { entries.new.items ≡ entries.old.items ++ row ∷ [] }
+    ensures capacity { vec_capacity entries.new ≡ vec_capacity entries.old }
+    ensures len { vec_len entries.new ≡ vec_len entries.old + 1 }
+    ensures t { t.new ≡ t.old +ℤ rule.moved Account.T row.part row.cents }
+    ensures p { p.new ≡ p.old +ℤ rule.moved Account.P row.part row.cents }
+    ensures t_near { IsChange (t.new -ℤ t.old) }
+    ensures p_near { IsChange (p.new -ℤ p.old) }
+{
+    *t += moved(Account::T, row.part, row.cents);
+    *p += moved(Account::P, row.part, row.cents);
+    entries.push_reserved(row);
+}
+
+/// What a row of that part and those cents brings into an account.
+#[tactic(auto, using(std::proofs::lemmas::Int::ints), unfolding(crate::specs::Rows::moved))]
+fn moved(account: Account, part: Part, cents: Cents) -> Cents
+    requires { IsChange cents }
+    ensures value { result ≡ rule.moved account part cents }
+    ensures bound { IsChange result }
+{
+    if part.paid_to().is_account(account) {
+        cents
+    } else if part.paid_from().is_account(account) {
+        -cents
+    } else {
+        0
+    }
+}
+
+#[cfg(test)]
+mod tests {
+    use super::*;
+    use std::test::Fail;
+
+    const NOTHING: Totals = Totals {
+        received: 0,
+        returned: 0,
+        refunded: 0,
+        disbursed: 0,
+        collected: 0,
+        fee: 0,
+        late: 0,
+        pi_advance: 0,
+        escrow_advance: 0,
+        remitted: 0,
+        residual: 0,
+    };
+
+    #[test]
+    #[tactic(auto, unfolding(crate::specs::Rows::row_of, crate::specs::Rows::balance_of))]
+    fn a_first_payment(rt: HostRuntime) -> Result<(), Fail> {
+        let mut book = Book::new(rt.alloc());
+        book.reserve(11)?;
+        let paid = Totals {
+            received: 119910,
+            collected: 119910,
+            fee: 4167,
+            ..NOTHING
+        };
+        book.append(3, 1, &NOTHING, &paid)?;
+        let row = |part, cents| Row {
+            number: 3,
+            loan: 1,
+            part,
+            cents,
+        };
+        let wanted = [
+            row(Part::Received, 119910),
+            row(Part::Collected, 119910),
+            row(Part::Fee, 4167),
+        ];
+        assert_eq!(rt; book.rows(3), wanted.as_slice());
+        assert_eq!(rt; book.rows(2).len() + book.rows(4).len(), 0);
+        assert_eq!(rt; book.balance(Account::T), 0);
+        assert_eq!(rt; book.balance(Account::P), 115743);
+        Ok(())
+    }
+}

@@ -1,0 +1,2 @@
+pub mod AggregateAnalysis
+pub mod WorkedYears

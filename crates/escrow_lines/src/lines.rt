@@ -1,0 +1,185 @@
+//! The escrow lines of a loan.
+
+ghost use Rattle.std.specs.Prelude.{◌≡◌, ◌+◌, ◌*◌, ◌<◌, ◌≤◌, ℤ, pos, ◌≤ℤ◌, [], find, position, length, true, false, All, MatchResult, OnOk, OnErr};
+ghost use Rattle.std.specs.List.{list_any};
+ghost use Rattle.escrow_lines.specs.Bills.{IsBill};
+ghost use Rattle.escrow_lines.specs.BillLists.{has_id, with_line, without_line, set_fault, month_total, year_of};
+ghost use Rattle.escrow_lines.specs.BillLists as rule;
+
+use crate::line::{EscrowLineFault, Line};
+use arrayvec::ArrayVec;
+use std::marker::Model;
+use svc_base::{Cents, Month};
+
+/// The escrow lines of a loan, in 16 places of their own. Its value in contracts is their list.
+#[derive(Drop)]
+pub struct Lines {
+    kept: ArrayVec<Line, 16>,
+}
+
+impl Model for Lines {
+    ghost use Rattle.std.specs.Prelude.{List};
+    ghost use Rattle.escrow_lines.specs.declared.line.Line.{Line};
+    ghost use Rattle.escrow_lines.specs.BillLists.{AreLines};
+
+    ghost Value = { List Line };
+
+    ghost view = { λ l. l.kept.items };
+
+    ghost invariant = { λ l. AreLines l.kept.items };
+}
+
+impl Lines {
+    /// No lines.
+    pub fn new() -> Lines
+        ensures { result ≡ [] }
+    {
+        Lines {
+            kept: ArrayVec::new(),
+        }
+    }
+
+    /// Puts a line in the place of the one with its id, or behind the others. There is room for
+    /// 16 lines.
+    pub fn set(&mut self, line: Line) -> Result<(), EscrowLineFault>
+        ensures fault { MatchResult result (λ _. set_fault line self.old ≡ None) (λ fault. set_fault line self.old ≡ Some fault) }
+        ensures ok { OnOk result (self.new ≡ with_line line self.old) }
+        ensures err { OnErr result (self.new ≡ self.old) }
+    {
+        if let Some(why) = line.fault() {
+            return Err(EscrowLineFault::BadLine(why));
+        }
+        match place_of(&self.kept, line.id) {
+            Some(place) => self.kept[place] = line,
+            None if self.kept.is_full() => return Err(EscrowLineFault::Full),
+            None => self.kept.push(line),
+        }
+        Ok(())
+    }
+
+    /// Takes out the line with that id.
+    pub fn drop_line(&mut self, id: u32) -> Result<(), EscrowLineFault>
+        ensures fault { MatchResult result (λ _. list_any (has_id id) self.old ≡ true) (λ fault. (fault ≡ EscrowLineFault.NoSuchLine) × (list_any (has_id id) self.old ≡ false)) }
+        ensures ok { OnOk result (self.new ≡ without_line id self.old) }
+        ensures err { OnErr result (self.new ≡ self.old) }
+    {
+        match place_of(&self.kept, id) {
+            Some(place) => {
+                self.kept.remove(place);
+                Ok(())
+            }
+            None => Err(EscrowLineFault::NoSuchLine),
+        }
+    }
+
+    /// What the lines pay out in each of the 12 months that begin with that one, in cents.
+    pub fn year(&self, from: Month) -> [Cents; 12]
+        ensures value { result ≡ year_of self.now from }
+        ensures low { All (λ cents. pos 0 ≤ℤ cents) result }
+        ensures high { All (λ cents. cents ≤ℤ pos 160_000_000_000) result }
+    {
+        let mut year = [0; 12];
+        for k in 0..12 {
+            year[k] = month_total(&self.kept, (from.number() + k as u32) % 12 + 1);
+        }
+        year
+    }
+
+    /// The line with that id, if there is one.
+    pub fn find(&self, id: u32) -> Option<Line>
+        ensures { result ≡ find (has_id id) self.now }
+    {
+        self.kept.iter().copied().find(|line| line.id == id)
+    }
+}
+
+/// Where the line with that id stands, if there is one.
+fn place_of(lines: &[Line], id: u32) -> Option<usize>
+    ensures { result ≡ position (has_id id) lines.now }
+{
+    lines.iter().position(|line| line.id == id)
+}
+
+/// What the lines pay out in that month of the year, from 1.
+fn month_total(lines: &[Line], number: u32) -> Cents
+    requires few { length lines.now ≤ 16 }
+    requires bills { All IsBill lines.now }
+    ensures value { result ≡ rule.month_total lines.now number }
+    ensures low { pos 0 ≤ℤ result }
+    ensures high { result ≤ℤ pos 160_000_000_000 }
+{
+    let mut total = 0;
+    for line in lines {
+        total += line.cents_in(number);
+    }
+    total
+}
+
+#[cfg(test)]
+mod tests {
+    use super::*;
+    use std::test::Fail;
+    use svc_types::{LineKind, LineWhy};
+
+    fn tax(id: u32, month: u32, every: u32, cents: Cents) -> Line
+        ensures { result.id ≡ id }
+    {
+        Line {
+            id,
+            kind: LineKind::Tax,
+            month,
+            every,
+            cents,
+        }
+    }
+
+    #[test]
+    fn a_year_of_three_bills(rt: HostRuntime) -> Result<(), Fail> {
+        let mut lines = Lines::new();
+        lines.set(tax(1, 7, 12, 50000))?;
+        lines.set(tax(2, 9, 12, 36000))?;
+        lines.set(tax(3, 12, 12, 70000))?;
+        let july = Month::new(2024, 7);
+        assert_eq!(rt;
+            lines.year(july),
+            [50000, 0, 36000, 0, 0, 70000, 0, 0, 0, 0, 0, 0]
+        );
+        lines.set(tax(2, 8, 3, 100))?;
+        assert_eq!(rt; lines.find(2), Some(tax(2, 8, 3, 100)));
+        assert_eq!(rt;
+            lines.year(july),
+            [50000, 100, 0, 0, 100, 70000, 0, 100, 0, 0, 100, 0]
+        );
+        lines.drop_line(1)?;
+        assert_eq!(rt; lines.find(1), None);
+        assert_eq!(rt; lines.drop_line(1), Err(EscrowLineFault::NoSuchLine));
+        Ok(())
+    }
+
+    #[test]
+    fn what_is_wrong_with_a_line(rt: HostRuntime) {
+        for (month, every, cents, why) in [
+            (13, 12, 1, LineWhy::MonthRange),
+            (0, 12, 1, LineWhy::MonthRange),
+            (1, 5, 1, LineWhy::Every),
+            (1, 12, 0, LineWhy::Amount),
+            (13, 5, 10_000_000_001, LineWhy::Amount),
+            (13, 5, 1, LineWhy::MonthRange),
+        ] {
+            let outcome = Lines::new().set(tax(1, month, every, cents));
+            assert_eq!(rt; outcome, Err(EscrowLineFault::BadLine(why)));
+        }
+    }
+
+    #[test]
+    fn sixteen_lines(rt: HostRuntime) -> Result<(), Fail> {
+        let mut lines = Lines::new();
+        for id in 1..17 {
+            lines.set(tax(id, 1, 1, 1))?;
+        }
+        assert_eq!(rt; lines.set(tax(17, 1, 1, 1)), Err(EscrowLineFault::Full));
+        assert_eq!(rt; lines.set(tax(16, 2, 1, 5)), Ok(()));
+        assert_eq!(rt; lines.year(Month::new(2024, 1)), [20; 12]);
+        Ok(())
+    }
+}
