@@ -3,3 +3,4 @@ pub mod Settling
 pub mod Payoff
 pub mod Step
 pub mod Books
+pub mod Events
