@@ -5,9 +5,11 @@ mod acts;
 mod fold;
 mod installment;
 mod payoff;
+mod rows;
 mod settle;
 
 pub use fold::{fold_step, start};
 pub use installment::open_installment;
 pub use payoff::{available, is_current, payoff_due};
+pub use rows::{worked_charges, worked_escrow, worked_payments, worked_payoffs};
 pub use svc_types::Installment;

@@ -1,0 +1,93 @@
+-- A worked loan, and what is looked at in its books.
+use Rattle.std.specs.Prelude.{ℕ, ◌+◌, ◌-◌, ◌*◌, List, [], ◌∷◌, ℤ, pos}
+use Rattle.svc_types.specs.declared.terms.Terms.{Terms}
+use Rattle.svc_types.specs.declared.terms.RemitType.TheVariants as remit
+use Rattle.svc_types.specs.declared.books.Books.{Books}
+use Rattle.svc_types.specs.declared.account.Act.{Act}
+use Rattle.svc_types.specs.declared.account.Act.TheVariants as act
+use Rattle.svc_types.specs.declared.account.Event.{Event}
+use Rattle.svc_types.specs.declared.escrow.EscrowPlan.{EscrowPlan}
+use Rattle.svc_types.specs.declared.escrow.Settled.{Settled}
+use Rattle.svc_types.specs.declared.account.What.TheVariants as what
+use Rattle.svc_spec.specs.Step.{step}
+use Rattle.svc_spec.specs.Books.{start}
+use Rattle.svc_spec.specs.Events.{folded}
+
+-- a month and a day by their numbers in the calendar
+abbrev pub month_at : ℕ → ℕ → ℕ
+month_at y m = 12 * y + (m - 1)
+
+abbrev pub day_at : ℕ → ℕ → ℕ → ℕ
+day_at y m d = 31 * month_at y m + (d - 1)
+
+-- 200,000.00 at 6% over 30 years, boarded in December 2023 and first due in February 2024
+abbrev pub worked_loan : Terms
+worked_loan = record {
+  boarded = day_at 2023 12 15;
+  principal = pos 20_000_000;
+  rate = 6_000;
+  fee = 250;
+  pi = pos 119_910;
+  term = 360;
+  first = month_at 2024 2;
+  grace = 15;
+  late = 500;
+  cushion = 2;
+  escrow = pos 0;
+  kind = remit.SS;
+}
+
+abbrev pub on : ℕ → Act → Event
+on d a = record { day = d; what = what.Act a }
+
+abbrev pub late_on : ℕ → ℕ → Event
+late_on d k = record { day = d; what = what.LateMark k }
+
+-- the books of the worked loan after some events
+abbrev pub after : List Event → Books
+after es = folded worked_loan (start worked_loan) es
+
+-- what is looked at, in cents
+pub record Row : Type 0 where
+  pub upb : ℤ
+  pub next : ℕ
+  pub escrow : ℤ
+  pub suspense : ℤ
+  pub late : ℤ
+  pub interest : ℤ
+  pub fee : ℤ
+  pub principal : ℤ
+  pub charges : ℤ
+
+abbrev pub row_of : Books → Row
+row_of b = record { upb = b.upb; next = b.next; escrow = b.escrow; suspense = b.suspense; late = b.late_owed; interest = b.interest; fee = b.fee; principal = b.principal; charges = b.late_paid }
+
+-- the worked loan's first payment
+abbrev pub paid_first : List Event
+paid_first = on (day_at 2024 2 1) (act.Pay (pos 119_910)) ∷ []
+
+-- the same, and a payoff of 200,300.40 fifteen days later
+abbrev pub paid_off_early : List Event
+paid_off_early = on (day_at 2024 2 1) (act.Pay (pos 119_910)) ∷ on (day_at 2024 2 16) (act.Payoff (pos 20_030_040)) ∷ []
+
+-- a loan of one installment
+abbrev pub short_loan : Terms
+short_loan = record worked_loan { term = 1 }
+
+-- the worked loan with an escrow payment of 130.00 a month
+abbrev pub escrow_loan : Terms
+escrow_loan = record worked_loan { boarded = day_at 2024 6 1; first = month_at 2024 7; escrow = pos 13_000 }
+
+-- a plan that starts in a month, and what an analysis with it settles
+abbrev pub plan_from : ℕ → ℤ → ℤ → EscrowPlan
+plan_from start base credit = record { start = start; base = base; credit = credit; short = pos 0; short_months = 0; deficient = pos 0; deficient_months = 0 }
+
+abbrev pub analysis_from : ℕ → ℤ → Settled
+analysis_from start base = record { plan = plan_from start base (pos 0); refund = pos 0; within30 = pos 0 }
+
+-- the loan with escrow after some events
+abbrev pub escrow_after : List Event → Books
+escrow_after es = folded escrow_loan (start escrow_loan) es
+
+abbrev pub deposit_then_bill : List Event
+deposit_then_bill = on (day_at 2024 6 10) (act.Deposit (pos 150_000)) ∷ on (day_at 2024 6 12) (act.Disburse (pos 200_000) 1) ∷ []
