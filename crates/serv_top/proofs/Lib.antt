@@ -1,0 +1,4 @@
+pub mod Pieces
+pub mod MachineLemmas
+pub mod Cutting
+pub mod Running
