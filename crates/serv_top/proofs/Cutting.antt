@@ -1,14 +1,9 @@
 -- A stream that is cut from its front, byte by byte, and the lines that the definitions find from its end.
 use Rattle.std.proofs.Common.{◌≡◌, ℕ, List, [], ◌∷◌, ◌++◌, refl, sym, ap, ◌∙◌, append-nil, append_assoc, arith}
 use Rattle.std.specs.Prelude.{◌==◌, if◌then◌else◌, Bool, true, false}
-use Rattle.serv_top.specs.Lines.{onto_first, onto_ended, lines_of, ended_lines}
+use Rattle.serv_top.specs.Lines.{onto_first, onto_ended, lines_of, ended_lines, open_from, open_line}
 use Rattle.serv_top.specs.Machine.{History, reply_to, history_after}
 use Rattle.serv_top.specs.Replies.{history_after_all, replies_to}
-
--- what stands behind the last line feed, where the stream goes on from this piece of a line
-abbrev pub open_from : List ℕ → List ℕ → List ℕ
-open_from line [] = line
-open_from line (b ∷ bytes) = if b == 10 then open_from [] bytes else open_from (line ++ b ∷ []) bytes
 
 -- the lines that end, where the stream goes on from this piece of a line
 abbrev pub ended_from : List ℕ → List ℕ → List (List ℕ)
@@ -84,7 +79,7 @@ lines-over_first line (b ∷ bytes) = elim (b == 10) as (λ t. (if t then line �
     ]
 
 -- all lines are those that end and the last piece
-pub lines_of-from : (bytes : List ℕ) → lines_of bytes ≡ ended_lines bytes ++ unended (open_from [] bytes)
+pub lines_of-from : (bytes : List ℕ) → lines_of bytes ≡ ended_lines bytes ++ unended (open_line bytes)
 lines_of-from bytes = sym (over_first-nil (lines_of bytes)) ∙ sym (lines-over_first [] bytes) ∙ ap (λ lines. lines ++ unended (open_from [] bytes)) (ended_from_nil bytes)
 
 pub ended_lines-push : (bytes : List ℕ) (b : ℕ) → ended_lines (bytes ++ b ∷ []) ≡ (if b == 10 then ended_lines bytes ++ open_from [] bytes ∷ [] else ended_lines bytes)
@@ -99,3 +94,20 @@ replies_to-push h (first ∷ lines) line = ap (λ text. reply_to h first ++ text
 pub history_after_all-push : (h : History) (lines : List (List ℕ)) (line : List ℕ) → history_after_all h (lines ++ line ∷ []) ≡ history_after (history_after_all h lines) line
 history_after_all-push h [] line = refl
 history_after_all-push h (first ∷ lines) line = history_after_all-push (history_after h first) lines line
+
+-- more bytes
+pub open_from-append : (line bytes more : List ℕ) → open_from line (bytes ++ more) ≡ open_from (open_from line bytes) more
+open_from-append line [] more = refl
+open_from-append line (b ∷ bytes) more = elim (b == 10) as (λ t. (if t then open_from [] (bytes ++ more) else open_from (line ++ b ∷ []) (bytes ++ more)) ≡ open_from (if t then open_from [] bytes else open_from (line ++ b ∷ []) bytes) more)
+    [ true ↦ open_from-append [] bytes more | false ↦ open_from-append (line ++ b ∷ []) bytes more ]
+
+ended_from-append : (line bytes more : List ℕ) → ended_from line (bytes ++ more) ≡ ended_from line bytes ++ ended_from (open_from line bytes) more
+ended_from-append line [] more = refl
+ended_from-append line (b ∷ bytes) more = elim (b == 10) as (λ t. (if t then line ∷ ended_from [] (bytes ++ more) else ended_from (line ++ b ∷ []) (bytes ++ more))
+      ≡ (if t then line ∷ ended_from [] bytes else ended_from (line ++ b ∷ []) bytes) ++ ended_from (if t then open_from [] bytes else open_from (line ++ b ∷ []) bytes) more)
+    [ true ↦ ap (λ lines. line ∷ lines) (ended_from-append [] bytes more) | false ↦ ended_from-append (line ++ b ∷ []) bytes more ]
+
+-- bytes that come later end further lines
+pub ended_lines-append : (bytes more : List ℕ) → ended_lines (bytes ++ more) ≡ ended_lines bytes ++ ended_from (open_line bytes) more
+ended_lines-append bytes more = sym (ended_from_nil (bytes ++ more)) ∙ ended_from-append [] bytes more
+    ∙ ap (λ lines. lines ++ ended_from (open_line bytes) more) (ended_from_nil bytes)

@@ -1,5 +1,5 @@
 -- How a stream of bytes is cut into lines, at line feeds.
-use Rattle.std.specs.Prelude.{ℕ, ◌==◌, List, [], ◌∷◌, if◌then◌else◌}
+use Rattle.std.specs.Prelude.{ℕ, ◌==◌, List, [], ◌∷◌, ◌++◌, if◌then◌else◌}
 
 -- a byte in front of the first line; where there is no line, the byte is one, and has no line feed yet
 abbrev pub onto_first : ℕ → List (List ℕ) → List (List ℕ)
@@ -20,3 +20,12 @@ lines_of (b ∷ bytes) = if b == 10 then [] ∷ lines_of bytes else onto_first b
 abbrev pub ended_lines : List ℕ → List (List ℕ)
 ended_lines [] = []
 ended_lines (b ∷ bytes) = if b == 10 then [] ∷ ended_lines bytes else onto_ended b (ended_lines bytes)
+
+-- what stands behind the last line feed, where these bytes stand behind a piece that has none
+abbrev pub open_from : List ℕ → List ℕ → List ℕ
+open_from piece [] = piece
+open_from piece (b ∷ bytes) = if b == 10 then open_from [] bytes else open_from (piece ++ b ∷ []) bytes
+
+-- what stands behind the last line feed
+abbrev pub open_line : List ℕ → List ℕ
+open_line bytes = open_from [] bytes

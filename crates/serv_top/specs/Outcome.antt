@@ -3,42 +3,31 @@ use Rattle.std.specs.Prelude.{◌≡◌, ℕ, ◌^◌, ◌<◌, ◌≤◌, ◌�
 use Rattle.std.specs.Io.KnownBytes.{Appends, Consumes, IsAtEnd}
 use Rattle.serv_top.specs.declared.status.Status.{Status}
 use Rattle.serv_top.specs.declared.status.Status.TheVariants.{Done, Usage, ReadFault, WriteFault, TooMuch, OutOfMemory}
-use Rattle.serv_top.specs.Faults.{IsProperPrefix}
 use Rattle.serv_top.specs.Lines.{lines_of, ended_lines}
-use Rattle.serv_top.specs.Machine.{reply_to, empty_history}
-use Rattle.serv_top.specs.Replies.{replies_to, history_after_all}
+use Rattle.serv_top.specs.Machine.{empty_history}
+use Rattle.serv_top.specs.Replies.{IsBegun, IsCutIn, replies_to}
 
 -- how many bytes of input are too many
 abbrev pub input_limit : ℕ
 input_limit = 2 ^ 26
 
--- the replies to all the lines but the last are written, and of the reply to the last one a part that is not all of it
-pub record IsCutIn (lines : List (List ℕ)) (written : List ℕ) : Type 0 where
-  pub answered : List (List ℕ)
-  pub last : List ℕ
-  pub part : List ℕ
-  pub lines_are : lines ≡ answered ++ last ∷ []
-  pub text : written ≡ replies_to empty_history answered ++ part
-  pub partial : IsProperPrefix part (reply_to (history_after_all empty_history answered) last)
-
--- it stops in the reply to the last line that is to be answered by now: the last one that a line feed ended, or at the
--- end of the input the last one of all
-abbrev pub StopsInReply : List ℕ → Option (List ℕ) → List ℕ → Type 0
-StopsInReply taken left written =
-    IsCutIn (ended_lines taken) written ⊎ (IsAtEnd left × IsCutIn (lines_of taken) written)
+-- it holds of the lines that a line feed ended, or at the end of the input of all lines
+abbrev pub HoldsOfLines : (List (List ℕ) → Type 0) → List ℕ → Option (List ℕ) → Type 0
+HoldsOfLines P taken left = P (ended_lines taken) ⊎ (IsAtEnd left × P (lines_of taken))
 
 -- what is written, by the status, where these bytes are taken and these are left
 abbrev pub IsOutput : Status → List ℕ → Option (List ℕ) → List ℕ → Type 0
 IsOutput Done taken left written =
-    IsAtEnd left × (length taken < input_limit) × (written ≡ replies_to empty_history (lines_of taken))
+  IsAtEnd left × (length taken < input_limit) × (written ≡ replies_to empty_history (lines_of taken))
 IsOutput Usage taken left written = (taken ≡ []) × (written ≡ [])
 IsOutput ReadFault taken left written =
-    (length taken < input_limit) × (written ≡ replies_to empty_history (ended_lines taken))
-IsOutput WriteFault taken left written = (length taken ≤ input_limit) × StopsInReply taken left written
+  (length taken < input_limit) × (written ≡ replies_to empty_history (ended_lines taken))
+IsOutput WriteFault taken left written = 
+  (length taken ≤ input_limit) × HoldsOfLines (λ lines. IsCutIn lines written) taken left
 IsOutput (TooMuch n) taken left written =
-    (n ≡ length taken) × (n ≡ input_limit) × (written ≡ replies_to empty_history (ended_lines taken))
+  (n ≡ length taken) × (n ≡ input_limit) × (written ≡ replies_to empty_history (ended_lines taken))
 IsOutput OutOfMemory taken left written =
-    (length taken ≤ input_limit) × ((written ≡ replies_to empty_history (ended_lines taken)) ⊎ StopsInReply taken left written)
+  (length taken ≤ input_limit) × HoldsOfLines (λ lines. IsBegun lines written) taken left
 
 -- what is taken from the source and written to the sink, where these tell what is left and what is held
 pub record Ended (status : Status) (left left' held held' : Option (List ℕ)) : Type 0 where
@@ -52,5 +41,5 @@ pub record Ended (status : Status) (left left' held held' : Option (List ℕ)) :
 -- is out
 abbrev pub IsComplete : Status → Bool → Option (List ℕ) → Type 0 → Type 0 → Type 0
 IsComplete status known left source_rose sink_rose =
-    known ≡ true → (input : List ℕ) → left ≡ Some input → length input < input_limit → ¬ source_rose → ¬ sink_rose
-    → (status ≡ Done) ⊎ (status ≡ OutOfMemory)
+  known ≡ true → (input : List ℕ) → left ≡ Some input → length input < input_limit → ¬ source_rose → ¬ sink_rose
+  → (status ≡ Done) ⊎ (status ≡ OutOfMemory)

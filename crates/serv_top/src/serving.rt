@@ -1,10 +1,11 @@
 //! Lines that come byte by byte, and the replies to them.
 
-ghost use Rattle.std.specs.Prelude.{◌≡◌, ◌≢◌, ◌≤◌, ◌++◌, [], ◌∷◌, Err, OnOk, OnErr, IsOk, take, vec_len};
+ghost use Rattle.std.specs.Prelude.{◌≡◌, ◌≢◌, ℕ, ◌≤◌, ◌++◌, List, [], ◌∷◌, Option, Err, OnOk, OnErr, IfErr, IsOk, take, vec_len};
 ghost use Rattle.std.specs.Io.KnownBytes.{Appends};
 ghost use Rattle.serv_top.specs.Faults.{HasRisen, AppendsPart};
 ghost use Rattle.serv_top.specs.Machine.{empty_history, reply_to, history_after};
-ghost use Rattle.serv_top.specs.Serving.{Feeds};
+ghost use Rattle.serv_top.specs.Serving.{Feeds, Served, Stopped};
+ghost use Rattle.serv_top.specs.Lines.{ended_lines};
 ghost use Rattle.serv_top.specs.Stop.{status_of};
 
 use crate::failed::Failed;
@@ -79,8 +80,29 @@ impl Serving {
         }
     }
 
+    /// Takes bytes in their order. Where it stops, the rest of the bytes is left out.
+    pub(crate) fn feed_all<K: Sink, L: Ledger>(
+        &mut self,
+        bytes: &[u8],
+        snk: &mut K,
+        steps: &mut Steps<L>,
+    ) -> Result<(), Stop>
+        ensures fed { (before : List ℕ) (held : Option (List ℕ)) → Served before held (K.held snk.old) self.old.line.items self.old.session
+            → OnOk result (Served (before ++ bytes.now) held (K.held snk.new) self.new.line.items self.new.session) }
+        ensures stopped { (before : List ℕ) (held : Option (List ℕ)) → Served before held (K.held snk.old) self.old.line.items self.old.session
+            → IfErr result (λ why. Stopped why (ended_lines (before ++ bytes.now)) held (K.held snk.new)) }
+        ensures later { K.faults snk.old ≤ K.faults snk.new }
+        ensures cause { result ≡ Err Stop.WriteFault → HasRisen (K.faults snk.old) (K.faults snk.new) }
+        ensures calm { K.calm snk.old → K.calm snk.new × (K.faults snk.new ≡ K.faults snk.old) × (result ≢ Err Stop.WriteFault) }
+    {
+        for byte in bytes {
+            self.feed(*byte, snk, steps)?;
+        }
+        Ok(())
+    }
+
     /// Takes one byte: a line feed ends the line, which is answered; any other byte is added to it.
-    pub(crate) fn feed<K: Sink, L: Ledger>(
+    fn feed<K: Sink, L: Ledger>(
         &mut self,
         byte: u8,
         snk: &mut K,

@@ -1,6 +1,6 @@
 //! Where input comes from.
 
-ghost use Rattle.std.specs.Prelude.{◌≡◌, ℕ, ◌<◌, ◌≤◌, ◌↔◌, ◌++◌, List, [], None, Some, Ok, IsOk, IsErr, is_ok, if◌then◌else◌, IfOk, OnErr, OnOk, length, take, drop, min, Contains, Option, option_to_list};
+ghost use Rattle.std.specs.Prelude.{◌≡◌, ℕ, ◌<◌, ◌≤◌, ◌↔◌, ◌++◌, List, [], None, Some, Ok, IsOk, IsErr, is_ok, if◌then◌else◌, IfOk, OnErr, OnOk, length, take, drop, min, Contains, Option};
 ghost use Rattle.std.specs.Io.KnownBytes.{Consumes, IsAtEnd};
 ghost use Rattle.serv_top.specs.Faults.{HasCause};
 
@@ -177,18 +177,17 @@ impl<R: Read + Drop> Source for ReadSource<R> {
     }
 }
 
-/// Reads one byte; `None` says that nothing is left.
-pub(crate) fn take_byte<S: Source>(src: &mut S) -> Result<Option<u8>, Failed>
-    ensures taken { IfOk result (λ byte. Consumes (S.left src.old) (S.left src.new) (option_to_list byte)) }
-    ensures end { IfOk result (λ byte. byte ≡ None → IsAtEnd (S.left src.new)) }
-    ensures kept { OnErr result (S.left src.new ≡ S.left src.old) }
+/// Reads up to `most` bytes to the front of `room`; 0 says that nothing is left.
+pub(crate) fn read_some<S: Source>(src: &mut S, room: &mut [u8], most: usize) -> Result<usize, Failed>
+    requires some { 0 < most }
+    requires within { most ≤ length room.old }
+    ensures bound { IfOk result (λ n. n ≤ most) }
+    ensures count { IfOk result (λ n. length (take n room.new) ≡ n) }
+    ensures taken { IfOk result (λ n. Consumes (S.left src.old) (S.left src.new) (take n room.new)) }
+    ensures end { IfOk result (λ n. n ≡ 0 → IsAtEnd (S.left src.new)) }
     ensures cause { HasCause (S.faults src.old) (S.faults src.new) result }
+    ensures kept { OnErr result (S.left src.new ≡ S.left src.old) }
     ensures calm { S.calm src.old → S.calm src.new × (S.faults src.new ≡ S.faults src.old) × IsOk result }
 {
-    let mut room = [0];
-    let n = src.read(&mut room)?;
-    if n == 0 {
-        return Ok(None);
-    }
-    Ok(Some(room[0]))
+    src.read(&mut room[..most])
 }

@@ -8,7 +8,7 @@ ghost use Rattle.serv_top.specs.Words.{is_session_of};
 
 use crate::serving::Serving;
 use crate::sink::Sink;
-use crate::source::{Source, take_byte};
+use crate::source::{Source, read_some};
 use crate::status::Status;
 use std::alloc::Global;
 use std::sync::ledger::Ledger;
@@ -16,6 +16,9 @@ use svc_base::Steps;
 
 /// A run that has taken this many bytes takes no more: 67,108,864.
 pub const INPUT_LIMIT: u64 = 1 << 26;
+
+/// How many bytes are asked for at a time.
+const ROOM: usize = 4096;
 
 /// Answers lines to the end of the source.
 fn serve<S: Source, K: Sink, L: Ledger>(
@@ -34,15 +37,17 @@ fn serve<S: Source, K: Sink, L: Ledger>(
     ensures calm_sink { K.calm snk.old → K.calm snk.new × (K.faults snk.new ≡ K.faults snk.old) × (result ≢ Status.WriteFault) }
 {
     let mut serving = Serving::new(alloc);
+    let mut room = [0; ROOM];
     let mut taken = 0;
     while taken < INPUT_LIMIT {
-        match take_byte(src) {
-            Ok(Some(byte)) => match serving.feed(byte, snk, steps) {
-                Ok(()) => taken += 1,
+        let most = (INPUT_LIMIT - taken).min(ROOM as u64) as usize;
+        match read_some(src, &mut room, most) {
+            Ok(0) => match serving.finish(snk, steps) {
+                Ok(()) => return Status::Done,
                 Err(stop) => return stop.status(),
             },
-            Ok(None) => match serving.finish(snk, steps) {
-                Ok(()) => return Status::Done,
+            Ok(n) => match serving.feed_all(&room[..n], snk, steps) {
+                Ok(()) => taken += n as u64,
                 Err(stop) => return stop.status(),
             },
             Err(_) => return Status::ReadFault,
