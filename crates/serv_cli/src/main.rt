@@ -7,7 +7,7 @@ ghost use Rattle.std.specs.Prelude.{◌≡◌, ◌<◌};
 use serv_top::{ReadSource, Status, WriteSink};
 use std::alloc::{AllocError, Global};
 use std::env;
-use std::io::{self, BufReader, ErrorKind};
+use std::io::{self, ErrorKind};
 use std::marker::Brand;
 use std::process::ExitCode;
 use std::rt::Env;
@@ -46,13 +46,10 @@ fn start<R: Env + Input + Print + AllocGlobal, L: Ledger>(rt: &R, blank: Blank) 
         Ok(words) => words,
         Err(status) => return status,
     };
-    let (Ok(texts), Ok(reader)) = (
-        texts_of(rt.alloc(), &words),
-        BufReader::new(rt.alloc(), rt.reader()),
-    ) else {
+    let Ok(texts) = texts_of(rt.alloc(), &words) else {
         return Status::OutOfMemory;
     };
-    let mut src = ReadSource::new(reader);
+    let mut src = ReadSource::new(rt.reader());
     let mut snk = WriteSink::new(io::writer(rt));
     let mut steps = Steps::<L>::new(blank);
     serv_top::run(rt.alloc(), &texts, &mut src, &mut snk, &mut steps)

@@ -104,7 +104,7 @@ open_from-append line (b ∷ bytes) more = elim (b == 10) as (λ t. (if t then o
 ended_from-append : (line bytes more : List ℕ) → ended_from line (bytes ++ more) ≡ ended_from line bytes ++ ended_from (open_from line bytes) more
 ended_from-append line [] more = refl
 ended_from-append line (b ∷ bytes) more = elim (b == 10) as (λ t. (if t then line ∷ ended_from [] (bytes ++ more) else ended_from (line ++ b ∷ []) (bytes ++ more))
-      ≡ (if t then line ∷ ended_from [] bytes else ended_from (line ++ b ∷ []) bytes) ++ ended_from (if t then open_from [] bytes else open_from (line ++ b ∷ []) bytes) more)
+    ≡ (if t then line ∷ ended_from [] bytes else ended_from (line ++ b ∷ []) bytes) ++ ended_from (if t then open_from [] bytes else open_from (line ++ b ∷ []) bytes) more)
     [ true ↦ ap (λ lines. line ∷ lines) (ended_from-append [] bytes more) | false ↦ ended_from-append (line ++ b ∷ []) bytes more ]
 
 -- bytes that come later end further lines

@@ -21,11 +21,12 @@ served_none held line history no_line none = record { wrote = Appends-nil held; 
 -- a line that is cut before a byte is added is cut as if it was added first
 take_cut : (n : ℕ) (xs ys : List ℕ) → take n (take n xs ++ ys) ≡ take n (xs ++ ys)
 take_cut n xs ys = elim (cases_lt n (length xs)) [
-    inl long ↦
+  | inl long ↦
       let cut : length (take n xs) ≡ n = length-take-le n xs (omega arith) in
       let within : n ≤ length xs = omega arith in
       take_at (take n xs) ys n cut ∙ sym (take-append-le n xs ys within)
-    | inr short ↦ ap (λ front. take n (front ++ ys)) (take_all n xs short) ]
+  | inr short ↦ ap (λ front. take n (front ++ ys)) (take_all n xs short)
+]
 
 -- a piece is empty, or a line, of which something is kept
 open_cases : (piece : List ℕ) → (piece ≡ []) ⊎ ((unended piece ≡ piece ∷ []) × (take 513 piece ≡ [] → ⊥))
@@ -35,16 +36,24 @@ open_cases (b ∷ piece) = inr (refl, λ none. cc)
 -- where it stops stays so, whatever lines come behind
 cut_further : (lines more : List (List ℕ)) (written : List ℕ) → IsCutIn lines written → IsCutIn (lines ++ more) written
 cut_further lines more written cut = record {
-  answered = cut.answered; next = cut.next; others = cut.others ++ more; part = cut.part;
+  answered = cut.answered;
+  next = cut.next;
+  others = cut.others ++ more;
+  part = cut.part;
   lines_are = ap (λ ls. ls ++ more) cut.lines_are ∙ append_assoc cut.answered (cut.next ∷ cut.others) more;
-  text = cut.text; partial = cut.partial;
+  text = cut.text;
+  partial = cut.partial;
 }
 
 -- what answers some lines stops before the reply to the next one
 cut_before : (lines more : List (List ℕ)) (written : List ℕ) → written ≡ replies_to empty_history lines → (written ≡ replies_to empty_history (lines ++ more)) ⊎ IsCutIn (lines ++ more) written
 cut_before lines [] written is = inl (is ∙ ap (replies_to empty_history) (sym (append-nil lines)))
 cut_before lines (next ∷ others) written is = inr (record {
-  answered = lines; next = next; others = others; part = []; lines_are = refl;
+  answered = lines;
+  next = next;
+  others = others;
+  part = [];
+  lines_are = refl;
   text = is ∙ sym (append-nil (replies_to empty_history lines));
   partial = record { rest = reply_to (history_after_all empty_history lines) next; some = reply_not_empty (history_after_all empty_history lines) next; joined = refl };
 })
@@ -56,7 +65,8 @@ stopped_text_further OutOfMemory lines more written (inr cut) = inr (cut_further
 
 pub stopped_further : (why : Stop) (bytes more : List ℕ) (held held' : Option (List ℕ)) → Stopped why (ended_lines bytes) held held' → Stopped why (ended_lines (bytes ++ more)) held held'
 stopped_further why bytes more held held' stopped = record {
-  written = stopped.written; wrote = stopped.wrote;
+  written = stopped.written;
+  wrote = stopped.wrote;
   says = subst (λ lines. IsStoppedText why lines stopped.written) (sym (ended_lines-append bytes more)) (stopped_text_further why (ended_lines bytes) (ended_from (open_line bytes) more) stopped.written stopped.says);
 }
 
@@ -123,8 +133,8 @@ module _ (bytes : List ℕ) {held held' : Option (List ℕ)} {line : List ℕ} {
   pub stopped_at_byte : (b : ℕ) (held'' : Option (List ℕ)) (why : Stop) → (why ≡ WriteFault → (b ≡ 10) × AppendsPart held' held'' (reply_to history line)) → (why ≡ OutOfMemory → held'' ≡ held')
       → Stopped why (ended_lines (bytes ++ b ∷ [])) held held''
   stopped_at_byte b held'' WriteFault fault memory =
-    let said = fault refl in
-    cut_by_fault held'' _ (ended_lines-push bytes b ∙ ap (λ t. if t then ended ++ piece ∷ [] else ended) (eq-eqb b 10 said.0)) said.1
+      let said = fault refl in
+      cut_by_fault held'' _ (ended_lines-push bytes b ∙ ap (λ t. if t then ended ++ piece ∷ [] else ended) (eq-eqb b 10 said.0)) said.1
   stopped_at_byte b held'' OutOfMemory fault memory = cut_by_memory held'' _ (ended_from piece (b ∷ [])) (ended_lines-append bytes (b ∷ [])) (memory refl)
 
   no_line : piece ≡ [] → line ≡ []
@@ -134,19 +144,21 @@ module _ (bytes : List ℕ) {held held' : Option (List ℕ)} {line : List ℕ} {
   pub served_all : (held'' : Option (List ℕ)) → (line ≡ [] → held'' ≡ held') → ((line ≡ [] → ⊥) → Appends held' held'' (reply_to history line))
       → Appends held held'' (replies_to empty_history (lines_of bytes))
   served_all held'' none some = elim (open_cases piece) [
-    inl empty ↦
-      let lines : lines_of bytes ≡ ended = lines_of-from bytes ∙ ap (λ p. ended ++ unended p) empty ∙ append-nil ended in
-      subst (Appends held held'') (ap (replies_to empty_history) (sym lines)) (subst (λ h. Appends held h (replies_to empty_history ended)) (sym (none (no_line empty))) run.wrote)
+    | inl empty ↦
+        let lines : lines_of bytes ≡ ended = lines_of-from bytes ∙ ap (λ p. ended ++ unended p) empty ∙ append-nil ended in
+        subst (Appends held held'') (ap (replies_to empty_history) (sym lines)) (subst (λ h. Appends held h (replies_to empty_history ended)) (sym (none (no_line empty))) run.wrote)
     | inr last ↦
-      let lines : lines_of bytes ≡ ended ++ piece ∷ [] = lines_of-from bytes ∙ ap (λ p. ended ++ p) last.0 in
-      subst (Appends held held'') (sym (replies_is _ lines)) (Appends-trans held held' held'' (replies_to empty_history ended) (reply_to history line) run.wrote (some (λ no. last.1 (sym run.line_is ∙ no)))) ]
+        let lines : lines_of bytes ≡ ended ++ piece ∷ [] = lines_of-from bytes ∙ ap (λ p. ended ++ p) last.0 in
+        subst (Appends held held'') (sym (replies_is _ lines)) (Appends-trans held held' held'' (replies_to empty_history ended) (reply_to history line) run.wrote (some (λ no. last.1 (sym run.line_is ∙ no))))
+  ]
 
   -- or it stops in the reply to the last one
   pub stopped_at_end : (held'' : Option (List ℕ)) → (line ≡ [] → ⊥) → (why : Stop) → (why ≡ WriteFault → AppendsPart held' held'' (reply_to history line)) → (why ≡ OutOfMemory → held'' ≡ held')
       → Stopped why (lines_of bytes) held held''
   stopped_at_end held'' some WriteFault fault memory = elim (open_cases piece) [
-    inl empty ↦ absurd (some (no_line empty))
-    | inr last ↦ cut_by_fault held'' _ (lines_of-from bytes ∙ ap (λ p. ended ++ p) last.0) (fault refl) ]
+    | inl empty ↦ absurd (some (no_line empty))
+    | inr last ↦ cut_by_fault held'' _ (lines_of-from bytes ∙ ap (λ p. ended ++ p) last.0) (fault refl)
+  ]
   stopped_at_end held'' some OutOfMemory fault memory = cut_by_memory held'' _ (unended piece) (lines_of-from bytes) (memory refl)
 
 -- a byte among others

@@ -1,5 +1,5 @@
 -- What a session has taken from its source and written to its sink when it ends with a status.
-use Rattle.std.specs.Prelude.{◌≡◌, ℕ, ◌^◌, ◌<◌, ◌≤◌, ◌⊎◌, List, [], ◌∷◌, ◌++◌, length, Option, Some, Bool, true}
+use Rattle.std.specs.Prelude.{◌≡◌, ℕ, ◌^◌, ◌<◌, ◌≤◌, ◌⊎◌, List, [], ◌∷◌, ◌++◌, length, Option}
 use Rattle.std.specs.Io.KnownBytes.{Appends, Consumes, IsAtEnd}
 use Rattle.serv_top.specs.declared.status.Status.{Status}
 use Rattle.serv_top.specs.declared.status.Status.TheVariants.{Done, Usage, ReadFault, WriteFault, TooMuch, OutOfMemory}
@@ -18,16 +18,16 @@ HoldsOfLines P taken left = P (ended_lines taken) ⊎ (IsAtEnd left × P (lines_
 -- what is written, by the status, where these bytes are taken and these are left
 abbrev pub IsOutput : Status → List ℕ → Option (List ℕ) → List ℕ → Type 0
 IsOutput Done taken left written =
-  IsAtEnd left × (length taken < input_limit) × (written ≡ replies_to empty_history (lines_of taken))
+    IsAtEnd left × (length taken < input_limit) × (written ≡ replies_to empty_history (lines_of taken))
 IsOutput Usage taken left written = (taken ≡ []) × (written ≡ [])
 IsOutput ReadFault taken left written =
-  (length taken < input_limit) × (written ≡ replies_to empty_history (ended_lines taken))
-IsOutput WriteFault taken left written = 
-  (length taken ≤ input_limit) × HoldsOfLines (λ lines. IsCutIn lines written) taken left
+    (length taken < input_limit) × (written ≡ replies_to empty_history (ended_lines taken))
+IsOutput WriteFault taken left written =
+    (length taken ≤ input_limit) × HoldsOfLines (λ lines. IsCutIn lines written) taken left
 IsOutput (TooMuch n) taken left written =
-  (n ≡ length taken) × (n ≡ input_limit) × (written ≡ replies_to empty_history (ended_lines taken))
+    (n ≡ length taken) × (n ≡ input_limit) × (written ≡ replies_to empty_history (ended_lines taken))
 IsOutput OutOfMemory taken left written =
-  (length taken ≤ input_limit) × HoldsOfLines (λ lines. IsBegun lines written) taken left
+    (length taken ≤ input_limit) × HoldsOfLines (λ lines. IsBegun lines written) taken left
 
 -- what is taken from the source and written to the sink, where these tell what is left and what is held
 pub record Ended (status : Status) (left left' held held' : Option (List ℕ)) : Type 0 where
@@ -36,10 +36,3 @@ pub record Ended (status : Status) (left left' held held' : Option (List ℕ)) :
   pub took : Consumes left left' taken
   pub wrote : Appends held held' written
   pub says : IsOutput status taken left' written
-
--- where the words are known, no count of faults rose and the input is shorter than the limit, the run is done or memory
--- is out
-abbrev pub IsComplete : Status → Bool → Option (List ℕ) → Type 0 → Type 0 → Type 0
-IsComplete status known left source_rose sink_rose =
-  known ≡ true → (input : List ℕ) → left ≡ Some input → length input < input_limit → ¬ source_rose → ¬ sink_rose
-  → (status ≡ Done) ⊎ (status ≡ OutOfMemory)

@@ -11,8 +11,8 @@ use Rattle.serv_top.specs.Replies.{IsBegun, IsCutIn, replies_to, history_after_a
 -- are kept
 abbrev pub Feeds : ℕ → List ℕ → History → List ℕ → History → Option (List ℕ) → Option (List ℕ) → Type 0
 Feeds byte line history line' history' held held' = MatchBool (byte == 10)
-  ((line' ≡ []) × (history' ≡ history_after history line) × Appends held held' (reply_to history line))
-  ((line' ≡ take 513 (line ++ byte ∷ [])) × (history' ≡ history) × (held' ≡ held))
+    ((line' ≡ []) × (history' ≡ history_after history line) × Appends held held' (reply_to history line))
+    ((line' ≡ take 513 (line ++ byte ∷ [])) × (history' ≡ history) × (held' ≡ held))
 
 -- the replies to the lines that ended in these bytes are written, the machine stands where they leave it, and of the piece
 -- behind them the first 513 bytes are kept

@@ -10,7 +10,6 @@ mod status;
 mod top;
 
 pub use failed::Failed;
-pub use session::Session;
 pub use sink::{CalmSink, MemSink, Sink, WriteSink};
 pub use source::{CalmSource, MemSource, ReadSource, Source};
 pub use status::Status;

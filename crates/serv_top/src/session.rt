@@ -10,7 +10,7 @@ use svc_base::{OutOfMemory, Steps};
 
 /// The running state of a session: it stands for the history of what was accepted.
 #[derive(Drop)]
-pub struct Session {
+pub(crate) struct Session {
     alloc: Global,
     accepted: u64,
 }
@@ -26,7 +26,7 @@ impl Model for Session {
 impl Session {
     /// A session in which nothing was accepted yet.
     #[tactic(auto, unfolding(crate::specs::Machine::empty_history))]
-    pub fn new(alloc: Global) -> Session
+    pub(crate) fn new(alloc: Global) -> Session
         ensures empty { result ≡ empty_history }
     {
         Session { alloc, accepted: 0 }
@@ -34,7 +34,7 @@ impl Session {
 
     /// Answers one line, which is given without its line feed.
     #[tactic(auto, unfolding(crate::specs::Machine::reply_to, crate::specs::Machine::history_after))]
-    pub fn answer_line<L: Ledger>(
+    pub(crate) fn answer_line<L: Ledger>(
         &mut self,
         line: &[u8],
         _steps: &mut Steps<L>,

@@ -178,7 +178,11 @@ impl<R: Read + Drop> Source for ReadSource<R> {
 }
 
 /// Reads up to `most` bytes to the front of `room`; 0 says that nothing is left.
-pub(crate) fn read_some<S: Source>(src: &mut S, room: &mut [u8], most: usize) -> Result<usize, Failed>
+pub(crate) fn read_some<S: Source>(
+    src: &mut S,
+    room: &mut [u8],
+    most: usize,
+) -> Result<usize, Failed>
     requires some { 0 < most }
     requires within { most ≤ length room.old }
     ensures bound { IfOk result (λ n. n ≤ most) }

@@ -34,7 +34,7 @@ returns-in-Err-feed_all-clause-ended g c =
     (ended_at_bytes run (take n c.read_some.new.room) n _ _ long within c.in-Ok.ensures.taken c.in-Err-feed_all.stop (c.in-Err-feed_all.ensures.stopped run.taken _ run.served))
 
 pub loop-taken-preserved : goal.loop-taken-preserved
-loop-taken-preserved g c = 
+loop-taken-preserved g c =
     let run = c.loop-taken.invariant.running in
     let n = c.in-Ok.n in
     let within : c.loop-taken.taken + n ≤ input_limit = omega (arith, c.loop-taken-test.true, c.in-Ok.ensures.bound, c.min-most.ensures) in
