@@ -1,5 +1,5 @@
 -- What contracts see of a source and a sink in memory.
-use Rattle.std.specs.Prelude.{ℕ, ◌+◌, ◌-◌, ◌^◌, min, List, Contains}
+use Rattle.std.specs.Prelude.{ℕ, ◌+◌, ◌-◌, ◌^◌, min, List}
 
 -- a source in memory: the bytes that are left, the numbers of the calls that fail, how many calls there were and how
 -- many of them failed

@@ -1,7 +1,6 @@
-use Rattle.std.proofs.Common.{◌≡◌, ℕ, ◌+◌, ◌<◌, ◌≤◌, List, [], Err, length, take, ap, arith, subst, sym, ◌∙◌}
+use Rattle.std.proofs.Common.{◌≡◌, ◌+◌, ◌<◌, ◌≤◌, Err, length, take, ap, arith, ◌∙◌}
 use Rattle.std.proofs.lemmas.Bool.{false≢true}
-use Rattle.std.specs.Io.KnownBytes.{Consumes, IsAtEnd}
-use Rattle.serv_top.specs.Outcome.{Ended, input_limit}
+use Rattle.serv_top.specs.Outcome.{input_limit}
 use Rattle.serv_top.proofs.ServedLemmas.{served_all, stopped_at_end}
 use Rattle.serv_top.proofs.Running.{running_more, ended_at_bytes, ended_done, ended_at_end}
 use Rattle.serv_top.proofs.top.serve.Goals as goal

@@ -1,7 +1,7 @@
-use Rattle.std.proofs.Common.{◌≡◌, ℕ, ◌+◌, ◌<◌, ◌++◌, List, [], ◌∷◌, Option, Err, take, drop, length, get_or, ap, arith, subst, sym, ◌∙◌}
+use Rattle.std.proofs.Common.{◌+◌, ◌++◌, [], ◌∷◌, Err, take, drop, get_or, ap, arith, subst, ◌∙◌}
 use Rattle.std.proofs.lemmas.Result.{err_from_is_err_and}
 use Rattle.serv_top.specs.Lines.{ended_lines}
-use Rattle.serv_top.specs.Serving.{Served, Stopped}
+use Rattle.serv_top.specs.Serving.{Stopped}
 use Rattle.serv_top.proofs.ServedLemmas.{served_more, stopped_at_byte, stopped_further, byte_among, byte_more}
 use Rattle.serv_top.proofs.serving.Serving.feed_all.Goals as goal
 

@@ -1,4 +1,4 @@
-use Rattle.std.proofs.Common.{◌≡◌, ◌<◌, length, arith, ◌∙◌, sym}
+use Rattle.std.proofs.Common.{◌≡◌, ◌<◌, length, arith, ◌∙◌}
 use Rattle.serv_top.proofs.Pieces.{kept_more, kept_full}
 use Rattle.serv_top.proofs.serving.Serving.keep.Goals as goal
 
