@@ -1,0 +1,5 @@
+pub mod Pieces
+pub mod MachineLemmas
+pub mod Cutting
+pub mod ServedLemmas
+pub mod Running

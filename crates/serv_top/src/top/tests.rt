@@ -1,0 +1,228 @@
+ghost use Rattle.std.specs.Prelude.{◌≡◌, ◌<◌};
+
+use super::{INPUT_LIMIT, run};
+use crate::{
+    CalmSink, CalmSource, Failed, MemSink, MemSource, ReadSource, Sink, Source, Status, WriteSink,
+};
+use std::alloc::{AllocError, Global};
+use std::io::{self, ErrorKind, Read, Write};
+use std::marker::Brand;
+use std::sync::ledger::{Blank, Ledger};
+use std::test::Fail;
+use svc_base::Steps;
+
+/// What a run over memory came to.
+#[derive(Drop)]
+struct Ending {
+    status: Status,
+    output: Vec<u8>,
+    /// The first bytes of what is left.
+    left: Vec<u8>,
+}
+
+/// Runs the words `j session`, or `j frob`, over memory with these failing calls.
+fn run_over<L: Ledger>(
+    alloc: Global,
+    blank: Blank,
+    known: bool,
+    input: Vec<u8>,
+    reads: Vec<u32>,
+    writes: Vec<u32>,
+) -> Result<Ending, AllocError>
+    requires name { blank.name ≡ L.name }
+    requires parts { blank.parts ≡ L.parts }
+    requires some { 0 < L.parts }
+{
+    let word = if known { "session" } else { "frob" };
+    let mut src = MemSource::new(input, reads);
+    let mut snk = MemSink::new(Vec::new(alloc), writes);
+    if snk.reserve(8, 4096).is_err() {
+        return Err(AllocError);
+    }
+    let mut steps = Steps::<L>::new(blank);
+    let status = run(alloc, &["j", word], &mut src, &mut snk, &mut steps);
+    let mut room = [0; 32];
+    let count = src.read(&mut room).unwrap_or(0);
+    Ok(Ending {
+        status,
+        output: Vec::from_slice(alloc, snk.content())?,
+        left: Vec::from_slice(alloc, &room[..count])?,
+    })
+}
+
+/// A run with its expected status, output and rest.
+#[derive(Clone, Copy)]
+struct Case<'a> {
+    known: bool,
+    input: &'a [u8],
+    reads: &'a [u32],
+    writes: &'a [u32],
+    status: Status,
+    output: &'a [u8],
+    left: &'a [u8],
+}
+
+const DAY: Case<'static> = Case {
+    known: true,
+    input: b"k1 day 2024-02-01\n",
+    reads: &[],
+    writes: &[],
+    status: Status::Done,
+    output: b"ok 1\n",
+    left: b"",
+};
+
+#[test]
+fn each_status_has_its_output_and_rest(rt: HostRuntime) -> Result<(), Fail> {
+    let cases = [
+        DAY,
+        // No input.
+        Case {
+            input: b"",
+            output: b"",
+            ..DAY
+        },
+        // A last line without a line feed.
+        Case {
+            input: b"k1 day 2024-02-01",
+            ..DAY
+        },
+        // Another word.
+        Case {
+            known: false,
+            status: Status::Usage,
+            output: b"",
+            left: b"k1 day 2024-02-01\n",
+            ..DAY
+        },
+        // A second read that fails.
+        Case {
+            reads: &[2],
+            status: Status::ReadFault,
+            ..DAY
+        },
+        // A first read that fails.
+        Case {
+            reads: &[1],
+            status: Status::ReadFault,
+            output: b"",
+            left: b"k1 day 2024-02-01\n",
+            ..DAY
+        },
+        // A sink that fails at once.
+        Case {
+            writes: &[1],
+            status: Status::WriteFault,
+            output: b"",
+            ..DAY
+        },
+    ];
+    for (i, case) in cases.iter().enumerate() {
+        let input = Vec::from_slice(rt.alloc(), case.input)?;
+        let reads = Vec::from_slice(rt.alloc(), case.reads)?;
+        let writes = Vec::from_slice(rt.alloc(), case.writes)?;
+        let end = run_over::<Brand>(rt.alloc(), Blank::new(1), case.known, input, reads, writes)?;
+        assert_eq!(rt; end.status, case.status, "case {i}");
+        assert_eq!(rt; end.output.as_slice(), case.output, "case {i}");
+        assert_eq!(rt; end.left.as_slice(), case.left, "case {i}");
+    }
+    Ok(())
+}
+
+#[test]
+fn a_line_of_513_bytes_is_too_long(rt: HostRuntime) -> Result<(), Fail> {
+    let mut input = vec![in rt.alloc(); b'x'; 6000]?;
+    input.extend_from_slice(b"\nk1 day 2024-02-01\n")?;
+    let none = Vec::new(rt.alloc());
+    let end = run_over::<Brand>(
+        rt.alloc(),
+        Blank::new(1),
+        true,
+        input,
+        none,
+        Vec::new(rt.alloc()),
+    )?;
+    assert_eq!(rt; end.status, Status::Done);
+    assert_eq!(rt; end.output.as_slice(), b"no 99 NotBuilt\nok 1\n".as_slice());
+    Ok(())
+}
+
+#[test]
+fn too_much_input_ends_without_output(rt: HostRuntime) -> Result<(), Fail> {
+    let mut input = vec![in rt.alloc(); b'x'; INPUT_LIMIT as usize]?;
+    input.push(b'y')?;
+    let none = Vec::new(rt.alloc());
+    let end = run_over::<Brand>(
+        rt.alloc(),
+        Blank::new(1),
+        true,
+        input,
+        none,
+        Vec::new(rt.alloc()),
+    )?;
+    assert_eq!(rt; end.status, Status::TooMuch(INPUT_LIMIT));
+    assert_eq!(rt; end.output.len(), 0);
+    assert_eq!(rt; end.left.as_slice(), b"y".as_slice());
+    Ok(())
+}
+
+/// A reader and writer that always fails, and a writer that takes nothing.
+#[derive(Drop)]
+struct Broken;
+
+impl Read for Broken {
+    fn read(&mut self, _buf: &mut [u8]) -> io::Result<usize> {
+        Err(io::Error::from(ErrorKind::Other))
+    }
+}
+
+impl Write for Broken {
+    fn write(&mut self, _buf: &[u8]) -> io::Result<usize> {
+        Ok(0)
+    }
+
+    fn flush(&mut self) -> io::Result<()> {
+        Ok(())
+    }
+}
+
+#[test]
+fn adapters_hand_on_what_is_read_and_written(rt: HostRuntime) -> Result<(), Fail> {
+    let mut room = [0; 4];
+    let mut src = ReadSource::new(b"abc".as_slice());
+    assert_eq!(rt; src.read(&mut room), Ok(3));
+    assert_eq!(rt; &room[..3], b"abc".as_slice());
+    assert_eq!(rt; src.read(&mut room), Ok(0));
+    assert_eq!(rt; ReadSource::new(Broken).read(&mut room), Err(Failed));
+    let mut snk = WriteSink::new(Vec::new(rt.alloc()));
+    assert_eq!(rt; snk.write(b"abc"), Ok(3));
+    assert_eq!(rt; WriteSink::new(Broken).write(b"abc"), Err(Failed));
+    Ok(())
+}
+
+#[test]
+fn calm_objects_never_fail(rt: HostRuntime) -> Result<(), Fail> {
+    let mut room = [0; 2];
+    let mut src = CalmSource::new(Vec::from_slice(rt.alloc(), b"abc")?);
+    assert_eq!(rt; src.read(&mut room), Ok(2));
+    assert_eq!(rt; src.read(&mut room), Ok(1));
+    assert_eq!(rt; src.read(&mut room), Ok(0));
+    assert_eq!(rt; CalmSink::new().write(b"abc"), Ok(3));
+    Ok(())
+}
+
+#[test]
+fn a_status_is_shown_by_number_and_name(rt: HostRuntime) -> Result<(), Fail> {
+    for (status, shown) in [
+        (Status::Done, "0 Done"),
+        (Status::Usage, "2 Usage"),
+        (Status::ReadFault, "3 ReadFault"),
+        (Status::WriteFault, "4 WriteFault"),
+        (Status::TooMuch(67_108_864), "11 TooMuch 67108864"),
+        (Status::OutOfMemory, "12 OutOfMemory"),
+    ] {
+        let text = status.to_string(rt.alloc())?;
+        assert_eq!(rt; text.as_str(), shown);
+    }
+    Ok(())
+}
