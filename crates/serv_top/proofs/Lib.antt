@@ -3,3 +3,4 @@ pub mod MachineLemmas
 pub mod Cutting
 pub mod ServedLemmas
 pub mod Running
+pub mod RequestLemmas

@@ -1,6 +1,7 @@
 pub mod Faults
 pub mod Objects
 pub mod Lines
+pub mod Requests
 pub mod Machine
 pub mod Replies
 pub mod Words

@@ -2,6 +2,8 @@
 #![tactic(auto)]
 
 mod failed;
+mod reading;
+mod request;
 mod serving;
 mod session;
 mod sink;
