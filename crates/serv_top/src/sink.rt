@@ -168,7 +168,9 @@ pub struct WriteSink<W: Write + Drop> {
 
 impl<W: Write + Drop> WriteSink<W> {
     /// A sink that writes to this writer.
-    pub fn new(writer: W) -> WriteSink<W> {
+    pub fn new(writer: W) -> WriteSink<W>
+        ensures faults { ⟦<WriteSink<W> as Sink>⟧.faults result ≡ 0 }
+    {
         WriteSink { writer, faults: 0 }
     }
 }

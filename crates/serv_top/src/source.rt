@@ -154,7 +154,9 @@ pub struct ReadSource<R: Read + Drop> {
 
 impl<R: Read + Drop> ReadSource<R> {
     /// A source that reads from this reader.
-    pub fn new(reader: R) -> ReadSource<R> {
+    pub fn new(reader: R) -> ReadSource<R>
+        ensures faults { ⟦<ReadSource<R> as Source>⟧.faults result ≡ 0 }
+    {
         ReadSource { reader, faults: 0 }
     }
 }
