@@ -4,3 +4,5 @@ pub mod StepLemmas
 pub mod ActLemmas
 pub mod WholeStep
 pub mod BooksLemmas
+pub mod LimitLemmas
+pub mod EventLemmas

@@ -93,7 +93,7 @@ settled_satisfied t d b s h e =
     marked_satisfied d (late_taken t d (moved t (moves t by b) b)) (falls_stays b (late_taken t d (moved t (moves t by b) b)) e last)
 
 -- signs do not speak of the day
-with_day : (t : Terms) (d : ℕ) (b : Books) → HaveSigns t b → HaveSigns t (record b { day = d })
+pub with_day : (t : Terms) (d : ℕ) (b : Books) → HaveSigns t b → HaveSigns t (record b { day = d })
 with_day t d b h = record { upb_low = h.upb_low; upb_high = h.upb_high; next_low = h.next_low; next_high = h.next_high; next_open = h.next_open; suspense = h.suspense; late_owed = h.late_owed; interest = h.interest; fee = h.fee; principal = h.principal; curtailed = h.curtailed; late_paid = h.late_paid; plan = h.plan; earlier = h.earlier }
 
 -- the books behind an event are books of the terms, where their sums stay within the limits
@@ -184,3 +184,9 @@ step_next t e b = omega (arith, settled_next t e.day (marked e.day (happened t e
 
 pub happened_marked_signs : (t : Terms) (d : ℕ) (w : What) (b : Books) → IsWhat w → HaveSigns t b → HaveSigns t (marked d (happened t d w b))
 happened_marked_signs t d w b a h = marked_signs t d (happened t d w b) (happened_signs t d w b a h)
+
+-- nor do books
+pub books_on : (t : Terms) (d : ℕ) (b : Books) → AreBooks t b → AreBooks t (record b { day = d })
+books_on t d b h =
+    let w = h.within in
+    record { signs = with_day t d b h.signs; satisfied = h.satisfied; within = record { escrow_low = w.escrow_low; escrow_high = w.escrow_high; suspense = w.suspense; late_owed = w.late_owed; interest = w.interest; fee = w.fee; principal = w.principal; curtailed = w.curtailed; late_paid = w.late_paid } }

@@ -4,3 +4,4 @@ pub mod Payoff
 pub mod Step
 pub mod Books
 pub mod Events
+pub mod Entries
