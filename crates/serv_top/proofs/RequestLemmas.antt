@@ -17,12 +17,12 @@ pub the-only : (p : ℕ → Bool) (n d : ℕ) → p d ≡ true → d < n → ((x
 the-only p zero d h low only = absurd (omega arith)
 the-only p (suc n) d h low only =
     elim (p n) as (λ v. p n ≡ v → (if v then Some n else the p n) ≡ Some d) [
-        true ↦ λ e. ap Some (only n e)
-        | false ↦ λ e.
-            elim (cases_lt d n) [
-                inl below ↦ the-only p n d h below only
-                | inr same ↦ let at : d ≡ n = omega arith in absurd (false≢true (sym e ∙ ap p (sym at) ∙ h))
-            ]
+      | true ↦ λ e. ap Some (only n e)
+      | false ↦ λ e.
+          elim (cases_lt d n) [
+            | inl below ↦ the-only p n d h below only
+            | inr same ↦ let at : d ≡ n = omega arith in absurd (false≢true (sym e ∙ ap p (sym at) ∙ h))
+          ]
     ] refl
 
 -- none is found where none passes
@@ -43,15 +43,15 @@ to_le a b h = grind arith
 pub same-true : (a b : List ℕ) → a ≡ b → same a b ≡ true
 same-true a b e =
     elim (same a b) as (λ v. same a b ≡ v → v ≡ true) [
-        true ↦ λ h. refl
-        | false ↦ λ h. absurd (other_text a b (sym h) e)
+      | true ↦ λ h. refl
+      | false ↦ λ h. absurd (other_text a b (sym h) e)
     ] refl
 
 pub same-false : (a b : List ℕ) → a ≢ b → same a b ≡ false
 same-false a b n =
     elim (same a b) as (λ v. same a b ≡ v → v ≡ false) [
-        true ↦ λ h. absurd (n (same_text a b (sym h)))
-        | false ↦ λ h. refl
+      | true ↦ λ h. absurd (n (same_text a b (sym h)))
+      | false ↦ λ h. refl
     ] refl
 
 -- ---- days
@@ -86,8 +86,8 @@ pub day_of_text-none : (text : List ℕ) → ((d : ℕ) → IsReadDay d → text
 unfolding day_of_text
 day_of_text-none text none = the-none (spells_day text) days_end (λ x.
     elim (spells_day text x) as (λ v. spells_day text x ≡ v → v ≡ false) [
-        true ↦ λ h. let parts = both_true (is_read_day x) (same (text_of_day x) text) h in absurd (none x (read_day_is x parts.0) (sym (same_text (text_of_day x) text (sym parts.1))))
-        | false ↦ λ h. refl
+      | true ↦ λ h. let parts = both_true (is_read_day x) (same (text_of_day x) text) h in absurd (none x (read_day_is x parts.0) (sym (same_text (text_of_day x) text (sym parts.1))))
+      | false ↦ λ h. refl
     ] refl)
 
 -- ---- keys
@@ -102,11 +102,11 @@ pub key_of_text-none : (text : List ℕ) → (IsKey text → ⊥) → key_of_tex
 unfolding key_of_text is_key
 key_of_text-none text other =
     elim (nat_le 1 (length text) && (nat_le (length text) 32 && list_all is_key_byte text)) as (λ v. (nat_le 1 (length text) && (nat_le (length text) 32 && list_all is_key_byte text)) ≡ v → (if v then Some text else None) ≡ None) [
-        true ↦ λ h.
-            let parts = both_true (nat_le 1 (length text)) (nat_le (length text) 32 && list_all is_key_byte text) h in
-            let rest = both_true (nat_le (length text) 32) (list_all is_key_byte text) parts.1 in
-            absurd (other (record { low = from_le 1 (length text) parts.0; high = from_le (length text) 32 rest.0; each = rest.1 }))
-        | false ↦ λ h. refl
+      | true ↦ λ h.
+          let parts = both_true (nat_le 1 (length text)) (nat_le (length text) 32 && list_all is_key_byte text) h in
+          let rest = both_true (nat_le (length text) 32) (list_all is_key_byte text) parts.1 in
+          absurd (other (record { low = from_le 1 (length text) parts.0; high = from_le (length text) 32 rest.0; each = rest.1 }))
+      | false ↦ λ h. refl
     ] refl
 
 -- a text that is too long is no key

@@ -66,29 +66,29 @@ fn movable(books: &Books, terms: &Terms, by: u32) -> Option<Installment>
 }
 
 /// All that an installment on a balance asks, in cents.
-fn sum_of(open: &Installment, upb: Cents) -> Cents
-    requires { HasParts open.now upb }
-    ensures { result ≡ open.now.interest +ℤ open.now.principal +ℤ open.now.escrow }
+fn sum_of(due: &Installment, upb: Cents) -> Cents
+    requires { HasParts due.now upb }
+    ensures { result ≡ due.now.interest +ℤ due.now.principal +ℤ due.now.escrow }
 {
-    prove!(open.principal <= upb);
-    open.interest + open.principal + open.escrow
+    prove!(due.principal <= upb);
+    due.interest + due.principal + due.escrow
 }
 
 /// Moves the parts of an installment out of suspense.
-fn pay_installment(books: &mut Books, open: &Installment)
+fn pay_installment(books: &mut Books, due: &Installment)
     requires room { HasRoom books.old }
-    requires covered { (open.now.interest +ℤ open.now.principal +ℤ open.now.escrow) ≤ℤ books.old.suspense }
-    requires parts { HasParts open.now books.old.upb }
-    requires next { open.now.k ≤ 480 }
-    ensures { books.new ≡ rule.paid_installment open.now books.old }
+    requires covered { (due.now.interest +ℤ due.now.principal +ℤ due.now.escrow) ≤ℤ books.old.suspense }
+    requires parts { HasParts due.now books.old.upb }
+    requires next { due.now.k ≤ 480 }
+    ensures { books.new ≡ rule.paid_installment due.now books.old }
 {
-    books.suspense -= sum_of(open, books.upb);
-    books.interest += open.interest;
-    books.fee += open.fee;
-    books.principal += open.principal;
-    books.escrow += open.escrow;
-    books.upb -= open.principal;
-    books.next = open.k + 1;
+    books.suspense -= sum_of(due, books.upb);
+    books.interest += due.interest;
+    books.fee += due.fee;
+    books.principal += due.principal;
+    books.escrow += due.escrow;
+    books.upb -= due.principal;
+    books.next = due.k + 1;
 }
 
 /// Pays late charges, where no installment is overdue.

@@ -42,8 +42,8 @@ charged_signs : (t : Terms) (k : ℕ) (b : Books) → HaveSigns t b → HaveSign
 unfolding charged
 charged_signs t k b h =
     elim (int_lt (pos 0) b.upb && nat_le b.next k) as (λ v. HaveSigns t (if v then record b { late_owed = b.late_owed +ℤ share_bp t.pi t.late } else b)) [
-        true ↦ let owed = h.late_owed in let low = share_bp_low t.pi t.late in record { upb_low = h.upb_low; upb_high = h.upb_high; next_low = h.next_low; next_high = h.next_high; next_open = h.next_open; suspense = h.suspense; late_owed = omega (arith, ints); interest = h.interest; fee = h.fee; principal = h.principal; curtailed = h.curtailed; late_paid = h.late_paid; plan = h.plan; earlier = h.earlier }
-        | false ↦ h
+      | true ↦ let owed = h.late_owed in let low = share_bp_low t.pi t.late in record { upb_low = h.upb_low; upb_high = h.upb_high; next_low = h.next_low; next_high = h.next_high; next_open = h.next_open; suspense = h.suspense; late_owed = omega (arith, ints); interest = h.interest; fee = h.fee; principal = h.principal; curtailed = h.curtailed; late_paid = h.late_paid; plan = h.plan; earlier = h.earlier }
+      | false ↦ h
     ]
 
 charged_total : (t : Terms) (k : ℕ) (b : Books) → total (charged t k b) ≡ total b
@@ -56,9 +56,9 @@ le_refl z = omega (arith, ints)
 charged_falls : (t : Terms) (k : ℕ) (b : Books) → Falls b (charged t k b)
 unfolding charged
 charged_falls t k b = elim (int_lt (pos 0) b.upb && nat_le b.next k) as (λ v. Falls b (if v then record b { late_owed = b.late_owed +ℤ share_bp t.pi t.late } else b)) [
-        true ↦ record { upb = le_refl b.upb; satisfied = refl }
-        | false ↦ record { upb = le_refl b.upb; satisfied = refl }
-    ]
+  | true ↦ record { upb = le_refl b.upb; satisfied = refl }
+  | false ↦ record { upb = le_refl b.upb; satisfied = refl }
+]
 
 -- ---- curtailments
 
@@ -109,24 +109,24 @@ payoff_tried_signs : (t : Terms) (d : ℕ) (b : Books) → HaveSigns t b → Hav
 unfolding payoff_tried
 payoff_tried_signs t d b h =
     elim (int_lt (pos 0) b.upb && int_le (payoff_sum t d b) b.suspense) as (λ v. (int_lt (pos 0) b.upb && int_le (payoff_sum t d b) b.suspense) ≡ v → HaveSigns t (if v then paid_off t d b else b)) [
-        true ↦ λ e. paid_off_signs t d b h (from_int_le (payoff_sum t d b) b.suspense (both (int_lt (pos 0) b.upb) (int_le (payoff_sum t d b) b.suspense) e).1)
-        | false ↦ λ e. h
+      | true ↦ λ e. paid_off_signs t d b h (from_int_le (payoff_sum t d b) b.suspense (both (int_lt (pos 0) b.upb) (int_le (payoff_sum t d b) b.suspense) e).1)
+      | false ↦ λ e. h
     ] refl
 
 payoff_tried_total : (t : Terms) (d : ℕ) (b : Books) → total (payoff_tried t d b) ≡ total b
 unfolding payoff_tried
 payoff_tried_total t d b =
     elim (int_lt (pos 0) b.upb && int_le (payoff_sum t d b) b.suspense) as (λ v. (int_lt (pos 0) b.upb && int_le (payoff_sum t d b) b.suspense) ≡ v → total (if v then paid_off t d b else b) ≡ total b) [
-        true ↦ λ e. paid_off_total t d b (both (int_lt (pos 0) b.upb) (int_le (payoff_sum t d b) b.suspense) e).0
-        | false ↦ λ e. refl
+      | true ↦ λ e. paid_off_total t d b (both (int_lt (pos 0) b.upb) (int_le (payoff_sum t d b) b.suspense) e).0
+      | false ↦ λ e. refl
     ] refl
 
 payoff_tried_falls : (t : Terms) (d : ℕ) (b : Books) → pos 0 ≤ℤ b.upb → Falls b (payoff_tried t d b)
 unfolding payoff_tried paid_off
 payoff_tried_falls t d b low =
     elim (int_lt (pos 0) b.upb && int_le (payoff_sum t d b) b.suspense) as (λ v. Falls b (if v then paid_off t d b else b)) [
-        true ↦ record { upb = low; satisfied = refl }
-        | false ↦ record { upb = le_refl b.upb; satisfied = refl }
+      | true ↦ record { upb = low; satisfied = refl }
+      | false ↦ record { upb = le_refl b.upb; satisfied = refl }
     ]
 
 -- ---- deposits, refunds, waivers, analyses
@@ -135,8 +135,8 @@ deposited_signs : (t : Terms) (c : ℤ) (b : Books) → IsSum c → HaveSigns t 
 unfolding deposited
 deposited_signs t c b a h =
     elim (int_lt (pos 0) b.upb) as (λ v. HaveSigns t (if v then record b { escrow = b.escrow +ℤ c } else record b { suspense = b.suspense +ℤ c })) [
-        true ↦ record { upb_low = h.upb_low; upb_high = h.upb_high; next_low = h.next_low; next_high = h.next_high; next_open = h.next_open; suspense = h.suspense; late_owed = h.late_owed; interest = h.interest; fee = h.fee; principal = h.principal; curtailed = h.curtailed; late_paid = h.late_paid; plan = h.plan; earlier = h.earlier }
-        | false ↦ paid_in_signs t c b a h
+      | true ↦ record { upb_low = h.upb_low; upb_high = h.upb_high; next_low = h.next_low; next_high = h.next_high; next_open = h.next_open; suspense = h.suspense; late_owed = h.late_owed; interest = h.interest; fee = h.fee; principal = h.principal; curtailed = h.curtailed; late_paid = h.late_paid; plan = h.plan; earlier = h.earlier }
+      | false ↦ paid_in_signs t c b a h
     ]
 
 deposited_total : (c : ℤ) (b : Books) → total (deposited c b) ≡ total b +ℤ c
@@ -155,8 +155,8 @@ unfolding from_suspense
 from_suspense_bounds c b a low =
     let c_low = a.low in
     elim (int_lt (pos 0) b.upb) as (λ v. (pos 0 ≤ℤ (if v then pos 0 else int_min b.suspense c)) × ((if v then pos 0 else int_min b.suspense c) ≤ℤ b.suspense) × ((if v then pos 0 else int_min b.suspense c) ≤ℤ c)) [
-        true ↦ (omega (arith, ints), low, c_low)
-        | false ↦ (omega (arith, ints, clamps), omega (arith, ints, clamps), omega (arith, ints, clamps))
+      | true ↦ (omega (arith, ints), low, c_low)
+      | false ↦ (omega (arith, ints, clamps), omega (arith, ints, clamps), omega (arith, ints, clamps))
     ]
 
 refunded_signs : (t : Terms) (c : ℤ) (b : Books) → IsSum c → HaveSigns t b → HaveSigns t (refunded c b)

@@ -10,4 +10,3 @@ same_parts d d' u u' n n' e e' s s' l l' i i' f f' p p' c c' q q' a a' b b' o o'
 pub same_books : (a b : Books) → a.day ≡ b.day → a.upb ≡ b.upb → a.next ≡ b.next → a.escrow ≡ b.escrow → a.suspense ≡ b.suspense → a.late_owed ≡ b.late_owed → a.interest ≡ b.interest → a.fee ≡ b.fee → a.principal ≡ b.principal → a.curtailed ≡ b.curtailed → a.late_paid ≡ b.late_paid → a.plan ≡ b.plan → a.earlier ≡ b.earlier → a.satisfied ≡ b.satisfied → a ≡ b
 same_books a b day upb next escrow suspense late_owed interest fee principal curtailed late_paid plan earlier satisfied =
     same_parts a.day b.day a.upb b.upb a.next b.next a.escrow b.escrow a.suspense b.suspense a.late_owed b.late_owed a.interest b.interest a.fee b.fee a.principal b.principal a.curtailed b.curtailed a.late_paid b.late_paid a.plan b.plan a.earlier b.earlier a.satisfied b.satisfied day upb next escrow suspense late_owed interest fee principal curtailed late_paid plan earlier satisfied
-

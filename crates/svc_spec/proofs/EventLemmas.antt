@@ -29,8 +29,8 @@ insert_all : (P : Event → Type 0) (e : Event) (xs : List Event) → P e → Al
 insert_all P e [] p h = All-cons P e [] p h
 insert_all P e (x ∷ xs) p h =
     elim (nat_le e.day x.day) as (λ v. All P (if v then e ∷ x ∷ xs else x ∷ insert_event e xs)) [
-        true ↦ All-cons P e (x ∷ xs) p h
-        | false ↦ All-cons P x (insert_event e xs) (All-head P x xs h) (insert_all P e xs p (All-tail P x xs h))
+      | true ↦ All-cons P e (x ∷ xs) p h
+      | false ↦ All-cons P x (insert_event e xs) (All-head P x xs h) (insert_all P e xs p (All-tail P x xs h))
     ]
 
 -- what holds of all events holds of them by day
@@ -59,8 +59,8 @@ insert_turn : (d : ℕ) (e : Event) (xs : List Event) → d ≤ e.day → AreInT
 insert_turn d e [] late h = (late, tt)
 insert_turn d e (x ∷ xs) late h =
     elim (nat_le e.day x.day) as (λ v. nat_le e.day x.day ≡ v → AreInTurn d (if v then e ∷ x ∷ xs else x ∷ insert_event e xs)) [
-        true ↦ λ p. (late, (from_nat_le e.day x.day p, h.1))
-        | false ↦ λ p. let later = from_not_nat_le e.day x.day p in (h.0, insert_turn x.day e xs (omega arith) h.1)
+      | true ↦ λ p. (late, (from_nat_le e.day x.day p, h.1))
+      | false ↦ λ p. let later = from_not_nat_le e.day x.day p in (h.0, insert_turn x.day e xs (omega arith) h.1)
     ] refl
 
 pub by_day_turn : (d : ℕ) (xs : List Event) → All (λ x. d ≤ x.day) xs → AreInTurn d (by_day xs)
@@ -82,8 +82,8 @@ insert_weights : (e : Event) (xs : List Event) → weights (insert_event e xs) �
 insert_weights e [] = refl
 insert_weights e (x ∷ xs) =
     elim (nat_le e.day x.day) as (λ v. weights (if v then e ∷ x ∷ xs else x ∷ insert_event e xs) ≡ weight e.what + (weight x.what + weights xs)) [
-        true ↦ refl
-        | false ↦ omega (arith, insert_weights e xs)
+      | true ↦ refl
+      | false ↦ omega (arith, insert_weights e xs)
     ]
 
 by_day_weights : (xs : List Event) → weights (by_day xs) ≡ weights xs
@@ -94,8 +94,8 @@ up_to_weights : (d : ℕ) (xs : List Event) → weights (up_to d xs) ≤ weights
 up_to_weights d [] = omega arith
 up_to_weights d (x ∷ xs) =
     elim (nat_le x.day d) as (λ v. weights (cond v (x ∷ up_to d xs) (up_to d xs)) ≤ weight x.what + weights xs) [
-        true ↦ omega (arith, up_to_weights d xs)
-        | false ↦ omega (arith, up_to_weights d xs)
+      | true ↦ omega (arith, up_to_weights d xs)
+      | false ↦ omega (arith, up_to_weights d xs)
     ]
 
 months_weights : (m n : ℕ) → weights (month_marks_from m n) ≡ 0
@@ -134,20 +134,20 @@ late_step m n few =
     let place : day_in_month (first_day m) ≡ 1 = omega arith in
     let next = day_after_least (first_day (m + 1)) n in
     elim (nat_le (1 + n) (month_length m)) as (λ v. nat_le (1 + n) (month_length m) ≡ v → day_after (first_day m) n ≤ day_after (first_day (m + 1)) n) [
-        true ↦ λ e.
-            let fits = from_nat_le (1 + n) (month_length m) e in
-            omega (arith, day_after_within (first_day m) n (rw (month, place) fits))
-        | false ↦ λ e.
-            let past = from_not_nat_le (1 + n) (month_length m) e in
-            let is : IsDay (first_day m) = rw (month, place) (omega arith) in
-            let beyond = day_after_beyond (first_day m) n is (rw (month, place) past) in
-            let left : day_in_month (first_day m) + n - month_length (month_of (first_day m)) - 1 ≡ n - month_length m = rw (month, place) (omega arith) in
-            let later : first_day (month_of (first_day m) + 1) ≡ first_day (m + 1) = ap (λ x. first_day (x + 1)) month in
-            let steps = beyond ∙ ap (λ x. day_after x (day_in_month (first_day m) + n - month_length (month_of (first_day m)) - 1)) later ∙ ap (day_after (first_day (m + 1))) left in
-            let month' : month_of (first_day (m + 1)) ≡ m + 1 = omega arith in
-            let place' : day_in_month (first_day (m + 1)) ≡ 1 = omega arith in
-            let near = day_after_within (first_day (m + 1)) (n - month_length m) (rw (month', place') (omega arith)) in
-            omega arith
+      | true ↦ λ e.
+          let fits = from_nat_le (1 + n) (month_length m) e in
+          omega (arith, day_after_within (first_day m) n (rw (month, place) fits))
+      | false ↦ λ e.
+          let past = from_not_nat_le (1 + n) (month_length m) e in
+          let is : IsDay (first_day m) = rw (month, place) (omega arith) in
+          let beyond = day_after_beyond (first_day m) n is (rw (month, place) past) in
+          let left : day_in_month (first_day m) + n - month_length (month_of (first_day m)) - 1 ≡ n - month_length m = rw (month, place) (omega arith) in
+          let later : first_day (month_of (first_day m) + 1) ≡ first_day (m + 1) = ap (λ x. first_day (x + 1)) month in
+          let steps = beyond ∙ ap (λ x. day_after x (day_in_month (first_day m) + n - month_length (month_of (first_day m)) - 1)) later ∙ ap (day_after (first_day (m + 1))) left in
+          let month' : month_of (first_day (m + 1)) ≡ m + 1 = omega arith in
+          let place' : day_in_month (first_day (m + 1)) ≡ 1 = omega arith in
+          let near = day_after_within (first_day (m + 1)) (n - month_length m) (rw (month', place') (omega arith)) in
+          omega arith
     ] refl
 
 pub late_day_rises : (t : Terms) (k : ℕ) → IsSound t → 1 ≤ k → late_day t k ≤ late_day t (k + 1)
@@ -196,11 +196,11 @@ can_fold_step t b e es s h =
     let room = h.room in
     let same : 4_600 - weights (e ∷ es) + weight e.what ≡ 4_600 - weights es = omega arith in
     record {
-        books = step_books t e b s a h.books (can_fold_within t b e es s h);
-        turn = rw (step_day t e b) h.turn.1;
-        whats = All-tail (λ e. IsWhat e.what) e es h.whats;
-        room = omega arith;
-        bounded = subst (λ n. AreBounded n (step t e b)) same (step_bounded t e (4_600 - weights (e ∷ es)) b s a h.books.signs h.bounded)
+      books = step_books t e b s a h.books (can_fold_within t b e es s h);
+      turn = rw (step_day t e b) h.turn.1;
+      whats = All-tail (λ e. IsWhat e.what) e es h.whats;
+      room = omega arith;
+      bounded = subst (λ n. AreBounded n (step t e b)) same (step_bounded t e (4_600 - weights (e ∷ es)) b s a h.books.signs h.bounded);
     }
 
 -- the books behind any first part of the events are books of the terms, and take the others
@@ -259,11 +259,11 @@ can_fold_start t live d s h few =
     let term = s.term_high in
     let room : weights (events_to t live d) ≤ 4_600 = omega (arith, events_weights t live d) in
     record {
-        books = start_books t s;
-        turn = rw (start_day t) (events_turn t live d s h);
-        whats = events_whats t live d h;
-        room = room;
-        bounded = bounded_more 0 (4_600 - weights (events_to t live d)) (start t) (omega arith) (start_bounded t)
+      books = start_books t s;
+      turn = rw (start_day t) (events_turn t live d s h);
+      whats = events_whats t live d h;
+      room = room;
+      bounded = bounded_more 0 (4_600 - weights (events_to t live d)) (start t) (omega arith) (start_bounded t);
     }
 
 -- the books behind any first part of a loan's events are books of its terms, and take the others

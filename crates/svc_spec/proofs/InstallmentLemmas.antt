@@ -25,8 +25,8 @@ pub principal_part_bounds : (t : Terms) (u : ℤ) (k : ℕ) → IsSound t → Is
 unfolding principal_part
 principal_part_bounds t u k s h =
     elim (k == t.term) as (λ v. (pos 0 ≤ℤ (if v then u else level_principal t u)) × ((if v then u else level_principal t u) ≤ℤ u)) [
-        true ↦ (h.low, omega (arith, ints))
-        | false ↦ level_principal_bounds t u s h
+      | true ↦ (h.low, omega (arith, ints))
+      | false ↦ level_principal_bounds t u s h
     ]
 
 pub asked_bounds : (start months m : ℕ) (z : ℤ) → IsSum z → IsSum (asked start months m z)
@@ -47,8 +47,8 @@ pub escrow_part_bounds : (p q : EscrowPlan) (m : ℕ) → IsPlan p → IsPlan q 
 unfolding escrow_part
 escrow_part_bounds p q m hp hq =
     elim (nat_le p.start m) as (λ v. (pos 0 ≤ℤ escrow_of_plan (if v then p else q) m) × (escrow_of_plan (if v then p else q) m ≤ℤ pos 300_000_000_000_000)) [
-        true ↦ escrow_of_plan_bounds p m hp
-        | false ↦ escrow_of_plan_bounds q m hq
+      | true ↦ escrow_of_plan_bounds p m hp
+      | false ↦ escrow_of_plan_bounds q m hq
     ]
 
 pub whole_part_low : (t : Terms) (p q : EscrowPlan) (u : ℤ) (k : ℕ) → IsSound t → IsPlan p → IsPlan q → IsBalance t u → pos 0 ≤ℤ whole_part t p q u k

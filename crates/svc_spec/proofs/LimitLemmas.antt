@@ -60,8 +60,8 @@ charged_backed t k n b s h =
     let pi : IsAmount t.pi = let a = s.pi_low in let z = s.pi_high in (omega (arith, ints), omega (arith, ints)) in
     let most = share_bp_most t.pi t.late pi (let late = s.late in omega arith) in
     elim (int_lt (pos 0) b.upb && nat_le b.next k) as (λ v. AreBacked (n + 1) (if v then record b { late_owed = b.late_owed +ℤ share_bp t.pi t.late } else b)) [
-        true ↦ record { escrow = omega (arith, ints); fee = h.fee; curtailed = h.curtailed; late_owed = omega (arith, ints) }
-        | false ↦ record { escrow = omega (arith, ints); fee = h.fee; curtailed = h.curtailed; late_owed = omega (arith, ints) }
+      | true ↦ record { escrow = omega (arith, ints); fee = h.fee; curtailed = h.curtailed; late_owed = omega (arith, ints) }
+      | false ↦ record { escrow = omega (arith, ints); fee = h.fee; curtailed = h.curtailed; late_owed = omega (arith, ints) }
     ]
 
 curtailed_backed : (c : ℤ) (n : ℕ) (b : Books) → AreBacked n b → AreBacked (n + 1) (curtailed c b)
@@ -84,8 +84,8 @@ payoff_tried_backed t d n b s signs h =
     let escrow = h.escrow in
     let owed = h.late_owed in
     elim (int_lt (pos 0) b.upb && int_le (payoff_sum t d b) b.suspense) as (λ v. AreBacked (n + 1) (if v then paid_off t d b else b)) [
-        true ↦ paid_off_backed t d n b s signs h
-        | false ↦ record { escrow = omega (arith, ints); fee = h.fee; curtailed = h.curtailed; late_owed = omega (arith, ints) }
+      | true ↦ paid_off_backed t d n b s signs h
+      | false ↦ record { escrow = omega (arith, ints); fee = h.fee; curtailed = h.curtailed; late_owed = omega (arith, ints) }
     ]
 
 deposited_backed : (c : ℤ) (n : ℕ) (b : Books) → IsSum c → AreBacked n b → AreBacked (n + 1) (deposited c b)
@@ -95,8 +95,8 @@ deposited_backed c n b a h =
     let escrow = h.escrow in
     let owed = h.late_owed in
     elim (int_lt (pos 0) b.upb) as (λ v. AreBacked (n + 1) (if v then record b { escrow = b.escrow +ℤ c } else record b { suspense = b.suspense +ℤ c })) [
-        true ↦ record { escrow = omega (arith, ints); fee = h.fee; curtailed = h.curtailed; late_owed = omega (arith, ints) }
-        | false ↦ record { escrow = omega (arith, ints); fee = h.fee; curtailed = h.curtailed; late_owed = omega (arith, ints) }
+      | true ↦ record { escrow = omega (arith, ints); fee = h.fee; curtailed = h.curtailed; late_owed = omega (arith, ints) }
+      | false ↦ record { escrow = omega (arith, ints); fee = h.fee; curtailed = h.curtailed; late_owed = omega (arith, ints) }
     ]
 
 refunded_backed : (t : Terms) (c : ℤ) (n : ℕ) (b : Books) → IsSum c → HaveSigns t b → AreBacked n b → AreBacked (n + 1) (refunded c b)
@@ -174,20 +174,20 @@ late_taken_backed : (t : Terms) (d n : ℕ) (b : Books) → HaveSigns t b → Ar
 unfolding late_taken
 late_taken_backed t d n b signs h =
     elim (is_overdue t d b) as (λ v. AreBacked n (if v then b else late_paid b)) [
-        true ↦ h
-        | false ↦
-            let suspense = signs.suspense in
-            let before = signs.late_owed in
-            let owed = h.late_owed in
-            record { escrow = h.escrow; fee = h.fee; curtailed = h.curtailed; late_owed = omega (arith, ints, clamps) }
+      | true ↦ h
+      | false ↦
+          let suspense = signs.suspense in
+          let before = signs.late_owed in
+          let owed = h.late_owed in
+          record { escrow = h.escrow; fee = h.fee; curtailed = h.curtailed; late_owed = omega (arith, ints, clamps) }
     ]
 
 marked_backed : (d n : ℕ) (b : Books) → AreBacked n b → AreBacked n (marked d b)
 unfolding marked
 marked_backed d n b h =
     elim (int_le b.upb (pos 0) && is_none b.satisfied) as (λ v. AreBacked n (if v then record b { satisfied = Some d } else b)) [
-        true ↦ record { escrow = h.escrow; fee = h.fee; curtailed = h.curtailed; late_owed = h.late_owed }
-        | false ↦ h
+      | true ↦ record { escrow = h.escrow; fee = h.fee; curtailed = h.curtailed; late_owed = h.late_owed }
+      | false ↦ h
     ]
 
 settled_backed : (t : Terms) (d n : ℕ) (b : Books) → IsSound t → HaveSigns t b → AreBacked n b → AreBacked n (settled t d b)
@@ -242,8 +242,8 @@ step_bounded t e n b s a signs h =
     let out = w.paid_out in
     let before = h.total in
     record {
-        backed = step_backed t e n b s a signs h.backed;
-        total = omega (arith, ints, step_total t e b s a signs)
+      backed = step_backed t e n b s a signs h.backed;
+      total = omega (arith, ints, step_total t e b s a signs);
     }
 
 -- up to 4,600 units all sums are within the limits
@@ -259,20 +259,20 @@ bounded_within t n b few signs h =
     let principal = signs.principal in
     let paid = signs.late_paid in
     record {
-        escrow_low = omega (arith, ints);
-        escrow_high = omega (arith, ints);
-        suspense = omega (arith, ints);
-        late_owed = omega (arith, ints);
-        interest = omega (arith, ints);
-        fee = omega (arith, ints);
-        principal = omega (arith, ints);
-        curtailed = omega (arith, ints);
-        late_paid = omega (arith, ints)
+      escrow_low = omega (arith, ints);
+      escrow_high = omega (arith, ints);
+      suspense = omega (arith, ints);
+      late_owed = omega (arith, ints);
+      interest = omega (arith, ints);
+      fee = omega (arith, ints);
+      principal = omega (arith, ints);
+      curtailed = omega (arith, ints);
+      late_paid = omega (arith, ints);
     }
 
 pub start_bounded : (t : Terms) → AreBounded 0 (start t)
 unfolding start
 start_bounded t = record {
-    backed = record { escrow = omega (arith, ints); fee = omega (arith, ints); curtailed = omega (arith, ints); late_owed = omega (arith, ints) };
-    total = omega (arith, ints)
+  backed = record { escrow = omega (arith, ints); fee = omega (arith, ints); curtailed = omega (arith, ints); late_owed = omega (arith, ints) };
+  total = omega (arith, ints);
 }

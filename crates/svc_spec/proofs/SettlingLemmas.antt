@@ -34,8 +34,8 @@ greatest_shift : (p q : ℕ → Bool) (n : ℕ) → ((k : ℕ) → p (suc k) ≡
 greatest_shift p q zero h first = rw first
 greatest_shift p q (suc n) h first =
     elim (q (suc n)) as (λ v. q (suc n) ≡ v → greatest p (suc (suc n)) ≡ suc (cond v (suc n) (greatest q n))) [
-        true ↦ λ e. rw (h (suc n), e)
-        | false ↦ λ e. rw (h (suc n), e) (greatest_shift p q n h first)
+      | true ↦ λ e. rw (h (suc n), e)
+      | false ↦ λ e. rw (h (suc n), e) (greatest_shift p q n h first)
     ] refl
 
 -- nothing passes where no number above 0 does
@@ -54,8 +54,8 @@ need_low t p q u k (suc j) s hp hq h =
 le_shift : (a x s : ℤ) → int_le (a +ℤ x) s ≡ int_le x (s -ℤ a)
 le_shift a x s =
     elim (int_le (a +ℤ x) s) as (λ v. int_le (a +ℤ x) s ≡ v → v ≡ int_le x (s -ℤ a)) [
-        true ↦ λ e. let h = from_int_le (a +ℤ x) s e in sym (int_le-true x (s -ℤ a) (omega (arith, ints)))
-        | false ↦ λ e. let h = from_not_int_le (a +ℤ x) s e in sym (int_le-false x (s -ℤ a) (omega (arith, ints)))
+      | true ↦ λ e. let h = from_int_le (a +ℤ x) s e in sym (int_le-true x (s -ℤ a) (omega (arith, ints)))
+      | false ↦ λ e. let h = from_not_int_le (a +ℤ x) s e in sym (int_le-false x (s -ℤ a) (omega (arith, ints)))
     ] refl
 
 -- suspense covers one more installment exactly where what the first leaves covers the others
@@ -70,9 +70,9 @@ both false b h = cc
 
 le_zero : (a s : ℤ) → int_le (a +ℤ pos 0) s ≡ int_le a s
 le_zero a s = elim (int_le a s) as (λ v. int_le a s ≡ v → int_le (a +ℤ pos 0) s ≡ v) [
-        true ↦ λ e. let h = from_int_le a s e in int_le-true (a +ℤ pos 0) s (omega (arith, ints))
-        | false ↦ λ e. let h = from_not_int_le a s e in int_le-false (a +ℤ pos 0) s (omega (arith, ints))
-    ] refl
+  | true ↦ λ e. let h = from_int_le a s e in int_le-true (a +ℤ pos 0) s (omega (arith, ints))
+  | false ↦ λ e. let h = from_not_int_le a s e in int_le-false (a +ℤ pos 0) s (omega (arith, ints))
+] refl
 
 can_move_one : (t : Terms) (b : Books) → int_lt (pos 0) b.upb ≡ true → int_le (whole_part t b.plan b.earlier b.upb b.next) b.suspense ≡ true → can_move t b 1 ≡ true
 unfolding they_exist need
@@ -95,27 +95,27 @@ cannot_move : (t : Terms) (b : Books) (k : ℕ) → IsSound t → HaveSigns t b 
 unfolding they_exist need
 cannot_move t b k s h e =
     elim (int_lt (pos 0) b.upb) as (λ v. int_lt (pos 0) b.upb ≡ v → (int_lt (pos 0) b.upb && they_exist t (b.upb -ℤ principal_part t b.upb b.next) (suc b.next) k && int_le (whole_part t b.plan b.earlier b.upb b.next +ℤ need t b.plan b.earlier (b.upb -ℤ principal_part t b.upb b.next) (suc b.next) k) b.suspense) ≡ false) [
-        true ↦ λ owed.
-            let lacks : int_le (whole_part t b.plan b.earlier b.upb b.next) b.suspense ≡ false = rw owed at e in
-            let more = from_not_int_le (whole_part t b.plan b.earlier b.upb b.next) b.suspense lacks in
-            let balance : IsBalance t b.upb = record { low = h.upb_low; high = h.upb_high } in
-            let rest = need_low t b.plan b.earlier (b.upb -ℤ principal_part t b.upb b.next) (suc b.next) k s h.plan h.earlier (balance_left t b.upb b.next s balance) in
-            let short : int_le (whole_part t b.plan b.earlier b.upb b.next +ℤ need t b.plan b.earlier (b.upb -ℤ principal_part t b.upb b.next) (suc b.next) k) b.suspense ≡ false = int_le-false (whole_part t b.plan b.earlier b.upb b.next +ℤ need t b.plan b.earlier (b.upb -ℤ principal_part t b.upb b.next) (suc b.next) k) b.suspense (omega (arith, ints)) in
-            rw short (and_false _)
-        | false ↦ λ paid. rw paid
+      | true ↦ λ owed.
+          let lacks : int_le (whole_part t b.plan b.earlier b.upb b.next) b.suspense ≡ false = rw owed at e in
+          let more = from_not_int_le (whole_part t b.plan b.earlier b.upb b.next) b.suspense lacks in
+          let balance : IsBalance t b.upb = record { low = h.upb_low; high = h.upb_high } in
+          let rest = need_low t b.plan b.earlier (b.upb -ℤ principal_part t b.upb b.next) (suc b.next) k s h.plan h.earlier (balance_left t b.upb b.next s balance) in
+          let short : int_le (whole_part t b.plan b.earlier b.upb b.next +ℤ need t b.plan b.earlier (b.upb -ℤ principal_part t b.upb b.next) (suc b.next) k) b.suspense ≡ false = int_le-false (whole_part t b.plan b.earlier b.upb b.next +ℤ need t b.plan b.earlier (b.upb -ℤ principal_part t b.upb b.next) (suc b.next) k) b.suspense (omega (arith, ints)) in
+          rw short (and_false _)
+      | false ↦ λ paid. rw paid
     ] refl
 
 pub moves_none : (t : Terms) (by : ℕ) (b : Books) → IsSound t → HaveSigns t b → is_movable t by b ≡ false → moves t by b ≡ 0
 unfolding moves
 moves_none t by b s h e =
     elim (nat_le (due_month t b.next) by) as (λ v. nat_le (due_month t b.next) by ≡ v → greatest (can_move t b) (due_count t by b.next) ≡ 0) [
-        true ↦ λ due.
-            let lacks : (int_lt (pos 0) b.upb && int_le (whole_part t b.plan b.earlier b.upb b.next) b.suspense) ≡ false = rw due at e in
-            greatest_none (can_move t b) (due_count t by b.next) (λ k. cannot_move t b k s h lacks)
-        | false ↦ λ late.
-            let past : by < due_month t b.next = from_not_nat_le (due_month t b.next) by late in
-            let none : due_count t by b.next ≡ 0 = omega arith in
-            rw none
+      | true ↦ λ due.
+          let lacks : (int_lt (pos 0) b.upb && int_le (whole_part t b.plan b.earlier b.upb b.next) b.suspense) ≡ false = rw due at e in
+          greatest_none (can_move t b) (due_count t by b.next) (λ k. cannot_move t b k s h lacks)
+      | false ↦ λ late.
+          let past : by < due_month t b.next = from_not_nat_le (due_month t b.next) by late in
+          let none : due_count t by b.next ≡ 0 = omega arith in
+          rw none
     ] refl
 
 -- ---- what the test of the open installment answers

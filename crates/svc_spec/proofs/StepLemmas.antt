@@ -48,8 +48,8 @@ open_behind : (t : Terms) (b : Books) → HaveSigns t b → CanPay t b → pos 0
 open_behind t b h c left =
     let last = h.next_open c.owed in
     elim (b.next == t.term) as (λ v. (b.next == t.term) ≡ v → suc b.next ≤ t.term) [
-        true ↦ λ e. let same : b.next ≡ t.term = from_nat_eq b.next t.term e in let all = last_takes_all t b same in absurd (omega (arith, ints))
-        | false ↦ λ e. let other = from_not_nat_eq b.next t.term e in omega arith
+      | true ↦ λ e. let same : b.next ≡ t.term = from_nat_eq b.next t.term e in let all = last_takes_all t b same in absurd (omega (arith, ints))
+      | false ↦ λ e. let other = from_not_nat_eq b.next t.term e in omega arith
     ] refl
 
 pub moved_one_signs : (t : Terms) (b : Books) → IsSound t → HaveSigns t b → CanPay t b → HaveSigns t (moved_one t b)
@@ -73,12 +73,12 @@ unfolding moved
 moved_keeps t by P s keep zero b e h p = (h, p)
 moved_keeps t by P s keep (suc n) b e h p =
     elim (is_movable t by b) as (λ v. is_movable t by b ≡ v → HaveSigns t (moved t n (moved_one t b)) × P (moved t n (moved_one t b))) [
-        true ↦ λ m.
-            let c = can_pay t by b m in
-            let more = moves_more t by b h.next_low m in
-            let less : moves t by (moved_one t b) ≡ n = omega arith in
-            moved_keeps t by P s keep n (moved_one t b) less (moved_one_signs t b s h c) (keep b h c p)
-        | false ↦ λ m. let none = moves_none t by b s h m in absurd (omega arith)
+      | true ↦ λ m.
+          let c = can_pay t by b m in
+          let more = moves_more t by b h.next_low m in
+          let less : moves t by (moved_one t b) ≡ n = omega arith in
+          moved_keeps t by P s keep n (moved_one t b) less (moved_one_signs t b s h c) (keep b h c p)
+      | false ↦ λ m. let none = moves_none t by b s h m in absurd (omega arith)
     ] refl
 
 -- ---- late charges and the mark of a satisfied loan
@@ -87,20 +87,20 @@ pub late_taken_signs : (t : Terms) (d : ℕ) (b : Books) → HaveSigns t b → H
 unfolding late_taken
 late_taken_signs t d b h =
     elim (is_overdue t d b) as (λ v. HaveSigns t (if v then b else late_paid b)) [
-        true ↦ h
-        | false ↦
-            let suspense = h.suspense in
-            let owed = h.late_owed in
-            let paid = h.late_paid in
-            record { upb_low = h.upb_low; upb_high = h.upb_high; next_low = h.next_low; next_high = h.next_high; next_open = h.next_open; suspense = omega (arith, ints, clamps); late_owed = omega (arith, ints, clamps); interest = h.interest; fee = h.fee; principal = h.principal; curtailed = h.curtailed; late_paid = omega (arith, ints, clamps); plan = h.plan; earlier = h.earlier }
+      | true ↦ h
+      | false ↦
+          let suspense = h.suspense in
+          let owed = h.late_owed in
+          let paid = h.late_paid in
+          record { upb_low = h.upb_low; upb_high = h.upb_high; next_low = h.next_low; next_high = h.next_high; next_open = h.next_open; suspense = omega (arith, ints, clamps); late_owed = omega (arith, ints, clamps); interest = h.interest; fee = h.fee; principal = h.principal; curtailed = h.curtailed; late_paid = omega (arith, ints, clamps); plan = h.plan; earlier = h.earlier }
     ]
 
 pub late_taken_total : (t : Terms) (d : ℕ) (b : Books) → total (late_taken t d b) ≡ total b
 unfolding late_taken
 late_taken_total t d b =
     elim (is_overdue t d b) as (λ v. total (if v then b else late_paid b) ≡ total b) [
-        true ↦ refl
-        | false ↦ omega (arith, ints)
+      | true ↦ refl
+      | false ↦ omega (arith, ints)
     ]
 
 pub marked_signs : (t : Terms) (d : ℕ) (b : Books) → HaveSigns t b → HaveSigns t (marked d b)

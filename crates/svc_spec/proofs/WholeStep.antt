@@ -24,7 +24,6 @@ use Rattle.svc_spec.specs.Step.{paid_in, charged, curtailed, paid_off, payoff_tr
 use Rattle.svc_spec.specs.Books.{IsSum, IsPlan, HaveSigns, AreWithin, AreBooks, IsAct, IsWhat, total, boarding_plan, start}
 use Rattle.svc_spec.proofs.InstallmentLemmas.{IsBalance, principal_part_bounds, escrow_part_bounds}
 use Rattle.svc_spec.proofs.SettlingLemmas.{moves_more, moves_none, both, from_nat_eq, from_not_nat_eq}
-
 use Rattle.svc_spec.proofs.StepLemmas.{CanPay, moved_one_signs, moved_one_total, moved_keeps, late_taken_signs, late_taken_total, marked_signs, marked_total}
 use Rattle.svc_spec.proofs.ActLemmas.{Falls, happened_signs, happened_total, happened_falls}
 
@@ -43,8 +42,8 @@ late_taken_falls : (t : Terms) (d : ℕ) (a b : Books) → Falls a b → Falls a
 unfolding late_taken
 late_taken_falls t d a b f =
     elim (is_overdue t d b) as (λ v. Falls a (if v then b else late_paid b)) [
-        true ↦ f
-        | false ↦ record { upb = f.upb; satisfied = f.satisfied }
+      | true ↦ f
+      | false ↦ record { upb = f.upb; satisfied = f.satisfied }
     ]
 
 pub settled_signs : (t : Terms) (d : ℕ) (b : Books) → IsSound t → HaveSigns t b → HaveSigns t (settled t d b)
@@ -70,11 +69,11 @@ marked_satisfied : (d : ℕ) (b : Books) → StaysPaid b → is_some (marked d b
 unfolding marked
 marked_satisfied d b stays =
     elim (int_le b.upb (pos 0)) as (λ v. int_le b.upb (pos 0) ≡ v → (let x : Books = if v && is_none b.satisfied then record b { satisfied = Some d } else b in is_some x.satisfied ≡ int_le x.upb (pos 0))) [
-        true ↦ λ e. elim b.satisfied as (λ o. b.satisfied ≡ o → (let x : Books = if is_none o then record b { satisfied = Some d } else b in is_some x.satisfied ≡ int_le x.upb (pos 0))) [ None ↦ λ p. sym e | Some day ↦ λ p. rw (p, e) ] refl
-        | false ↦ λ e. elim (is_some b.satisfied) as (λ o. is_some b.satisfied ≡ o → is_some b.satisfied ≡ int_le b.upb (pos 0)) [
-            true ↦ λ p. let low = stays p in let high = from_not_int_le b.upb (pos 0) e in absurd (omega (arith, ints))
-            | false ↦ λ p. p ∙ sym e
-        ] refl
+      | true ↦ λ e. elim b.satisfied as (λ o. b.satisfied ≡ o → (let x : Books = if is_none o then record b { satisfied = Some d } else b in is_some x.satisfied ≡ int_le x.upb (pos 0))) [ None ↦ λ p. sym e | Some day ↦ λ p. rw (p, e) ] refl
+      | false ↦ λ e. elim (is_some b.satisfied) as (λ o. is_some b.satisfied ≡ o → is_some b.satisfied ≡ int_le b.upb (pos 0)) [
+        | true ↦ λ p. let low = stays p in let high = from_not_int_le b.upb (pos 0) e in absurd (omega (arith, ints))
+        | false ↦ λ p. p ∙ sym e
+      ] refl
     ] refl
 
 falls_stays : (a b : Books) → is_some a.satisfied ≡ int_le a.upb (pos 0) → Falls a b → StaysPaid b
@@ -126,9 +125,9 @@ start_books t s =
     let escrow : IsSum t.escrow = let a = s.escrow_low in let z = s.escrow_high in record { low = omega (arith, ints); high = omega (arith, ints) } in
     let plan : IsPlan (boarding_plan t) = record { base = escrow; credit = none; short = none; short_months = omega arith; deficient = none; deficient_months = omega arith } in
     record {
-        signs = record { upb_low = omega (arith, ints); upb_high = omega (arith, ints); next_low = omega arith; next_high = omega arith; next_open = λ owed. term; suspense = omega (arith, ints); late_owed = omega (arith, ints); interest = omega (arith, ints); fee = omega (arith, ints); principal = omega (arith, ints); curtailed = omega (arith, ints); late_paid = omega (arith, ints); plan = plan; earlier = plan };
-        satisfied = sym (int_le-false t.principal (pos 0) (omega (arith, ints)));
-        within = record { escrow_low = omega (arith, ints); escrow_high = omega (arith, ints); suspense = omega (arith, ints); late_owed = omega (arith, ints); interest = omega (arith, ints); fee = omega (arith, ints); principal = omega (arith, ints); curtailed = omega (arith, ints); late_paid = omega (arith, ints) }
+      signs = record { upb_low = omega (arith, ints); upb_high = omega (arith, ints); next_low = omega arith; next_high = omega arith; next_open = λ owed. term; suspense = omega (arith, ints); late_owed = omega (arith, ints); interest = omega (arith, ints); fee = omega (arith, ints); principal = omega (arith, ints); curtailed = omega (arith, ints); late_paid = omega (arith, ints); plan = plan; earlier = plan };
+      satisfied = sym (int_le-false t.principal (pos 0) (omega (arith, ints)));
+      within = record { escrow_low = omega (arith, ints); escrow_high = omega (arith, ints); suspense = omega (arith, ints); late_owed = omega (arith, ints); interest = omega (arith, ints); fee = omega (arith, ints); principal = omega (arith, ints); curtailed = omega (arith, ints); late_paid = omega (arith, ints) };
     }
 
 -- ---- the number of the open installment rises by the installments that are moved

@@ -69,7 +69,7 @@ boarding_plan t = record {
   short = pos 0;
   short_months = 0;
   deficient = pos 0;
-  deficient_months = 0
+  deficient_months = 0;
 }
 
 -- the books at boarding
@@ -88,7 +88,7 @@ start t = record {
   late_paid = pos 0;
   plan = boarding_plan t;
   earlier = boarding_plan t;
-  satisfied = None
+  satisfied = None;
 }
 
 -- an act whose amounts a step takes

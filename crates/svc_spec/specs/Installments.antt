@@ -66,7 +66,7 @@ installment t b = record {
   interest = interest_part t b.upb;
   fee = fee_part t b.upb;
   principal = principal_part t b.upb b.next;
-  escrow = escrow_part b.plan b.earlier (due_month t b.next)
+  escrow = escrow_part b.plan b.earlier (due_month t b.next);
 }
 
 -- none is open where the loan is satisfied

@@ -44,7 +44,7 @@ paid_installment i b = record b {
   principal = b.principal +ℤ i.principal;
   escrow = b.escrow +ℤ i.escrow;
   upb = b.upb -ℤ i.principal;
-  next = suc i.k
+  next = suc i.k;
 }
 
 -- the books after the open installment is paid
@@ -69,7 +69,7 @@ abbrev pub late_paid : Books → Books
 late_paid b = record b {
   suspense = b.suspense -ℤ int_min b.suspense b.late_owed;
   late_owed = b.late_owed -ℤ int_min b.suspense b.late_owed;
-  late_paid = b.late_paid +ℤ int_min b.suspense b.late_owed
+  late_paid = b.late_paid +ℤ int_min b.suspense b.late_owed;
 }
 
 -- late charges are paid only where no installment is overdue

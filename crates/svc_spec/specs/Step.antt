@@ -28,7 +28,7 @@ curtailed c b = record b {
   upb = b.upb -ℤ int_min b.upb c;
   principal = b.principal +ℤ int_min b.upb c;
   curtailed = b.curtailed +ℤ int_min b.upb c;
-  suspense = b.suspense +ℤ (c -ℤ int_min b.upb c)
+  suspense = b.suspense +ℤ (c -ℤ int_min b.upb c);
 }
 
 -- a loan that is paid off from suspense: balance, day interest, late charges and escrow advanced
@@ -41,7 +41,7 @@ paid_off t day b = record b {
   upb = pos 0;
   late_paid = b.late_paid +ℤ b.late_owed;
   late_owed = pos 0;
-  escrow = b.escrow +ℤ escrow_advanced b
+  escrow = b.escrow +ℤ escrow_advanced b;
 }
 
 -- a payoff happens where suspense covers it; else its money waits
@@ -60,7 +60,7 @@ from_suspense c b = if int_lt (pos 0) b.upb then pos 0 else int_min b.suspense c
 unfoldable pub refunded : ℤ → Books → Books
 refunded c b = record b {
   suspense = b.suspense -ℤ from_suspense c b;
-  escrow = b.escrow -ℤ (c -ℤ from_suspense c b)
+  escrow = b.escrow -ℤ (c -ℤ from_suspense c b);
 }
 
 -- late charges that are given up
@@ -77,7 +77,7 @@ unfoldable pub analysed : Settled → Books → Books
 analysed s b = record b {
   escrow = b.escrow -ℤ s.refund;
   plan = s.plan;
-  earlier = plan_before s.plan b
+  earlier = plan_before s.plan b;
 }
 
 -- what an act does on a day
