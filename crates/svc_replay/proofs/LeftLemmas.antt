@@ -1,17 +1,16 @@
 -- The first of the events that are left, of each kind and of all.
-use Rattle.std.proofs.Common.{◌≡◌, ℕ, zero, suc, ◌+◌, ◌*◌, ◌-◌, ◌≤◌, ◌<◌, Bool, true, false, cond, List, [], ◌∷◌, ◌++◌, length, map, drop, get_or, drop-cons, arith, refl, sym, ap, subst, ◌∙◌, append_assoc}
-use Rattle.std.specs.Prelude.{◌&&◌, nat_le, if◌then◌else◌, Option, Some, None}
+use Rattle.std.proofs.Common.{◌≡◌, ℕ, zero, suc, ◌+◌, ◌-◌, ◌≤◌, ◌<◌, true, false, List, [], ◌∷◌, ◌++◌, length, map, drop, get_or, drop-cons, arith, refl, sym, ap, ◌∙◌, append_assoc}
+use Rattle.std.specs.Prelude.{◌&&◌, nat_le, Option, Some, None}
 use Rattle.std.specs.List.{All, AllPairs}
-use Rattle.std.proofs.lemmas.List.Elements.{All-cons, All-head, All-tail, All-append, All-map, All-filter}
+use Rattle.std.proofs.lemmas.List.Elements.{All-cons, All-tail, All-append, All-map, All-filter}
 use Rattle.svc_base.specs.Calendar.{month_of, first_day}
 use Rattle.svc_types.specs.declared.terms.Terms.{Terms}
 use Rattle.svc_types.specs.declared.account.Entry.{Entry}
 use Rattle.svc_types.specs.declared.account.Event.{Event}
-use Rattle.svc_types.specs.declared.account.What.{What}
 use Rattle.svc_types.specs.declared.account.What.TheVariants as what
 use Rattle.svc_types.specs.Terms.{IsSound}
-use Rattle.svc_spec.specs.Events.{month_mark, month_marks_from, late_day, late_mark, late_marks_from, up_to, event_of, entry_events, by_day, events_to}
-use Rattle.svc_spec.proofs.SettlingLemmas.{both, from_nat_le, from_not_nat_le}
+use Rattle.svc_spec.specs.Events.{late_day, late_mark, late_marks_from, up_to, event_of, by_day, events_to}
+use Rattle.svc_spec.proofs.SettlingLemmas.{from_nat_le, from_not_nat_le}
 use Rattle.svc_spec.proofs.EventLemmas.{by_day_first, months_since, lates_since, late_day_rises, up_to_none, up_to_more}
 use Rattle.svc_replay.specs.Left.{months_left, lates_left, entries_left, left, IsFirst, Follows, leads}
 

@@ -1,11 +1,11 @@
 //! A walk over the events of a loan in their order, without a list of them.
 
 ghost use Rattle.std.specs.Prelude.{◌≡◌, ◌+◌, ◌≤◌, ◌<◌, length, IfSome};
+ghost use Rattle.std.specs.List.{AllPairs};
 ghost use Rattle.svc_base.specs.Calendar.{IsReadDay, months_end, month_of as month_number};
 ghost use Rattle.svc_types.specs.Terms.{IsSound};
 ghost use Rattle.svc_spec.specs.Entries.{AreEntries};
 ghost use Rattle.svc_replay.specs.Left as rule;
-ghost use Rattle.std.specs.List.{AllPairs};
 
 use svc_base::{Day, Month, add_days, add_months, first_day, month_of};
 use svc_types::{Entry, Event, Terms, What};
@@ -57,6 +57,7 @@ impl Cursor {
         Some(event)
     }
 
+    /// The next month mark, where its day is not past the day.
     fn month_mark(&self, day: Day) -> Option<Event>
         ensures bound { IfSome result (λ event. self.now.month + 1 < months_end) }
         ensures first { rule.IsFirst result (rule.months_left self.now.month day) (rule.months_left (self.now.month + 1) day) }
@@ -70,6 +71,8 @@ impl Cursor {
         })
     }
 
+    /// The next late mark, where its day is not past the day: the first day behind the grace of its
+    /// installment.
     fn late_mark(&self, terms: &Terms, day: Day) -> Option<Event>
         requires terms { IsSound terms.now }
         requires boarded { IsReadDay terms.now.boarded }
@@ -90,6 +93,7 @@ impl Cursor {
         })
     }
 
+    /// The next entry, where its day is not past the day.
     fn entry_event(&self, live: &[Entry], day: Day) -> Option<Event>
         requires order { AllPairs (λ a b. a.day ≤ b.day) live.now }
         ensures bound { IfSome result (λ event. self.now.entry < length live.now) }

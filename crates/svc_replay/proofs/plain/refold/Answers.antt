@@ -1,4 +1,4 @@
-use Rattle.std.proofs.Common.{◌≡◌, ◌+◌, ◌∷◌, [], length, ap, arith}
+use Rattle.std.proofs.Common.{◌≡◌, ◌∷◌, length, ap, arith}
 use Rattle.std.proofs.lemmas.List.Elements.{All-head}
 use Rattle.svc_types.specs.declared.books.Books.{Books}
 use Rattle.svc_types.specs.declared.account.Event.{Event}

@@ -1,4 +1,4 @@
-use Rattle.std.proofs.Common.{◌≡◌, ◌+◌, [], ◌≤◌, ◌<◌, arith, rules}
+use Rattle.std.proofs.Common.{[], ◌≤◌, ◌<◌, arith, rules}
 use Rattle.svc_replay.proofs.LeftLemmas.{entry_past, entry_some}
 use Rattle.svc_replay.proofs.cursor.Cursor.entry_event.Goals as goal
 

@@ -1,6 +1,6 @@
-use Rattle.std.proofs.Common.{◌≡◌, ◌+◌, Bool, true, false, sym, ◌∙◌, arith}
+use Rattle.std.proofs.Common.{◌≡◌, ◌+◌, false, sym, ◌∙◌}
 use Rattle.std.specs.Prelude.{◌&&◌}
-use Rattle.svc_replay.specs.Left.{months_left, lates_left, entries_left, left, leads, Follows}
+use Rattle.svc_replay.specs.Left.{months_left, lates_left, entries_left, left, leads}
 use Rattle.svc_replay.proofs.LeftLemmas.{month_first, late_first, entry_first}
 use Rattle.svc_replay.proofs.cursor.Cursor.next.Goals as goal
 use Rattle.svc_replay.proofs.cursor.Cursor.next.Goals.{else-leads-via-then-leads+else-leads-2, else-leads-via-else-leads}
