@@ -3,4 +3,9 @@ pub mod MachineLemmas
 pub mod Cutting
 pub mod ServedLemmas
 pub mod Running
-pub mod RequestLemmas
+pub mod ValueLemmas
+pub mod WordLemmas
+pub mod FormLemmas
+pub mod FormFacts
+pub mod AnswerLemmas
+pub mod WorldLemmas

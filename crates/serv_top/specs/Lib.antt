@@ -1,7 +1,8 @@
 pub mod Faults
 pub mod Objects
 pub mod Lines
-pub mod Requests
+pub mod Values
+pub mod Forms
 pub mod Machine
 pub mod Replies
 pub mod Words
@@ -9,3 +10,5 @@ pub mod Status
 pub mod Outcome
 pub mod Serving
 pub mod Stop
+pub mod Answers
+pub mod World

@@ -1,63 +1,53 @@
--- The machine that answers lines: what it has accepted, its reply to one line, and what it has
--- accepted after it. Commands that set the business day are built; every other line gets NotBuilt.
-use Rattle.std.specs.Prelude.{ℕ, ◌+◌, ◌-◌, ◌*◌, nat_lt, Bool, not, ◌&&◌, List, [], ◌∷◌, ◌++◌, length, slice_get, Option, Some, None, codes, if◌then◌else◌}
-use Rattle.std.specs.List.{list_any}
+-- The machine that answers lines: its reply to one line over what it holds, and what it holds after it.
+use Rattle.std.specs.Prelude.{ℕ, ◌+◌, List, [], ◌∷◌, ◌++◌, length, Option, Some, None, codes}
 use Rattle.std.specs.Fmt.{decimal}
-use Rattle.serv_top.specs.declared.request.DayCommand.{DayCommand}
-use Rattle.serv_top.specs.Requests.{same, day_command}
+use Rattle.svc_base.specs.Text.{text_of_day}
+use Rattle.serv_top.specs.declared.form.Form.{Form}
+use Rattle.serv_top.specs.declared.form.Form.TheVariants as form
+use Rattle.serv_top.specs.declared.loan.Loan.{Loan}
+use Rattle.serv_top.specs.declared.verdict.Verdict.{Verdict}
+use Rattle.serv_top.specs.declared.verdict.Verdict.TheVariants as verdict
+use Rattle.serv_top.specs.Forms.{form_of}
+use Rattle.serv_top.specs.Answers.{reply_of_books}
+use Rattle.serv_top.specs.World as world
+use Rattle.serv_top.specs.World.{World, empty_world, find_loan, loan_books, command_verdict, after_verdict}
 
--- the accepted commands, in order
+-- what the machine has accepted, as what it holds
 abbrev pub History : Type 0
-History = List DayCommand
+History = World
 
 -- nothing was accepted yet
 unfoldable pub empty_history : History
-empty_history = []
+empty_history = empty_world
 
--- the day before the first command: 1990-01-01
-abbrev pub first_business_day : ℕ
-first_business_day = 31 * (12 * 1990)
+-- the text of a verdict, with its line feed; the number is that of the command
+abbrev pub text_of_verdict : ℕ → Verdict → List ℕ
+text_of_verdict number verdict.Accepted = codes "ok " ++ decimal number ++ 10 ∷ []
+text_of_verdict number verdict.NotBuilt = codes "no 99 NotBuilt" ++ 10 ∷ []
+text_of_verdict number verdict.NoSuchLoan = codes "no 5 NoSuchLoan" ++ 10 ∷ []
+text_of_verdict number (verdict.FutureDated d) = codes "no 9 FutureDated " ++ text_of_day d ++ 10 ∷ []
 
--- the day of the last command, if there is one
-abbrev pub day_or_first : Option DayCommand → ℕ
-day_or_first None = first_business_day
-day_or_first (Some c) = c.day
+-- the answer to a query for the books of a loan, on the business day
+abbrev pub text_of_books : ℕ → ℕ → Option Loan → List ℕ
+text_of_books today id None = codes "no 5 NoSuchLoan" ++ 10 ∷ []
+text_of_books today id (Some l) = reply_of_books id l.terms (loan_books l today)
 
--- the business day: that of the last accepted command
-abbrev pub business_day : History → ℕ
-business_day history = day_or_first (slice_get history (length history - 1))
+-- the reply to a form, if a line has one
+abbrev pub reply_to_form : History → Option Form → List ℕ
+reply_to_form w None = codes "no 99 NotBuilt" ++ 10 ∷ []
+reply_to_form w (Some (form.Do key c)) = text_of_verdict (length w.keys + 1) (command_verdict w key c)
+reply_to_form w (Some (form.Books id)) = text_of_books w.today id (find_loan w.loans id)
 
--- whether a command with a key was accepted
-abbrev pub is_known : History → List ℕ → Bool
-is_known history key = list_any (λ c. same c.key key) history
-
--- whether a command may follow: its key is new, its day is later, and there is room for its number
-abbrev pub may_follow : History → DayCommand → Bool
-may_follow history c = nat_lt (length history) 1_000_000 && (nat_lt (business_day history) c.day && not (is_known history c.key))
-
--- a command, where it may follow
-abbrev pub if_it_may : History → Option DayCommand → Option DayCommand
-if_it_may history None = None
-if_it_may history (Some c) = if may_follow history c then Some c else None
-
--- the command of a line that is accepted
-unfoldable pub accepted_by : History → List ℕ → Option DayCommand
-accepted_by history line = if_it_may history (day_command line)
-
--- the text of a reply, with its line feed: the command's number, or that the line is not built
-abbrev pub reply_text : History → Option DayCommand → List ℕ
-reply_text history None = codes "no 99 NotBuilt" ++ 10 ∷ []
-reply_text history (Some c) = codes "ok " ++ decimal (length history + 1) ++ 10 ∷ []
-
--- the history with an accepted command
-abbrev pub extended : History → Option DayCommand → History
-extended history None = history
-extended history (Some c) = history ++ c ∷ []
+-- what is held after a form
+abbrev pub after_form : History → Option Form → History
+after_form w None = w
+after_form w (Some (form.Do key c)) = after_verdict w key c (command_verdict w key c)
+after_form w (Some (form.Books id)) = w
 
 -- the reply to a line
 unfoldable pub reply_to : History → List ℕ → List ℕ
-reply_to history line = reply_text history (accepted_by history line)
+reply_to w line = reply_to_form w (form_of line)
 
--- what is accepted after the line
+-- what is held after a line
 unfoldable pub history_after : History → List ℕ → History
-history_after history line = extended history (accepted_by history line)
+history_after w line = after_form w (form_of line)

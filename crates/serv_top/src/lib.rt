@@ -1,15 +1,22 @@
 //! The program's top call: request lines from a source, replies to a sink, and the status of the run.
 #![tactic(auto)]
 
+mod answers;
 mod failed;
-mod reading;
-mod request;
+mod form;
+mod form_reading;
+mod form_values;
+mod form_words;
+mod judging;
+mod loan;
+mod replies;
 mod serving;
 mod session;
 mod sink;
 mod source;
 mod status;
 mod top;
+mod verdict;
 
 pub use failed::Failed;
 pub use sink::{CalmSink, MemSink, Sink, WriteSink};

@@ -129,6 +129,63 @@ fn each_status_has_its_output_and_rest(rt: HostRuntime) -> Result<(), Fail> {
     Ok(())
 }
 
+/// A loan of 200,000.00 at 6 percent whose first installment, 1,199.10, is due on 2024-02-01.
+const BOARDED: &str =
+    "k1 day 2024-02-01\nk2 board 1 2023-12-15 200000.00 6000 250 1199.10 360 2024-02 15 500 2 0.00 SS\n";
+
+/// What `j session` replies to these lines over the loan above.
+fn replies_to<L: Ledger>(alloc: Global, blank: Blank, lines: &str) -> Result<String, AllocError>
+    requires name { blank.name ≡ L.name }
+    requires parts { blank.parts ≡ L.parts }
+    requires some { 0 < L.parts }
+{
+    let input = format!(in alloc; "{BOARDED}{lines}")?.into_bytes();
+    let end = run_over::<L>(alloc, blank, true, input, Vec::new(alloc), Vec::new(alloc))?;
+    String::from_utf8_lossy(alloc, &end.output)
+}
+
+#[test]
+fn a_first_payment_is_booked(rt: HostRuntime) -> Result<(), Fail> {
+    let replies = replies_to::<Brand>(
+        rt.alloc(),
+        Blank::new(1),
+        "k3 pay 1 2024-02-01 1199.10\n? books 1\n",
+    )?;
+    assert_eq!(rt;
+        replies.as_str(),
+        "ok 1\nok 2\nok 3\nbooks 1 2024-02-01 upb 199800.90 next 2024-03 escrow 0.00 suspense 0.00 late 0.00 interest 1000.00 fee 41.67 principal 199.10 charges 0.00 pay 1199.10\n"
+    );
+    Ok(())
+}
+
+#[test]
+fn a_refused_payment_changes_nothing(rt: HostRuntime) -> Result<(), Fail> {
+    let replies = replies_to::<Brand>(
+        rt.alloc(),
+        Blank::new(1),
+        "k3 pay 1 2024-02-01 1199.09\nk3 pay 7 2024-02-01 1199.10\nk3 pay 1 2024-02-02 1199.10\n? books 7\nk2 pay 1 2024-02-01 1199.10\nk3 pay 1 2024-02-01 1199.10\n",
+    )?;
+    assert_eq!(rt;
+        replies.as_str(),
+        "ok 1\nok 2\nno 99 NotBuilt\nno 5 NoSuchLoan\nno 9 FutureDated 2024-02-01\nno 5 NoSuchLoan\nno 99 NotBuilt\nok 3\n"
+    );
+    Ok(())
+}
+
+#[test]
+fn a_day_on_which_a_loan_is_late_is_not_built(rt: HostRuntime) -> Result<(), Fail> {
+    let replies = replies_to::<Brand>(
+        rt.alloc(),
+        Blank::new(1),
+        "k3 day 2024-02-17\nk3 day 2024-02-01\nk3 day 2024-02-16\n",
+    )?;
+    assert_eq!(rt;
+        replies.as_str(),
+        "ok 1\nok 2\nno 99 NotBuilt\nno 99 NotBuilt\nok 3\n"
+    );
+    Ok(())
+}
+
 #[test]
 fn a_line_of_513_bytes_is_too_long(rt: HostRuntime) -> Result<(), Fail> {
     let mut input = vec![in rt.alloc(); b'x'; 6000]?;

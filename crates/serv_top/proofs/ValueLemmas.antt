@@ -10,7 +10,7 @@ use Rattle.svc_base.specs.Calendar.{IsDay, IsReadDay, month_of, day_in_month, mo
 use Rattle.svc_base.specs.Text.{text_of_day, IsCivilDay}
 use Rattle.svc_base.proofs.TextLemmas.{day_injective}
 use Rattle.svc_types.specs.Keys.{IsKey, is_key_byte}
-use Rattle.serv_top.specs.Requests.{same, the, days_end, is_read_day, spells_day, day_of_text, is_key, key_of_text, both_parts, key_part, word_part, day_part, day_command}
+use Rattle.serv_top.specs.Values.{same, the, days_end, is_read_day, spells_day, day_of_text, is_key, key_of_text}
 
 -- the one number that passes is found
 pub the-only : (p : ℕ → Bool) (n d : ℕ) → p d ≡ true → d < n → ((x : ℕ) → p x ≡ true → x ≡ d) → the p n ≡ Some d
@@ -30,14 +30,14 @@ pub the-none : (p : ℕ → Bool) (n : ℕ) → ((x : ℕ) → p x ≡ false) �
 the-none p zero none = refl
 the-none p (suc n) none = rw (none n) (the-none p n none)
 
-both_true : (a b : Bool) → (a && b) ≡ true → (a ≡ true) × (b ≡ true)
+pub both_true : (a b : Bool) → (a && b) ≡ true → (a ≡ true) × (b ≡ true)
 both_true true b h = (refl, h)
 both_true false b h = cc
 
-from_le : (a b : ℕ) → nat_le a b ≡ true → a ≤ b
+pub from_le : (a b : ℕ) → nat_le a b ≡ true → a ≤ b
 from_le a b h = grind arith
 
-to_le : (a b : ℕ) → a ≤ b → nat_le a b ≡ true
+pub to_le : (a b : ℕ) → a ≤ b → nat_le a b ≡ true
 to_le a b h = grind arith
 
 pub same-true : (a b : List ℕ) → a ≡ b → same a b ≡ true
@@ -56,7 +56,7 @@ same-false a b n =
 
 -- ---- days
 
-read_day_is : (d : ℕ) → is_read_day d ≡ true → IsReadDay d
+pub read_day_is : (d : ℕ) → is_read_day d ≡ true → IsReadDay d
 read_day_is d h =
     let parts = both_true (nat_le (day_in_month d) (month_length (month_of d))) (nat_le 1990 (year_of_month (month_of d)) && nat_le (year_of_month (month_of d)) 2099) h in
     let years = both_true (nat_le 1990 (year_of_month (month_of d))) (nat_le (year_of_month (month_of d)) 2099) parts.1 in
@@ -112,24 +112,6 @@ key_of_text-none text other =
 -- a text that is too long is no key
 pub key_of_text-long : (text : List ℕ) → 32 < length text → key_of_text text ≡ None
 key_of_text-long text long = key_of_text-none text (λ k. let high = k.high in absurd (omega arith))
-
--- ---- lines
-
--- a line that is as short as what stands behind a key spells no command
-pub day_command-short : (line : List ℕ) → length line ≤ 15 → day_command line ≡ None
-unfolding day_command
-day_command-short line short =
-    let front : length (key_part line) ≡ 0 = simp length-take (omega arith) in
-    let key : key_of_text (key_part line) ≡ None = key_of_text-none (key_part line) (λ k. let low = k.low in absurd (omega arith)) in
-    elim (same (word_part line) (codes " day ")) as (λ v. (if v then both_parts (key_of_text (key_part line)) (day_of_text (day_part line)) else None) ≡ None) [ true ↦ rw key | false ↦ refl ]
-
--- nor does one with a key that is too long
-pub day_command-long : (line : List ℕ) → 512 < length line → day_command line ≡ None
-unfolding day_command
-day_command-long line long =
-    let front : length (key_part line) ≡ length line - 15 = length-take-le (length line - 15) line (omega arith) in
-    let key : key_of_text (key_part line) ≡ None = key_of_text-long (key_part line) (omega arith) in
-    elim (same (word_part line) (codes " day ")) as (λ v. (if v then both_parts (key_of_text (key_part line)) (day_of_text (day_part line)) else None) ≡ None) [ true ↦ rw key | false ↦ refl ]
 
 pub ruleset key_rules = (key_of_text-some, key_of_text-none)
 

@@ -1,11 +1,10 @@
--- Request lines: how a command is spelled, and which command a line spells.
+-- The values that the words of a request line spell.
 use Rattle.std.specs.Prelude.{ℕ, zero, suc, ◌+◌, ◌-◌, ◌*◌, nat_le, nat_eq, Bool, ◌&&◌, List, ◌++◌, length, take, drop, Option, Some, None, codes, if◌then◌else◌}
 use Rattle.std.specs.List.{list_all}
 use Rattle.std.specs.Cmp.Lexicographic.{pointwise}
 use Rattle.svc_base.specs.Calendar.{month_of, day_in_month, month_length, year_of_month}
 use Rattle.svc_base.specs.Text.{text_of_day}
 use Rattle.svc_types.specs.Keys.{is_key_byte}
-use Rattle.serv_top.specs.declared.request.DayCommand.{DayCommand}
 
 -- two texts are the same
 abbrev pub same : List ℕ → List ℕ → Bool
@@ -36,30 +35,6 @@ day_of_text text = the (spells_day text) days_end
 unfoldable pub is_key : List ℕ → Bool
 is_key text = nat_le 1 (length text) && (nat_le (length text) 32 && list_all is_key_byte text)
 
--- a command that sets the business day: its key, its word and the day
-abbrev pub day_line : DayCommand → List ℕ
-day_line c = c.key ++ codes " day " ++ text_of_day c.day
-
--- the parts of such a line, counted from its end
-abbrev pub key_part : List ℕ → List ℕ
-key_part line = take (length line - 15) line
-
-abbrev pub word_part : List ℕ → List ℕ
-word_part line = take 5 (drop (length line - 15) line)
-
-abbrev pub day_part : List ℕ → List ℕ
-day_part line = drop 5 (drop (length line - 15) line)
-
 -- the key that a text is, if it may be one
 unfoldable pub key_of_text : List ℕ → Option (List ℕ)
 key_of_text text = if is_key text then Some text else None
-
--- the command of a key and a day, where both are there
-abbrev pub both_parts : Option (List ℕ) → Option ℕ → Option DayCommand
-both_parts None day = None
-both_parts (Some key) None = None
-both_parts (Some key) (Some day) = Some (record { key = key; day = day })
-
--- the command that a line spells
-unfoldable pub day_command : List ℕ → Option DayCommand
-day_command line = if same (word_part line) (codes " day ") then both_parts (key_of_text (key_part line)) (day_of_text (day_part line)) else None
