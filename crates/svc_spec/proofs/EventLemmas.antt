@@ -240,7 +240,7 @@ events_turn t live d s h =
     let entries : All P (entry_events live d) = All-filter (λ e. nat_le e.day d) P (map event_of live) (All-map P event_of live h.since) in
     by_day_turn t.boarded (month_marks t d ++ late_marks t d ++ entry_events live d) (All-append P (month_marks t d ++ late_marks t d) (entry_events live d) (All-append P (month_marks t d) (late_marks t d) months lates) entries)
 
-events_whats : (t : Terms) (live : List Entry) (d : ℕ) → AreEntries t live → All (λ e. IsWhat e.what) (events_to t live d)
+pub events_whats : (t : Terms) (live : List Entry) (d : ℕ) → AreEntries t live → All (λ e. IsWhat e.what) (events_to t live d)
 events_whats t live d h =
     let P : Event → Type 0 = λ e. IsWhat e.what in
     events_all P t live d (months_whats (month_of t.boarded + 1) (month_of d - month_of t.boarded)) (All-filter (λ e. nat_le e.day d) P (late_marks_from t 1 t.term) (lates_whats t 1 t.term)) (All-filter (λ e. nat_le e.day d) P (map event_of live) (All-map P event_of live h.acts))

@@ -6,3 +6,4 @@ pub mod WholeStep
 pub mod BooksLemmas
 pub mod LimitLemmas
 pub mod EventLemmas
+pub mod MoneyLemmas

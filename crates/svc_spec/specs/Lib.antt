@@ -5,3 +5,4 @@ pub mod Step
 pub mod Books
 pub mod Events
 pub mod Entries
+pub mod Totals
