@@ -224,7 +224,7 @@ lates_whats t k zero = λ j d lt. absurd (omega arith)
 lates_whats t k (suc n) = All-cons (λ e. IsWhat e.what) (late_mark t k) (late_marks_from t (k + 1) n) tt (lates_whats t (k + 1) n)
 
 -- what holds of all marks and entries holds of the events
-events_all : (P : Event → Type 0) (t : Terms) (live : List Entry) (d : ℕ) → All P (month_marks t d) → All P (late_marks t d) → All P (entry_events live d) → All P (events_to t live d)
+pub events_all : (P : Event → Type 0) (t : Terms) (live : List Entry) (d : ℕ) → All P (month_marks t d) → All P (late_marks t d) → All P (entry_events live d) → All P (events_to t live d)
 unfolding events_to
 events_all P t live d months lates entries = by_day_all P (month_marks t d ++ late_marks t d ++ entry_events live d) (All-append P (month_marks t d ++ late_marks t d) (entry_events live d) (All-append P (month_marks t d) (late_marks t d) months lates) entries)
 

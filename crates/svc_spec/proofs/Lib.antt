@@ -6,3 +6,5 @@ pub mod WholeStep
 pub mod BooksLemmas
 pub mod LimitLemmas
 pub mod EventLemmas
+pub mod AccountLemmas
+pub mod CostLemmas

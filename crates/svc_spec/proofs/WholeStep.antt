@@ -141,7 +141,7 @@ late_taken_next : (t : Terms) (d : ℕ) (b : Books) → (late_taken t d b).next 
 unfolding late_taken
 late_taken_next t d b = elim (is_overdue t d b) as (λ v. (let x : Books = if v then b else late_paid b in x.next ≡ b.next)) [ true ↦ refl | false ↦ refl ]
 
-marked_next : (d : ℕ) (b : Books) → (marked d b).next ≡ b.next
+pub marked_next : (d : ℕ) (b : Books) → (marked d b).next ≡ b.next
 unfolding marked
 marked_next d b = elim (int_le b.upb (pos 0) && is_none b.satisfied) as (λ v. (let x : Books = if v then record b { satisfied = Some d } else b in x.next ≡ b.next)) [ true ↦ refl | false ↦ refl ]
 
@@ -163,7 +163,7 @@ deposited_next : (c : ℤ) (b : Books) → (deposited c b).next ≡ b.next
 unfolding deposited
 deposited_next c b = elim (int_lt (pos 0) b.upb) as (λ v. (let x : Books = if v then record b { escrow = b.escrow +ℤ c } else record b { suspense = b.suspense +ℤ c } in x.next ≡ b.next)) [ true ↦ refl | false ↦ refl ]
 
-happened_next : (t : Terms) (d : ℕ) (w : What) (b : Books) → (happened t d w b).next ≡ b.next
+pub happened_next : (t : Terms) (d : ℕ) (w : What) (b : Books) → (happened t d w b).next ≡ b.next
 unfolding curtailed refunded analysed
 happened_next t d what.MonthMark b = refl
 happened_next t d (what.LateMark k) b = charged_next t k b

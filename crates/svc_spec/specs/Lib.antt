@@ -5,3 +5,5 @@ pub mod Step
 pub mod Books
 pub mod Events
 pub mod Entries
+pub mod Accounts
+pub mod Months
