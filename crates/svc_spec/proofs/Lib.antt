@@ -7,3 +7,5 @@ pub mod BooksLemmas
 pub mod LimitLemmas
 pub mod EventLemmas
 pub mod MoneyLemmas
+pub mod AccountLemmas
+pub mod CostLemmas

@@ -1,6 +1,6 @@
 -- The money of a loan's books is what its live entries brought in, less what they paid out.
-use Rattle.std.proofs.Common.{◌≡◌, ℕ, zero, suc, ◌+◌, ◌-◌, ◌≤◌, Bool, true, false, cond, List, [], ◌∷◌, ◌++◌, map, arith, refl, sym, ap, ◌∙◌}
-use Rattle.std.specs.Prelude.{ℤ, pos, ◌+ℤ◌, nat_le, not, if◌then◌else◌}
+use Rattle.std.proofs.Common.{◌≡◌, ℕ, zero, suc, ◌+◌, ◌-◌, ◌≤◌, true, false, cond, List, [], ◌∷◌, ◌++◌, arith, refl, ap, ◌∙◌}
+use Rattle.std.specs.Prelude.{ℤ, pos, ◌+ℤ◌, ◌-ℤ◌, nat_le, not, if◌then◌else◌}
 use Rattle.std.specs.List.{All, filter}
 use Rattle.std.proofs.lemmas.List.Elements.{All-head, All-tail}
 use Rattle.std.proofs.lemmas.Int.{ints}
@@ -15,15 +15,18 @@ use Rattle.svc_types.specs.declared.account.What.{What}
 use Rattle.svc_types.specs.declared.account.What.TheVariants as what
 use Rattle.svc_types.specs.Terms.{IsSound}
 use Rattle.svc_types.specs.Live.{is_before, placed, placed_onto, is_reversed, is_live, live_entries}
+use Rattle.svc_types.proofs.OrderLemmas.{live_all}
 use Rattle.svc_spec.specs.Step.{step, brought, paid_out, brought_by, paid_out_by}
 use Rattle.svc_spec.specs.Books.{HaveSigns, IsWhat, total, start}
 use Rattle.svc_spec.specs.Entries.{AreEntries}
-use Rattle.svc_spec.specs.Events.{month_mark, month_marks_from, month_marks, late_mark, late_marks_from, late_marks, up_to, event_of, entry_events, insert_event, by_day, events_to, folded, books_at}
-use Rattle.svc_spec.specs.Totals.{sum_with, refunded, disbursed, brought_in, paid_back, paid_away}
+use Rattle.svc_spec.specs.Events.{month_marks_from, month_marks, late_mark, late_marks_from, late_marks, up_to, entry_events, insert_event, by_day, events_to, folded, books_at}
+use Rattle.svc_spec.specs.Accounts.{Account, live_of, books_of, IsAccount}
+use Rattle.svc_spec.specs.Totals.{sum_with, paid_back_by, paid_away_by, brought_in, paid_back, paid_away, received, returned, refunded, disbursed}
 use Rattle.svc_spec.proofs.SettlingLemmas.{nat_le-true}
 use Rattle.svc_spec.proofs.WholeStep.{step_total, start_books}
 use Rattle.svc_spec.proofs.LimitLemmas.{step_signs}
 use Rattle.svc_spec.proofs.EventLemmas.{events_whats}
+use Rattle.svc_spec.proofs.AccountLemmas.{live_entries_fold}
 
 -- ---- sums over lists
 
@@ -63,9 +66,9 @@ months_sum f none m (suc n) = omega (arith, ints, months_sum f none (m + 1) n)
 
 up_to_sum : (f : What → ℤ) (d : ℕ) (x : Event) (xs : List Event) → f x.what ≡ pos 0 → of_events f (up_to d (x ∷ xs)) ≡ of_events f (up_to d xs)
 up_to_sum f d x xs none = elim (nat_le x.day d) as (λ v. of_events f (cond v (x ∷ up_to d xs) (up_to d xs)) ≡ of_events f (up_to d xs)) [
-      | true ↦ omega (arith, ints)
-      | false ↦ refl
-    ]
+  | true ↦ omega (arith, ints)
+  | false ↦ refl
+]
 
 lates_sum : (f : What → ℤ) → ((k : ℕ) → f (what.LateMark k) ≡ pos 0) → (t : Terms) (d k n : ℕ) → of_events f (up_to d (late_marks_from t k n)) ≡ pos 0
 lates_sum f none t d k zero = refl
@@ -107,7 +110,7 @@ start_total : (t : Terms) → total (start t) ≡ pos 0
 unfolding start
 start_total t = refl
 
-two_ways : (a : Act) → paid_out a ≡ refunded a +ℤ disbursed a
+two_ways : (a : Act) → paid_out a ≡ paid_back_by a +ℤ paid_away_by a
 two_ways (Pay c) = refl
 two_ways (Curtail c) = refl
 two_ways (Payoff c) = refl
@@ -125,7 +128,7 @@ live_total t live d s h until =
     let none = start_total t in
     let in_all = events_sum brought_by (record { month = refl; late = λ k. refl }) t live d until in
     let out_all = events_sum paid_out_by (record { month = refl; late = λ k. refl }) t live d until in
-    let out_both = sum_both (λ (e : Entry). paid_out e.act) (λ (e : Entry). refunded e.act) (λ (e : Entry). disbursed e.act) (λ e. two_ways e.act) live in
+    let out_both = sum_both (λ (e : Entry). paid_out e.act) (λ (e : Entry). paid_back_by e.act) (λ (e : Entry). paid_away_by e.act) (λ e. two_ways e.act) live in
     omega (arith, ints)
 
 -- ---- live and reversed entries
@@ -157,4 +160,13 @@ unfolding live_entries
 live_sum f entries reversals =
     let all = placed_onto_sum f [] (filter (is_live reversals) entries) in
     let parts = parts_sum f reversals entries in
+    omega (arith, ints)
+
+-- a loan's money is conserved: what was received, less what was returned, refunded and disbursed,
+-- is what its books hold and have collected
+pub account_total : (a : Account) → IsAccount a → total (books_of a a.today) ≡ received a -ℤ returned a -ℤ refunded a -ℤ disbursed a
+account_total a h =
+    let until = live_all (λ e. e.day ≤ a.today) a.entries a.reversals h.until in
+    let live = live_total a.terms (live_of a) a.today h.terms (live_entries_fold a h) until in
+    let parts = live_sum (λ (e : Entry). brought e.act) a.entries a.reversals in
     omega (arith, ints)

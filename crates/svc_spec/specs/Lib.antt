@@ -6,3 +6,5 @@ pub mod Books
 pub mod Events
 pub mod Entries
 pub mod Totals
+pub mod Accounts
+pub mod Months
