@@ -6,3 +6,6 @@ pub mod WholeStep
 pub mod BooksLemmas
 pub mod LimitLemmas
 pub mod EventLemmas
+pub mod MoneyLemmas
+pub mod AccountLemmas
+pub mod CostLemmas

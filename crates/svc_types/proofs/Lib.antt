@@ -1,1 +1,2 @@
 pub mod KeyFields
+pub mod OrderLemmas

@@ -2,3 +2,4 @@ pub mod Terms
 pub mod Words
 pub mod Keys
 pub mod KeyLemmas
+pub mod Live
