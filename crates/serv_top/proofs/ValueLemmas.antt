@@ -1,12 +1,10 @@
 -- What the readers of keys and days say is what a text spells.
-use Rattle.std.proofs.Common.{◌≡◌, ◌≢◌, ℕ, zero, suc, ◌+◌, ◌-◌, ◌*◌, ◌<◌, ◌≤◌, Bool, true, false, List, length, take, drop, Option, Some, None, Result, Ok, Err, arith, refl, sym, ap, ◌∙◌, ⊎_elim, inl, inr}
+use Rattle.std.proofs.Common.{◌≡◌, ◌≢◌, ℕ, zero, suc, ◌<◌, ◌≤◌, Bool, true, false, List, length, Some, None, arith, refl, sym, ap, ◌∙◌, inl, inr}
 use Rattle.std.specs.List.{list_all}
-use Rattle.std.specs.Prelude.{nat_le, nat_eq, ◌&&◌, codes, if◌then◌else◌, IsTrue}
-use Rattle.std.specs.Cmp.Lexicographic.{pointwise, same_text, other_text}
-use Rattle.std.proofs.lemmas.List.{length-take-le}
-use Rattle.std.proofs.lemmas.List.{length-take}
+use Rattle.std.specs.Prelude.{nat_le, ◌&&◌, if◌then◌else◌}
+use Rattle.std.specs.Cmp.Lexicographic.{same_text, other_text}
 use Rattle.std.proofs.lemmas.Bool.{cases_lt, false≢true}
-use Rattle.svc_base.specs.Calendar.{IsDay, IsReadDay, month_of, day_in_month, month_length, year_of_month}
+use Rattle.svc_base.specs.Calendar.{IsReadDay, month_of, day_in_month, month_length, year_of_month}
 use Rattle.svc_base.specs.Text.{text_of_day, IsCivilDay}
 use Rattle.svc_base.proofs.TextLemmas.{day_injective}
 use Rattle.svc_types.specs.Keys.{IsKey, is_key_byte}

@@ -9,7 +9,6 @@ use Rattle.serv_top.specs.declared.verdict.Verdict.{Verdict}
 use Rattle.serv_top.specs.declared.verdict.Verdict.TheVariants as verdict
 use Rattle.serv_top.specs.Forms.{form_of}
 use Rattle.serv_top.specs.Answers.{reply_of_books}
-use Rattle.serv_top.specs.World as world
 use Rattle.serv_top.specs.World.{World, empty_world, find_loan, loan_books, command_verdict, after_verdict}
 
 -- what the machine has accepted, as what it holds

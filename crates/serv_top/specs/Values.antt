@@ -1,5 +1,5 @@
 -- The values that the words of a request line spell.
-use Rattle.std.specs.Prelude.{ℕ, zero, suc, ◌+◌, ◌-◌, ◌*◌, nat_le, nat_eq, Bool, ◌&&◌, List, ◌++◌, length, take, drop, Option, Some, None, codes, if◌then◌else◌}
+use Rattle.std.specs.Prelude.{ℕ, zero, suc, ◌*◌, nat_le, nat_eq, Bool, ◌&&◌, List, length, Option, Some, None, if◌then◌else◌}
 use Rattle.std.specs.List.{list_all}
 use Rattle.std.specs.Cmp.Lexicographic.{pointwise}
 use Rattle.svc_base.specs.Calendar.{month_of, day_in_month, month_length, year_of_month}

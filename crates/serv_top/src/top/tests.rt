@@ -130,16 +130,17 @@ fn each_status_has_its_output_and_rest(rt: HostRuntime) -> Result<(), Fail> {
 }
 
 /// A loan of 200,000.00 at 6 percent whose first installment, 1,199.10, is due on 2024-02-01.
-const BOARDED: &str =
-    "k1 day 2024-02-01\nk2 board 1 2023-12-15 200000.00 6000 250 1199.10 360 2024-02 15 500 2 0.00 SS\n";
+const BOARDED: &[u8] =
+    b"k1 day 2024-02-01\nk2 board 1 2023-12-15 200000.00 6000 250 1199.10 360 2024-02 15 500 2 0.00 SS\n";
 
 /// What `j session` replies to these lines over the loan above.
-fn replies_to<L: Ledger>(alloc: Global, blank: Blank, lines: &str) -> Result<String, AllocError>
+fn replies_to<L: Ledger>(alloc: Global, blank: Blank, lines: &[u8]) -> Result<String, AllocError>
     requires name { blank.name ≡ L.name }
     requires parts { blank.parts ≡ L.parts }
     requires some { 0 < L.parts }
 {
-    let input = format!(in alloc; "{BOARDED}{lines}")?.into_bytes();
+    let mut input = Vec::from_slice(alloc, BOARDED)?;
+    input.extend_from_slice(lines)?;
     let end = run_over::<L>(alloc, blank, true, input, Vec::new(alloc), Vec::new(alloc))?;
     String::from_utf8_lossy(alloc, &end.output)
 }
@@ -149,7 +150,7 @@ fn a_first_payment_is_booked(rt: HostRuntime) -> Result<(), Fail> {
     let replies = replies_to::<Brand>(
         rt.alloc(),
         Blank::new(1),
-        "k3 pay 1 2024-02-01 1199.10\n? books 1\n",
+        b"k3 pay 1 2024-02-01 1199.10\n? books 1\n",
     )?;
     assert_eq!(rt;
         replies.as_str(),
@@ -163,7 +164,7 @@ fn a_refused_payment_changes_nothing(rt: HostRuntime) -> Result<(), Fail> {
     let replies = replies_to::<Brand>(
         rt.alloc(),
         Blank::new(1),
-        "k3 pay 1 2024-02-01 1199.09\nk3 pay 7 2024-02-01 1199.10\nk3 pay 1 2024-02-02 1199.10\n? books 7\nk2 pay 1 2024-02-01 1199.10\nk3 pay 1 2024-02-01 1199.10\n",
+        b"k3 pay 1 2024-02-01 1199.09\nk3 pay 7 2024-02-01 1199.10\nk3 pay 1 2024-02-02 1199.10\n? books 7\nk2 pay 1 2024-02-01 1199.10\nk3 pay 1 2024-02-01 1199.10\n",
     )?;
     assert_eq!(rt;
         replies.as_str(),
@@ -177,7 +178,7 @@ fn a_day_on_which_a_loan_is_late_is_not_built(rt: HostRuntime) -> Result<(), Fai
     let replies = replies_to::<Brand>(
         rt.alloc(),
         Blank::new(1),
-        "k3 day 2024-02-17\nk3 day 2024-02-01\nk3 day 2024-02-16\n",
+        b"k3 day 2024-02-17\nk3 day 2024-02-01\nk3 day 2024-02-16\n",
     )?;
     assert_eq!(rt;
         replies.as_str(),

@@ -1,4 +1,4 @@
-use Rattle.std.proofs.Common.{◌≡◌, ℕ, ◌<◌, length, Some, sym, ap, ◌∙◌, subst, FitsSigned, w64, arith}
+use Rattle.std.proofs.Common.{◌<◌, length, ◌∙◌, subst, FitsSigned, w64, arith}
 use Rattle.std.proofs.lemmas.Int.{ints, to_z-of_z}
 use Rattle.serv_top.specs.declared.loan.Loan.{Loan}
 use Rattle.serv_top.specs.World.{find_loan}

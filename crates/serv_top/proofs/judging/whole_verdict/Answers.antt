@@ -1,4 +1,4 @@
-use Rattle.std.proofs.Common.{◌≡◌, refl, sym, ap, ◌∙◌, true, false, FitsSigned, w64}
+use Rattle.std.proofs.Common.{◌≡◌, sym, ap, ◌∙◌, true, false, FitsSigned, w64}
 use Rattle.std.proofs.lemmas.Int.{to_z-of_z}
 use Rattle.svc_types.specs.declared.books.Books.{Books}
 use Rattle.serv_top.specs.World.{loan_books, pays_installment}

@@ -1,8 +1,7 @@
-use Rattle.std.proofs.Common.{◌≡◌, sym, ap, ◌∙◌, arith, FitsSigned, w64, length, ◌<◌}
-use Rattle.std.specs.Prelude.{OnOk, slice_set}
+use Rattle.std.proofs.Common.{sym, ◌∙◌, FitsSigned, w64, length, ◌<◌}
 use Rattle.std.proofs.lemmas.Int.{to_z-of_z}
 use Rattle.std.proofs.lemmas.Result.{on_ok_weaker}
-use Rattle.serv_top.specs.World.{payment, posted, with_entry, find_loan}
+use Rattle.serv_top.specs.World.{payment}
 use Rattle.serv_top.proofs.WorldLemmas.{posted-none, posted_at-set}
 use Rattle.serv_top.proofs.session.post.Goals as goal
 

@@ -1,7 +1,5 @@
-use Rattle.std.proofs.Common.{◌≡◌, ◌+◌, ◌<◌, ◌∷◌, [], ◌++◌, length, ℕ, sym, ap, ◌∙◌, refl, arith, subst}
-use Rattle.std.specs.Prelude.{List}
-use Rattle.serv_top.specs.declared.loan.Loan.{Loan}
-use Rattle.serv_top.specs.World.{World, IsWorld, after, MayFollow, today_after, loans_after}
+use Rattle.std.proofs.Common.{◌≡◌, ◌+◌, ◌<◌, ◌∷◌, [], ◌++◌, length, ℕ, sym, ap, ◌∙◌, arith, subst}
+use Rattle.serv_top.specs.World.{World, after, MayFollow, today_after, loans_after}
 use Rattle.serv_top.proofs.WorldLemmas.{after_is_world, world_of_parts}
 use Rattle.serv_top.proofs.session.Session.accept.Goals as goal
 
