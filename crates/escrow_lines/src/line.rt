@@ -1,6 +1,6 @@
 //! One escrow line.
 
-ghost use Rattle.std.specs.Prelude.{◌≡◌, MatchOption, OnOk, IfErr, MatchResult, option_to_list, Some, None};
+ghost use Rattle.std.specs.Prelude.{◌≡◌, pos, MatchOption, OnOk, IfErr, MatchResult, option_to_list, Some, None};
 ghost use Rattle.escrow_lines.specs.declared.line.EscrowLineFault.TheVariants.{BadLine};
 
 use svc_base::Cents;
@@ -31,7 +31,9 @@ pub enum EscrowLineFault {
 
 /// A line that pays nothing.
 impl Default for Line {
-    fn default() -> Line {
+    fn default() -> Line
+        ensures { result ≡ record { id = 0; kind = LineKind.Other; month = 1; every = 12; cents = pos 0 } }
+    {
         Line {
             id: 0,
             kind: LineKind::Other,
@@ -44,7 +46,7 @@ impl Default for Line {
 
 impl Line {
     ghost use Rattle.escrow_lines.specs.Bills.{line_fault, cents_in, IsBill};
-    ghost use Rattle.std.specs.Prelude.{◌≤◌, pos, ◌≤ℤ◌};
+    ghost use Rattle.std.specs.Prelude.{◌≤◌, ◌≤ℤ◌};
 
     /// What is wrong with the line first, if anything is.
     pub fn fault(&self) -> Option<LineWhy>

@@ -9,7 +9,6 @@ use Rattle.svc_types.specs.declared.account.Event.{Event}
 use Rattle.svc_types.specs.declared.escrow.EscrowPlan.{EscrowPlan}
 use Rattle.svc_types.specs.declared.escrow.Settled.{Settled}
 use Rattle.svc_types.specs.declared.account.What.TheVariants as what
-use Rattle.svc_spec.specs.Step.{step}
 use Rattle.svc_spec.specs.Books.{start}
 use Rattle.svc_spec.specs.Events.{folded}
 

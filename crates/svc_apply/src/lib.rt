@@ -13,3 +13,6 @@ pub use installment::open_installment;
 pub use payoff::{available, is_current, payoff_due};
 pub use rows::{worked_charges, worked_escrow, worked_payments, worked_payoffs};
 pub use svc_types::Installment;
+
+#[cfg(test)]
+mod tests;
