@@ -7,4 +7,5 @@ pub mod BooksLemmas
 pub mod LimitLemmas
 pub mod EventLemmas
 pub mod AccountLemmas
+pub mod MonthLemmas
 pub mod CostLemmas
