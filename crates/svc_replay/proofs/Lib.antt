@@ -1,2 +1,4 @@
 pub mod LeftLemmas
 pub mod EntryLemmas
+pub mod KeptLemmas
+pub mod PlainLemmas

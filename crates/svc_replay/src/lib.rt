@@ -1,10 +1,20 @@
 //! The books of one loan, folded anew from boarding: no checkpoint and no running total.
 #![tactic(auto)]
 
+mod account;
 mod cursor;
+mod fault;
+mod folding;
+mod loan_books;
 mod plain;
 
-pub use plain::refold;
+pub use account::LoanAccount;
+pub use fault::BookFault;
+pub use folding::refold;
+pub use loan_books::LoanBooks;
+pub use plain::Plain;
 
+#[cfg(test)]
+mod books_tests;
 #[cfg(test)]
 mod tests;

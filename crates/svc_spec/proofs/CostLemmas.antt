@@ -22,7 +22,8 @@ use Rattle.svc_spec.specs.Months.{books_at_end, entries_from, cost_of_month}
 use Rattle.svc_spec.proofs.SettlingLemmas.{nat_le-true, from_nat_le}
 use Rattle.svc_spec.proofs.WholeStep.{step_next, marked_next, happened_next}
 use Rattle.svc_spec.proofs.EventLemmas.{events_all, start_next}
-use Rattle.svc_spec.proofs.AccountLemmas.{filter_length, account_books}
+use Rattle.svc_spec.proofs.MonthLemmas.{boarded_some, before_boarded}
+use Rattle.svc_spec.proofs.AccountLemmas.{filter_length, live_few, account_books}
 
 -- ---- how many events there are
 
@@ -125,13 +126,6 @@ all_from_boarded : (a : Account) → IsAccount a → entries_from a (month_of a.
 all_from_boarded a h =
     let m = month_of a.terms.boarded in
     filter_same (λ e. nat_le m (month_of e.day)) (live_of a) (live_all (λ e. nat_le m (month_of e.day) ≡ true) a.entries a.reversals (λ k d lt. let since = h.since k d lt in nat_le-true m (month_of (get_or a.entries k d).day) (omega arith)))
-
-before_boarded : (a : Account) (m : ℕ) → m < month_of a.terms.boarded → books_at_end a m ≡ start a.terms
-unfolding books_at_end
-before_boarded a m lt = let test : nat_lt m (month_of a.terms.boarded) ≡ true = grind (arith, nat_tests) in rw test
-
-boarded_some : (d : ℕ) → IsReadDay d → 0 < month_of d
-boarded_some d h = let first = h.first in omega arith
 
 -- the cost of the boarded month is over all live entries and all installments
 pub boarded_cost : (a : Account) → IsAccount a → cost_of_month a (month_of a.terms.boarded) ≡ length (live_of a) + 2 * (month_of a.today + 1 - month_of a.terms.boarded) + min a.terms.term (month_of a.today + 2 - a.terms.first) + 4

@@ -8,4 +8,5 @@ pub mod LimitLemmas
 pub mod EventLemmas
 pub mod MoneyLemmas
 pub mod AccountLemmas
+pub mod MonthLemmas
 pub mod CostLemmas

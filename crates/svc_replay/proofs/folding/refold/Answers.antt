@@ -7,7 +7,7 @@ use Rattle.svc_spec.specs.Events.{events_to, books_at, folded}
 use Rattle.svc_spec.proofs.EventLemmas.{CanFold, can_fold_start, can_fold_step, can_fold_within, start_next}
 use Rattle.svc_replay.specs.Left.{left}
 use Rattle.svc_replay.proofs.LeftLemmas.{left_start}
-use Rattle.svc_replay.proofs.plain.refold.Goals as goal
+use Rattle.svc_replay.proofs.folding.refold.Goals as goal
 
 pub loop-event-init : goal.loop-event-init
 loop-event-init g c =

@@ -3,7 +3,7 @@ use Rattle.svc_spec.specs.Books.{start}
 use Rattle.svc_spec.specs.Events.{events_to, folded}
 use Rattle.svc_spec.proofs.EventLemmas.{CanFold}
 use Rattle.svc_replay.specs.Left.{left}
-use Rattle.svc_replay.proofs.plain.refold.Given as goal
+use Rattle.svc_replay.proofs.folding.refold.Given as goal
 
 -- the books take the events that are left, and come with them to what all events come to
 abbrev pub invariant-loop-event : goal.invariant-loop-event

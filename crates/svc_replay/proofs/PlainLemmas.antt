@@ -1,0 +1,25 @@
+-- What a change of the account that books are kept of is for the books.
+use Rattle.std.proofs.Common.{◌≡◌, ℕ, ◌+◌, ◌-◌, ◌≤◌, FitsSigned, w64, to_z, of_z, arith, refl, sym, ap, subst, ◌∙◌}
+use Rattle.std.proofs.lemmas.Int.{ints, to_z-of_z}
+use Rattle.std.specs.Prelude.{ℤ, pos, ◌-ℤ◌, ◌≤ℤ◌, int_le, Option, Some, None, MatchOption, Bool}
+use Rattle.svc_types.specs.declared.books.Books.{Books}
+use Rattle.svc_types.specs.declared.books.MonthFacts.{MonthFacts}
+use Rattle.svc_types.specs.declared.account.Entry.{Entry}
+
+-- a fact of the entry that is found, where one is
+pub of_found : (o : Option Entry) (P : Type 0) (Q : Entry → Type 0) → (o ≡ None → ⊥) → ((e : Entry) → Q e) → MatchOption o P Q
+of_found None P Q there q = absurd (there refl)
+of_found (Some e) P Q there q = q e
+
+-- the facts of a month are known by their fields
+pub facts_same : (m : ℕ) (u u' c c' i i' f f' : ℤ) (s s' : Bool) → u ≡ u' → c ≡ c' → i ≡ i' → f ≡ f' → s ≡ s' → (let x : MonthFacts = record { month = m; upb = u; curtailed = c; interest = i; fee = f; satisfied = s } in let y : MonthFacts = record { month = m; upb = u'; curtailed = c'; interest = i'; fee = f'; satisfied = s' } in x ≡ y)
+facts_same m u u' c c' i i' f f' s s' p q r t v = cc
+
+-- amounts that a cast leaves as they are
+pub cast_same : (x : ℤ) → pos 0 ≤ℤ x → x ≤ℤ pos 1_000_000_000_000_000_000 → to_z w64 (of_z w64 x) ≡ x
+cast_same x low high = let fits : FitsSigned w64 x = omega (arith, ints) in simp to_z-of_z
+
+pub cast_less : (x y : ℤ) → pos 0 ≤ℤ x → x ≤ℤ pos 1_000_000_000_000_000_000 → pos 0 ≤ℤ y → y ≤ℤ pos 1_000_000_000_000_000_000 → to_z w64 (of_z w64 (to_z w64 (of_z w64 x) -ℤ to_z w64 (of_z w64 y))) ≡ x -ℤ y
+cast_less x y low high low' high' =
+    let fits : FitsSigned w64 (x -ℤ y) = omega (arith, ints) in
+    rw (cast_same x low high, cast_same y low' high') (simp to_z-of_z)

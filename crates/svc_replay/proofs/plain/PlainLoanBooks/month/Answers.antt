@@ -1,0 +1,22 @@
+use Rattle.std.proofs.Common.{◌≡◌, ◌-◌, sym, ap, ◌∙◌}
+use Rattle.svc_spec.specs.Accounts.{books_of}
+use Rattle.svc_spec.specs.Months.{facts_between, books_at_end}
+use Rattle.svc_spec.proofs.MonthLemmas.{from_boarded}
+use Rattle.svc_replay.proofs.plain.PlainLoanBooks.month.Goals as goal
+
+pub returns-clause-facts : goal.returns-clause-facts
+returns-clause-facts g c =
+    let a = c.args.self.now.account in
+    let m = c.args.month in
+    let first = rw c.self.view_is at c.books_before-before.ensures.books in
+    let day = rw c.self.view_is at c.end_day.ensures.day in
+    let last = rw c.self.view_is at c.refolded-after.ensures.books in
+    c.facts_between.ensures
+    ∙ ap (λ b. facts_between m b c.refolded-after.result) first
+    ∙ ap (λ b. facts_between m (books_at_end a (m - 1)) b) (last ∙ ap (books_of a) day ∙ sym (from_boarded a m c.requires.after))
+
+pub facts_between-requires-clause-before : goal.facts_between-requires-clause-before
+facts_between-requires-clause-before g c = record { terms = c.self.inside.kept.account.terms; sound = c.end_day.ensures.account.terms; books = c.books_before-before.ensures.sound }
+
+pub facts_between-requires-clause-after : goal.facts_between-requires-clause-after
+facts_between-requires-clause-after g c = record { terms = c.self.inside.kept.account.terms; sound = c.end_day.ensures.account.terms; books = c.refolded-after.ensures.sound }

@@ -1,0 +1,186 @@
+//! The account of a loan: its entries and reversals, and the live entries in order.
+
+ghost use Rattle.std.specs.Prelude.{◌≡◌, ◌+◌, ◌≤◌, length, None, IfSome, IsErrOf, OnOk, OnErr, IfErr};
+ghost use Rattle.svc_base.specs.Calendar.{month_of as month_number, months_end};
+ghost use Rattle.svc_spec.specs.Accounts as rule;
+ghost use Rattle.svc_spec.specs.Books.{AreBooks};
+ghost use Rattle.svc_spec.specs.Months.{cost_of_month};
+ghost use Rattle.svc_replay.specs.Faults.{most_entries, IsPostFault, IsReverseFault};
+ghost use Rattle.svc_replay.specs.Kept.{IsLoweredBy, nothing, one_entry, one_reversal};
+
+use crate::fault::BookFault;
+use crate::folding::refold;
+use std::alloc::Global;
+use std::marker::Model;
+use std::sync::ledger::Ledger;
+use svc_base::{Day, OutOfMemory, Steps};
+use svc_types::{Books, Entry, Terms, place_of};
+
+/// The most entries of a loan, reversed ones counted.
+const MOST_ENTRIES: usize = 4_096;
+
+/// A loan's terms, all its entries by number, their reversals and the business day. It keeps the
+/// live entries in the order in which they take effect.
+#[derive(Drop)]
+pub struct LoanAccount {
+    terms: Terms,
+    today: Day,
+    entries: Vec<Entry>,
+    reversals: Vec<(u32, u32)>,
+    live: Vec<Entry>,
+}
+
+impl Model for LoanAccount {
+    ghost use Rattle.std.specs.Prelude.{◌-◌, min, vec_len, vec_capacity};
+    ghost use Rattle.svc_base.specs.Calendar.{months_end};
+    ghost use Rattle.svc_replay.specs.Kept.{Kept, IsKept};
+
+    ghost Value = { Kept };
+
+    ghost view = { λ a. record {
+      account = record { terms = a.terms; entries = a.entries.items; reversals = a.reversals.items; today = a.today };
+      room = record {
+        entries = min (vec_capacity a.entries - vec_len a.entries) (vec_capacity a.live - vec_len a.live);
+        reversals = vec_capacity a.reversals - vec_len a.reversals;
+        months = months_end;
+      };
+    } };
+
+    ghost invariant = { λ a. IsKept (record { terms = a.terms; entries = a.entries.items; reversals = a.reversals.items; today = a.today }) a.live.items };
+}
+
+impl LoanAccount {
+    /// The account of a loan at boarding.
+    pub fn new(alloc: Global, terms: Terms, today: Day) -> LoanAccount
+        requires { rule.MayBegin terms today }
+        ensures { result.account ≡ rule.begun terms today }
+    {
+        LoanAccount {
+            terms,
+            today,
+            entries: Vec::new(alloc),
+            reversals: Vec::new(alloc),
+            live: Vec::new(alloc),
+        }
+    }
+
+    /// Makes room for one more entry and one more reversal; fails for want of memory alone.
+    pub fn reserve(&mut self) -> Result<(), OutOfMemory>
+        ensures kept { self.new.account ≡ self.old.account }
+        ensures entry { OnOk result (1 ≤ self.new.room.entries) }
+        ensures reversal { OnOk result (1 ≤ self.new.room.reversals) }
+        ensures months { months_end ≤ self.new.room.months }
+        ensures room { IsLoweredBy nothing self.old.room self.new.room }
+    {
+        self.entries.reserve(1)?;
+        self.live.reserve(1)?;
+        self.reversals.reserve(1)?;
+        Ok(())
+    }
+
+    /// Adds an entry, which takes its place among the live ones by its day. It is Full at 4,096
+    /// entries, and memory is wanted only where no room is left.
+    pub fn post(&mut self, entry: &Entry) -> Result<(), BookFault>
+        requires { rule.MayPost self.old.account entry.now }
+        ensures ok { OnOk result (self.new.account ≡ rule.posted entry.now self.old.account) }
+        ensures kept { OnErr result (self.new.account ≡ self.old.account) }
+        ensures full { most_entries ≤ length self.old.account.entries → IsErrOf result BookFault.Full }
+        ensures fault { IfErr result (IsPostFault self.old.account self.old.room.entries) }
+        ensures room { IsLoweredBy one_entry self.old.room self.new.room }
+        ensures kept_room { OnErr result (IsLoweredBy nothing self.old.room self.new.room) }
+    {
+        if self.entries.len() >= MOST_ENTRIES {
+            return Err(BookFault::Full);
+        }
+        self.entries.reserve(1)?;
+        self.live.insert(place_of(&self.live, entry), *entry)?;
+        self.entries.push_reserved(*entry);
+        Ok(())
+    }
+
+    /// Takes an entry out of the live ones, for good. No entry is reversed twice, and memory is
+    /// wanted only where no room is left.
+    pub fn reverse(&mut self, number: u32, by: u32) -> Result<(), BookFault>
+        ensures ok { OnOk result (self.new.account ≡ rule.reversed_in number by self.old.account) }
+        ensures kept { OnErr result (self.new.account ≡ self.old.account) }
+        ensures unknown { rule.entry_of self.old.account number ≡ None → IsErrOf result BookFault.NoSuchEntry }
+        ensures again { IfSome (rule.entry_of self.old.account number) (λ entry. IfSome (rule.reverser_of self.old.account number)
+            (λ earlier. IsErrOf result (BookFault.AlreadyReversed earlier))) }
+        ensures fault { IfErr result (IsReverseFault self.old.account number self.old.room.reversals) }
+        ensures room { IsLoweredBy one_reversal self.old.room self.new.room }
+        ensures kept_room { OnErr result (IsLoweredBy nothing self.old.room self.new.room) }
+    {
+        if self.entry(number).is_none() {
+            return Err(BookFault::NoSuchEntry);
+        }
+        if let Some(earlier) = self.reversed_by(number) {
+            return Err(BookFault::AlreadyReversed(earlier));
+        }
+        self.reversals.push((number, by))?;
+        self.live.retain(|entry| number != entry.number);
+        Ok(())
+    }
+
+    /// Moves the business day, which never goes back.
+    pub fn advance(&mut self, today: Day)
+        requires { self.old.account.today ≤ today }
+        ensures account { self.new.account ≡ rule.advanced_to today self.old.account }
+        ensures room { self.new.room ≡ self.old.room }
+    {
+        self.today = today;
+    }
+
+    /// The terms of the loan.
+    pub fn terms(&self) -> &Terms
+        ensures terms { result.now ≡ self.now.account.terms }
+        ensures account { rule.IsAccount self.now.account }
+    {
+        &self.terms
+    }
+
+    /// The business day.
+    pub fn today(&self) -> Day
+        ensures today { result ≡ self.now.account.today }
+        ensures account { rule.IsAccount self.now.account }
+    {
+        self.today
+    }
+
+    /// The entries that no reversal names, by day, then number.
+    pub fn live(&self) -> &[Entry]
+        ensures { result.now ≡ rule.live_of self.now.account }
+    {
+        &self.live
+    }
+
+    /// The entry with that number, reversed or not.
+    pub fn entry(&self, number: u32) -> Option<Entry>
+        ensures { result ≡ rule.entry_of self.now.account number }
+    {
+        self.entries
+            .iter()
+            .copied()
+            .find(|entry| entry.number == number)
+    }
+
+    /// What reversed the entry with that number.
+    pub fn reversed_by(&self, number: u32) -> Option<u32>
+        ensures { result ≡ rule.reverser_of self.now.account number }
+    {
+        self.reversals
+            .iter()
+            .find(|reversal| reversal.0 == number)
+            .map(|reversal| reversal.1)
+    }
+
+    /// The books at a day from boarding to the business day, folded anew from boarding.
+    pub fn refolded<L: Ledger>(&self, day: Day, steps: &mut Steps<L>) -> Books
+        requires after { self.now.account.terms.boarded ≤ day }
+        requires until { day ≤ self.now.account.today }
+        ensures books { result ≡ rule.books_of self.now.account day }
+        ensures sound { AreBooks self.now.account.terms result }
+        ensures steps { steps.new ≤ steps.old + cost_of_month self.now.account (month_number self.now.account.terms.boarded) }
+    {
+        refold(&self.terms, &self.live, day, steps)
+    }
+}
