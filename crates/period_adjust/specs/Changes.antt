@@ -1,0 +1,34 @@
+-- The adjustments of a command: the closed months whose dues it changed.
+use Rattle.std.specs.Prelude.{ℕ, if◌then◌else◌, Bool, ◌&&◌, List, [], ◌∷◌, ℤ, ◌-ℤ◌, int_le}
+use Rattle.remit_types.specs.declared.dues.MonthDue.{MonthDue}
+use Rattle.period_adjust.specs.declared.entries.Adjustment.{Adjustment}
+
+abbrev pub same : ℤ → ℤ → Bool
+same a b = int_le a b && int_le b a
+
+-- neither interest nor principal differs
+abbrev pub is_unchanged : MonthDue → MonthDue → Bool
+is_unchanged before after = same before.interest after.interest && same before.principal after.principal
+
+abbrev pub adjustment : ℕ → ℕ → MonthDue → MonthDue → Adjustment
+adjustment number loan before after =
+    record {
+      number = number;
+      loan = loan;
+      month = after.month;
+      interest = after.interest -ℤ before.interest;
+      principal = after.principal -ℤ before.principal;
+    }
+
+-- the adjustment of a month, where it differs
+abbrev pub change_of : ℕ → ℕ → MonthDue → MonthDue → List Adjustment
+change_of number loan before after = if is_unchanged before after then [] else adjustment number loan before after ∷ []
+
+-- for each month, before and after the command, what it adds to interest and principal, where one
+-- of them differs
+abbrev pub adjustments_of : ℕ → ℕ → List MonthDue → List MonthDue → List Adjustment
+adjustments_of number loan (b ∷ before) (a ∷ after) =
+    if is_unchanged b a then adjustments_of number loan before after
+    else adjustment number loan b a ∷ adjustments_of number loan before after
+adjustments_of number loan [] after = []
+adjustments_of number loan (b ∷ before) [] = []
