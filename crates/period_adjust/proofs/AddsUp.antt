@@ -8,7 +8,7 @@ use Rattle.period_adjust.specs.declared.entries.Adjustment.{Adjustment}
 use Rattle.period_adjust.specs.declared.entries.ReportLine.{ReportLine}
 use Rattle.period_adjust.specs.Sealed.{Sealed, Books}
 use Rattle.period_adjust.specs.Sums.{Part, Interest, Principal, total_by, line_with, report_of}
-use Rattle.period_adjust.specs.Changes.{same, is_unchanged, adjustment, adjustments_of}
+use Rattle.period_adjust.specs.Changes.{is_unchanged, adjustment, adjustments_of}
 use Rattle.period_adjust.proofs.SumsLemmas.{total_by-append}
 use Rattle.period_adjust.specs.Totals.{adjusted, lined, reported, Call, Change, Close, total, after, after_all, due_in, given, part_of_due}
 use Rattle.period_adjust.proofs.BeforeLemmas.{IsRising, AreBefore, Rises}
@@ -21,9 +21,6 @@ lined-with Principal loan pending l = refl
 pub lined-report : (p : Part) (loan : ℕ) (pending : List Adjustment) (ls : List ReportLine) → total_by (lined p loan) (map (line_with pending) ls) ≡ total_by (lined p loan) ls
 lined-report p loan pending [] = refl
 lined-report p loan pending (l ∷ ls) = omega (arith, ints, lined-with p loan pending l, lined-report p loan pending ls)
-
-same-true : (a b : ℤ) → same a b ≡ true → a ≡ b
-same-true a b h = grind (arith, ints)
 
 -- a month that is below all of the list: the list gives nothing for it
 pub due_in-above : (p : Part) (month low : ℕ) (was : ℤ) (ds : List MonthDue) → month ≤ low → IsRising low ds → due_in p month was ds ≡ was

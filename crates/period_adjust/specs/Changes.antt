@@ -1,14 +1,12 @@
 -- The adjustments of a command: the closed months whose dues it changed.
-use Rattle.std.specs.Prelude.{ℕ, if◌then◌else◌, Bool, ◌&&◌, List, [], ◌∷◌, ℤ, ◌-ℤ◌, int_le}
+use Rattle.std.specs.Prelude.{ℕ, if◌then◌else◌, Bool, ◌&&◌, List, [], ◌∷◌, ℤ, ◌-ℤ◌}
+use Rattle.std.specs.Ordering.{int_eq}
 use Rattle.remit_types.specs.declared.dues.MonthDue.{MonthDue}
 use Rattle.period_adjust.specs.declared.entries.Adjustment.{Adjustment}
 
-abbrev pub same : ℤ → ℤ → Bool
-same a b = int_le a b && int_le b a
-
 -- neither interest nor principal differs
 abbrev pub is_unchanged : MonthDue → MonthDue → Bool
-is_unchanged before after = same before.interest after.interest && same before.principal after.principal
+is_unchanged before after = int_eq before.interest after.interest && int_eq before.principal after.principal
 
 abbrev pub adjustment : ℕ → ℕ → MonthDue → MonthDue → Adjustment
 adjustment number loan before after =

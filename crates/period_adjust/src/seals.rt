@@ -7,7 +7,7 @@ ghost use Rattle.period_adjust.specs.Changes.{adjustments_of};
 ghost use Rattle.period_adjust.specs.Totals as totals;
 ghost use Rattle.period_adjust.specs.Totals.{Change, Close};
 ghost use Rattle.period_adjust.specs.Conditions.{last_month, count_held, IsExpected, AreDues, MayChange};
-ghost use Rattle.period_adjust.specs.Kept.{AreConsecutive, remit_fault};
+ghost use Rattle.period_adjust.specs.Kept.{AreSealed, remit_fault};
 ghost use Rattle.period_adjust.specs.declared.faults.SealFault.TheVariants as seal;
 
 use crate::changes::{count_changes, push_changes};
@@ -59,6 +59,7 @@ impl Seals {
     /// No report yet.
     pub fn new(alloc: Global) -> Seals
         ensures books { result.books ≡ books [] [] }
+        ensures sealed { AreSealed result.books }
         ensures remitted { result.remitted ≡ None }
     {
         Seals {
@@ -90,7 +91,7 @@ impl Seals {
     /// The reports, in the order in which their months were closed.
     pub fn reports(&self) -> &[Report]
         ensures value { result.now ≡ self.now.books.reports }
-        ensures consecutive { AreConsecutive self.now.books.reports }
+        ensures sealed { AreSealed self.now.books }
     {
         self.reports.as_slice()
     }
