@@ -8,7 +8,7 @@ use Rattle.period_adjust.specs.declared.entries.Adjustment.{Adjustment}
 use Rattle.period_adjust.specs.declared.entries.ReportLine.{ReportLine}
 use Rattle.period_adjust.specs.Sealed.{Sealed, Books}
 use Rattle.period_adjust.specs.Sums.{Part, Interest, Principal, total_by, line_with, report_of}
-use Rattle.period_adjust.specs.Changes.{is_unchanged, adjustment, adjustments_of}
+use Rattle.period_adjust.specs.Changes.{is_unchanged, adjustment, change_of, adjustments_of}
 use Rattle.period_adjust.proofs.SumsLemmas.{total_by-append}
 use Rattle.period_adjust.specs.Totals.{adjusted, lined, reported, Call, Change, Close, total, after, after_all, due_in, given, part_of_due}
 use Rattle.period_adjust.proofs.BeforeLemmas.{IsRising, AreBefore, Rises}
@@ -35,9 +35,14 @@ rises-tail low [] r = tt
 rises-tail low (d ∷ ds) r = r.1
 
 -- what one month's change adds, for its own loan
+change_adds : (p : Part) (loan month number : ℕ) (b a : MonthDue) → total_by (adjusted p loan month) (change_of number loan b a) ≡ (if a.month == month then part_of_due p a -ℤ part_of_due p b else pos 0)
+change_adds Interest loan month number b a = grind (arith, ints, nat_tests)
+change_adds Principal loan month number b a = grind (arith, ints, nat_tests)
+
 one_change : (p : Part) (loan month number : ℕ) (b a : MonthDue) (bs later : List MonthDue) → total_by (adjusted p loan month) (adjustments_of number loan (b ∷ bs) (a ∷ later)) ≡ (if a.month == month then part_of_due p a -ℤ part_of_due p b else pos 0) +ℤ total_by (adjusted p loan month) (adjustments_of number loan bs later)
-one_change Interest loan month number b a bs later = grind (arith, ints, nat_tests)
-one_change Principal loan month number b a bs later = grind (arith, ints, nat_tests)
+one_change p loan month number b a bs later =
+    total_by-append (adjusted p loan month) (change_of number loan b a) (adjustments_of number loan bs later)
+    ∙ ap (λ (z : ℤ). z +ℤ total_by (adjusted p loan month) (adjustments_of number loan bs later)) (change_adds p loan month number b a)
 
 -- changes of another loan add nothing
 other_loan : (p : Part) (loan month number l : ℕ) (bs later : List MonthDue) → (l == loan) ≡ false → total_by (adjusted p loan month) (adjustments_of number l bs later) ≡ pos 0
@@ -45,10 +50,9 @@ other_loan p loan month number l [] later h = refl
 other_loan p loan month number l (b ∷ bs) [] h = refl
 other_loan p loan month number l (b ∷ bs) (a ∷ later) h =
     let rest = other_loan p loan month number l bs later h in
-    elim (is_unchanged b a) as (λ u. total_by (adjusted p loan month) (if u then adjustments_of number l bs later else adjustment number l b a ∷ adjustments_of number l bs later) ≡ pos 0) [
-      | true ↦ rest
-      | false ↦ rw h (omega (arith, ints))
-    ]
+    let here : total_by (adjusted p loan month) (change_of number l b a) ≡ pos 0 =
+    elim (is_unchanged b a) as (λ u. total_by (adjusted p loan month) (if u then [] else adjustment number l b a ∷ []) ≡ pos 0) [ true ↦ refl | false ↦ rw h refl ] in
+    omega (arith, ints, total_by-append (adjusted p loan month) (change_of number l b a) (adjustments_of number l bs later))
 
 -- changes of later months add nothing
 later_months : (p : Part) (loan month number low : ℕ) (bs later : List MonthDue) → month ≤ low → IsRising low later → total_by (adjusted p loan month) (adjustments_of number loan bs later) ≡ pos 0

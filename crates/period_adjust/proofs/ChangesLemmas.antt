@@ -11,30 +11,24 @@ drop_here ds i d h e =
     let cut : drop i ds ≡ get_or ds i d ∷ drop (i + 1) ds = (rw (add-one, drop-cons ds i d) refl) in
     cut ∙ ap (λ x. x ∷ drop (i + 1) ds) (sym e)
 
-pub adjustments_of-drop : (number loan : ℕ) (bs later : List MonthDue) (i : ℕ) (b a : MonthDue) → i < length bs → i < length later → b ≡ get_or bs i b → a ≡ get_or later i a → adjustments_of number loan (drop i bs) (drop i later) ≡ (if is_unchanged b a then adjustments_of number loan (drop (i + 1) bs) (drop (i + 1) later) else adjustment number loan b a ∷ adjustments_of number loan (drop (i + 1) bs) (drop (i + 1) later))
-adjustments_of-drop number loan bs later i b a h k e f =
+pub adjustments_of-step : (number loan : ℕ) (bs later : List MonthDue) (i : ℕ) (b a : MonthDue) → i < length bs → i < length later → b ≡ get_or bs i b → a ≡ get_or later i a → adjustments_of number loan (drop i bs) (drop i later) ≡ change_of number loan b a ++ adjustments_of number loan (drop (i + 1) bs) (drop (i + 1) later)
+adjustments_of-step number loan bs later i b a h k e f =
     let cut = drop_here bs i b h e in
     let cut' = drop_here later i a k f in
     ap (λ x. adjustments_of number loan x (drop i later)) cut ∙ ap (adjustments_of number loan (b ∷ drop (i + 1) bs)) cut'
 
-pub adjustments_of-step : (number loan : ℕ) (bs later : List MonthDue) (i : ℕ) (b a : MonthDue) → i < length bs → i < length later → b ≡ get_or bs i b → a ≡ get_or later i a → adjustments_of number loan (drop i bs) (drop i later) ≡ change_of number loan b a ++ adjustments_of number loan (drop (i + 1) bs) (drop (i + 1) later)
-adjustments_of-step number loan bs later i b a h k e f =
-    adjustments_of-drop number loan bs later i b a h k e f
-    ∙ elim (is_unchanged b a) as (λ u. (if u then adjustments_of number loan (drop (i + 1) bs) (drop (i + 1) later) else adjustment number loan b a ∷ adjustments_of number loan (drop (i + 1) bs) (drop (i + 1) later)) ≡ (if u then [] else adjustment number loan b a ∷ []) ++ adjustments_of number loan (drop (i + 1) bs) (drop (i + 1) later)) [
-      | true ↦ refl
-      | false ↦ refl
-    ]
-
 -- how many there are does not hang on the command
+length-change_of : (number loan : ℕ) (b a : MonthDue) → length (change_of number loan b a) ≡ length (change_of 0 0 b a)
+length-change_of number loan b a =
+    elim (is_unchanged b a) as (λ u. length (if u then [] else adjustment number loan b a ∷ []) ≡ length (if u then [] else adjustment 0 0 b a ∷ [])) [ true ↦ refl | false ↦ refl ]
+
 pub length-adjustments_of : (number loan : ℕ) (bs later : List MonthDue) → length (adjustments_of number loan bs later) ≡ length (adjustments_of 0 0 bs later)
 length-adjustments_of number loan [] later = refl
 length-adjustments_of number loan (b ∷ bs) [] = refl
 length-adjustments_of number loan (b ∷ bs) (a ∷ later) =
-    let rest = length-adjustments_of number loan bs later in
-    elim (is_unchanged b a) as (λ u. length (if u then adjustments_of number loan bs later else adjustment number loan b a ∷ adjustments_of number loan bs later) ≡ length (if u then adjustments_of 0 0 bs later else adjustment 0 0 b a ∷ adjustments_of 0 0 bs later)) [
-      | true ↦ rest
-      | false ↦ ap suc rest
-    ]
+    let one = length-append (change_of number loan b a) (adjustments_of number loan bs later) in
+    let same = length-append (change_of 0 0 b a) (adjustments_of 0 0 bs later) in
+    omega (arith, length-change_of number loan b a, length-adjustments_of number loan bs later)
 
 -- an adjustment is known by its fields
 pub adjustment_fields : (number loan month : ℕ) (i j p q : ℤ) → i ≡ j → p ≡ q → (let x : Adjustment = record { number = number; loan = loan; month = month; interest = i; principal = p } in let y : Adjustment = record { number = number; loan = loan; month = month; interest = j; principal = q } in x ≡ y)

@@ -1,5 +1,5 @@
 -- What holds of all reports and adjustments, after each call.
-use Rattle.std.proofs.Common.{◌≡◌, ℕ, zero, suc, ◌+◌, ◌<◌, ◌≤◌, true, false, List, [], ◌∷◌, length, take, get_or, ℤ, pos, ◌+ℤ◌, ◌-ℤ◌, Option, Some, None, IfSome, refl, arith, ap, sym, ◌∙◌, subst}
+use Rattle.std.proofs.Common.{◌≡◌, ℕ, zero, suc, ◌+◌, ◌<◌, ◌≤◌, true, false, List, [], ◌++◌, ◌∷◌, length, take, get_or, ℤ, pos, ◌+ℤ◌, ◌-ℤ◌, Option, Some, None, IfSome, refl, arith, ap, sym, ◌∙◌, subst}
 use Rattle.std.specs.Prelude.{◌==◌, if◌then◌else◌, FitsSigned}
 use Rattle.std.specs.Int.{w64}
 use Rattle.std.specs.List.{All, AllPairs}
@@ -12,7 +12,7 @@ use Rattle.period_adjust.specs.declared.entries.Adjustment.{Adjustment}
 use Rattle.period_adjust.specs.declared.entries.ReportLine.{ReportLine}
 use Rattle.period_adjust.specs.Sealed.{Sealed, Books, books}
 use Rattle.period_adjust.specs.Sums.{Part, Interest, Principal, total_by, share, report_of, SumsFit}
-use Rattle.period_adjust.specs.Changes.{is_unchanged, adjustment, adjustments_of}
+use Rattle.period_adjust.specs.Changes.{is_unchanged, adjustment, change_of, adjustments_of}
 use Rattle.period_adjust.specs.Totals.{adjusted, lined, reported, total, Call, Change, Close, after, after_all, given, given_last, part_of_due, part_of_line}
 use Rattle.period_adjust.specs.Conditions.{IsAmount, IsSmallDue, IsSmallLine, IsClosed, MayChange, MayClose, MayCall, MayCallAll, IsExpected, last_month}
 use Rattle.period_adjust.specs.Kept.{behind, IsBefore, AreSealedTo, AreSealed}
@@ -72,20 +72,24 @@ adjustments_all P number l (b ∷ bs) [] h = All-nil (λ (a : Adjustment). P a.m
 adjustments_all P number l (b ∷ bs) (a ∷ later) h =
     let here : P a.month = All-head (λ (d : MonthDue). P d.month) a later h in
     let rest : All (λ (x : Adjustment). P x.month) (adjustments_of number l bs later) = adjustments_all P number l bs later (All-tail (λ (d : MonthDue). P d.month) a later h) in
-    elim (is_unchanged b a) as (λ u. All (λ (x : Adjustment). P x.month) (if u then adjustments_of number l bs later else adjustment number l b a ∷ adjustments_of number l bs later)) [
-      | true ↦ rest
-      | false ↦ All-cons (λ (x : Adjustment). P x.month) (adjustment number l b a) (adjustments_of number l bs later) here rest
-    ]
+    let one : All (λ (x : Adjustment). P x.month) (change_of number l b a) =
+    elim (is_unchanged b a) as (λ u. All (λ (x : Adjustment). P x.month) (if u then [] else adjustment number l b a ∷ [])) [
+      | true ↦ All-nil (λ (x : Adjustment). P x.month)
+      | false ↦ All-cons (λ (x : Adjustment). P x.month) (adjustment number l b a) [] here (All-nil (λ (x : Adjustment). P x.month))
+    ] in
+    All-append (λ (x : Adjustment). P x.month) (change_of number l b a) (adjustments_of number l bs later) one rest
 
 pub adjustments_loan : (number l : ℕ) (bs later : List MonthDue) → All (λ a. a.loan ≡ l) (adjustments_of number l bs later)
 adjustments_loan number l [] later = All-nil (λ (a : Adjustment). a.loan ≡ l)
 adjustments_loan number l (b ∷ bs) [] = All-nil (λ (a : Adjustment). a.loan ≡ l)
 adjustments_loan number l (b ∷ bs) (a ∷ later) =
     let rest : All (λ (x : Adjustment). x.loan ≡ l) (adjustments_of number l bs later) = adjustments_loan number l bs later in
-    elim (is_unchanged b a) as (λ u. All (λ (x : Adjustment). x.loan ≡ l) (if u then adjustments_of number l bs later else adjustment number l b a ∷ adjustments_of number l bs later)) [
-      | true ↦ rest
-      | false ↦ All-cons (λ (x : Adjustment). x.loan ≡ l) (adjustment number l b a) (adjustments_of number l bs later) refl rest
-    ]
+    let one : All (λ (x : Adjustment). x.loan ≡ l) (change_of number l b a) =
+    elim (is_unchanged b a) as (λ u. All (λ (x : Adjustment). x.loan ≡ l) (if u then [] else adjustment number l b a ∷ [])) [
+      | true ↦ All-nil (λ (x : Adjustment). x.loan ≡ l)
+      | false ↦ All-cons (λ (x : Adjustment). x.loan ≡ l) (adjustment number l b a) [] refl (All-nil (λ (x : Adjustment). x.loan ≡ l))
+    ] in
+    All-append (λ (x : Adjustment). x.loan ≡ l) (change_of number l b a) (adjustments_of number l bs later) one rest
 
 -- adjustments of later months add nothing
 later_take : (p : Part) (loan month k : ℕ) (xs : List Adjustment) → All (λ a. month < a.month) xs → total_by (adjusted p loan month) (take k xs) ≡ pos 0
@@ -124,7 +128,7 @@ own_take p loan month number s (b ∷ bs) (a ∷ later) k told up small was =
     λ j. own_take p loan month number s bs later j told.3 (pairs_tail by_month a later up) (All-tail IsSmallDue a later small) was in
     let above : All (λ (x : Adjustment). a.month < x.month) (adjustments_of number loan bs later) =
     adjustments_all (λ m. a.month < m) number loan bs later (pairs_head by_month a later up) in
-    elim (is_unchanged b a) as (λ u. IsAmount (total p loan month s +ℤ total_by (adjusted p loan month) (take k (if u then adjustments_of number loan bs later else adjustment number loan b a ∷ adjustments_of number loan bs later)))) [
+    elim (is_unchanged b a) as (λ u. IsAmount (total p loan month s +ℤ total_by (adjusted p loan month) (take k ((if u then [] else adjustment number loan b a ∷ []) ++ adjustments_of number loan bs later)))) [
       | true ↦ rest k
       | false ↦ amounts-cons (adjusted p loan month) (total p loan month s) (adjustment number loan b a) (adjustments_of number loan bs later) was
           (λ j. elim (a.month == month) as (λ t. (a.month == month) ≡ t → IsAmount ((total p loan month s +ℤ adjusted p loan month (adjustment number loan b a)) +ℤ total_by (adjusted p loan month) (take j (adjustments_of number loan bs later)))) [

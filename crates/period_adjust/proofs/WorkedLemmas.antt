@@ -3,11 +3,12 @@ use Rattle.std.proofs.Common.{◌≡◌, ℕ, zero, suc, ◌<◌, ◌≤◌, tru
 use Rattle.std.specs.Prelude.{if◌then◌else◌}
 use Rattle.std.specs.List.{AllPairs}
 use Rattle.std.proofs.lemmas.Int.{ints}
+use Rattle.std.proofs.lemmas.List.{length-append}
 use Rattle.std.proofs.lemmas.List.Elements.{All-nil, All-cons}
 use Rattle.remit_types.specs.declared.dues.MonthDue.{MonthDue}
 use Rattle.period_adjust.specs.Sealed.{Sealed, Books}
 use Rattle.period_adjust.specs.Sums.{Interest, Principal, report_of}
-use Rattle.period_adjust.specs.Changes.{is_unchanged, adjustment, adjustments_of}
+use Rattle.period_adjust.specs.Changes.{is_unchanged, adjustment, change_of, adjustments_of}
 use Rattle.period_adjust.specs.Totals.{total}
 use Rattle.period_adjust.specs.Conditions.{IsClosed, IsDueSoFar, MayChange}
 use Rattle.period_adjust.specs.Worked.{line_of, four_reports, AreTwoMonths}
@@ -18,10 +19,9 @@ few_adjustments number l [] later = omega arith
 few_adjustments number l (b ∷ bs) [] = omega arith
 few_adjustments number l (b ∷ bs) (a ∷ later) =
     let rest : length (adjustments_of number l bs later) ≤ length bs = few_adjustments number l bs later in
-    elim (is_unchanged b a) as (λ u. length (if u then adjustments_of number l bs later else adjustment number l b a ∷ adjustments_of number l bs later) ≤ suc (length bs)) [
-      | true ↦ omega arith
-      | false ↦ omega arith
-    ]
+    let one : length (change_of number l b a) ≤ 1 =
+    elim (is_unchanged b a) as (λ u. length (if u then [] else adjustment number l b a ∷ []) ≤ 1) [ true ↦ omega arith | false ↦ omega arith ] in
+    omega (arith, length-append (change_of number l b a) (adjustments_of number l bs later))
 
 two_rise : (d e : MonthDue) → d.month < e.month → AllPairs by_month (d ∷ e ∷ [])
 two_rise d e h zero zero x less in' = absurd (omega arith)

@@ -1,5 +1,5 @@
 -- The adjustments of a command: the closed months whose dues it changed.
-use Rattle.std.specs.Prelude.{ℕ, if◌then◌else◌, Bool, ◌&&◌, List, [], ◌∷◌, ℤ, ◌-ℤ◌}
+use Rattle.std.specs.Prelude.{ℕ, if◌then◌else◌, Bool, ◌&&◌, List, [], ◌∷◌, ◌++◌, ◌-ℤ◌}
 use Rattle.std.specs.Ordering.{int_eq}
 use Rattle.remit_types.specs.declared.dues.MonthDue.{MonthDue}
 use Rattle.period_adjust.specs.declared.entries.Adjustment.{Adjustment}
@@ -22,11 +22,8 @@ adjustment number loan before after =
 abbrev pub change_of : ℕ → ℕ → MonthDue → MonthDue → List Adjustment
 change_of number loan before after = if is_unchanged before after then [] else adjustment number loan before after ∷ []
 
--- for each month, before and after the command, what it adds to interest and principal, where one
--- of them differs
+-- the adjustments of a command, month by month, from the dues before and after it
 abbrev pub adjustments_of : ℕ → ℕ → List MonthDue → List MonthDue → List Adjustment
-adjustments_of number loan (b ∷ before) (a ∷ after) =
-    if is_unchanged b a then adjustments_of number loan before after
-    else adjustment number loan b a ∷ adjustments_of number loan before after
+adjustments_of number loan (b ∷ before) (a ∷ after) = change_of number loan b a ++ adjustments_of number loan before after
 adjustments_of number loan [] after = []
 adjustments_of number loan (b ∷ before) [] = []

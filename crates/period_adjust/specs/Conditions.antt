@@ -66,7 +66,8 @@ pub record MayChange (s : Books) (number loan : ℕ) (before later : List MonthD
   pub later_small : All IsSmallDue later
   pub few : count_held s + length (adjustments_of number loan before later) ≤ 4_000_000
 
--- the month that may be closed: from 1990-01 to 2139-12, and behind the last closed one
+-- the month that may be closed: from 1990-01, before which no day of a request lies, to 2139-12, and
+-- the one behind the last closed one
 pub record IsExpected (reports : List Sealed) (month : ℕ) : Type 0 where
   pub low : 23_880 ≤ month
   pub high : month ≤ 25_679

@@ -9,7 +9,7 @@ use Rattle.period_adjust.specs.Sums.{Part}
 use Rattle.period_adjust.specs.Totals.{total}
 use Rattle.period_adjust.specs.Conditions.{IsAmount, first_month, last_month, count_held}
 
--- the month behind that one, or else the first of all
+-- the month behind that one; 0 where there is none
 abbrev pub behind : Option ℕ → ℕ
 behind None = 0
 behind (Some m) = m + 1
@@ -24,9 +24,10 @@ pub record IsBefore (end month : ℕ) : Type 0 where
   pub low : 23_880 ≤ month
   pub high : month < end
 
--- what holds of all reports and adjustments: the months of reports follow one another, up to
--- 2139-12; adjustments are of closed months alone; and with the first so many of the pending
--- adjustments each month of a loan is worth an amount
+-- what holds of all reports and adjustments: the months of reports follow one another, from 1990-01
+-- to 2139-12; no adjustment is of a month behind them; and what was reported and sent for a month of
+-- a loan, with its part of the first so many pending adjustments, lies between -10^15 and 10^15, so
+-- that a loan's sum of these over at most 1,800 months is a number of 64 bits
 pub record AreSealedTo (s : Books) (end : ℕ) : Type 0 where
   pub consecutive : AreConsecutive s.reports
   pub most : end ≤ 25_680
