@@ -1,0 +1,11 @@
+pub mod SumsLemmas
+pub mod BeforeLemmas
+pub mod AddsUp
+pub mod ChangesLemmas
+pub mod MonthsLemmas
+pub mod SealedLemmas
+pub mod LineLemmas
+pub mod KeptLemmas
+pub mod StateLemmas
+pub mod WorkedLemmas
+pub mod SentLemmas

@@ -1,0 +1,7 @@
+pub mod Sealed
+pub mod Sums
+pub mod Changes
+pub mod Totals
+pub mod Conditions
+pub mod Kept
+pub mod Worked

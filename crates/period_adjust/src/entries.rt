@@ -1,0 +1,29 @@
+//! What reports are made of.
+
+use svc_base::{Cents, Month};
+
+/// What a command changed in the dues of a closed month of a loan, in cents.
+#[derive(Clone, Copy, Debug, PartialEq, Eq)]
+pub struct Adjustment {
+    /// The number of the command.
+    pub number: u32,
+    pub loan: u32,
+    pub month: Month,
+    pub interest: Cents,
+    pub principal: Cents,
+}
+
+/// A loan's line of a report, in cents.
+#[derive(Clone, Copy, Debug, PartialEq, Eq)]
+pub struct ReportLine {
+    pub loan: u32,
+    /// What is due for the report's month.
+    pub interest: Cents,
+    pub principal: Cents,
+    /// The sums of the loan's adjustments that the report sends.
+    pub adj_interest: Cents,
+    pub adj_principal: Cents,
+    /// The loan's balance and the investor's at the month's end.
+    pub upb: Cents,
+    pub balance: Cents,
+}

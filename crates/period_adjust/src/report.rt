@@ -1,0 +1,74 @@
+//! A report that is sealed.
+
+ghost use Rattle.std.specs.Prelude.{◌≡◌, IfOk};
+
+use crate::entries::{Adjustment, ReportLine};
+use crate::lists::{Adjustments, ReportLines};
+use std::marker::Model;
+use svc_base::{Month, OutOfMemory};
+
+/// What is reported to the investor for a month: its lines, and the adjustments of closed months
+/// that it sends.
+#[derive(Drop)]
+pub struct Report {
+    month: Month,
+    lines: ReportLines,
+    adjustments: Adjustments,
+}
+
+impl Model for Report {
+    ghost use Rattle.period_adjust.specs.Sealed.{Sealed};
+
+    ghost Value = { Sealed };
+
+    ghost view = { λ r. record { month = r.month; lines = r.lines; adjustments = r.adjustments } };
+}
+
+impl Report {
+    /// A report of these.
+    pub(crate) fn new(month: Month, lines: Vec<ReportLine>, adjustments: Vec<Adjustment>) -> Report
+        ensures month { result.month ≡ month }
+        ensures lines { result.lines ≡ lines.items }
+        ensures adjustments { result.adjustments ≡ adjustments.items }
+    {
+        Report {
+            month,
+            lines: ReportLines::from_vec(lines),
+            adjustments: Adjustments::from_vec(adjustments),
+        }
+    }
+
+    /// Its month.
+    pub fn month(&self) -> Month
+        ensures { result ≡ self.now.month }
+    {
+        self.month
+    }
+
+    /// Its lines, rising by loan.
+    pub fn lines(&self) -> &[ReportLine]
+        ensures { result.now ≡ self.now.lines }
+    {
+        self.lines.slice()
+    }
+
+    /// The adjustments that it sends.
+    pub fn adjustments(&self) -> &[Adjustment]
+        ensures { result.now ≡ self.now.adjustments }
+    {
+        self.adjustments.slice()
+    }
+
+    /// An equal report; fails for want of memory alone.
+    pub fn copy(&self) -> Result<Report, OutOfMemory>
+        ensures { IfOk result (λ copy. copy ≡ self.now) }
+    {
+        let lines = self.lines.copy()?;
+        let adjustments = self.adjustments.copy()?;
+        Ok(Report {
+            month: self.month,
+            lines,
+            adjustments,
+        })
+    }
+}

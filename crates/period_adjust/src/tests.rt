@@ -1,0 +1,226 @@
+//! Months that are closed, changed and remitted.
+
+ghost use Rattle.std.specs.Prelude.{◌≡◌, ◌+◌, ◌≤◌, [], ◌∷◌, pos, IfOk, OnOk};
+ghost use Rattle.std.specs.List.{All};
+ghost use Rattle.period_adjust.specs.Conditions.{IsAmount, IsSmallDue, IsExpected};
+ghost use Rattle.period_adjust.specs.Worked.{AreTwoMonths};
+ghost use Rattle.period_adjust.specs.Totals as totals;
+ghost use Rattle.period_adjust.specs.Totals.{Close};
+ghost use Rattle.period_adjust.specs.Worked as worked;
+
+use super::*;
+use std::alloc::Global;
+use std::process::Abort;
+use std::test::*;
+use svc_base::{Cents, Day, Month, first_day, last_day};
+
+/// The month that many months after 2023-12.
+fn month(later: u32) -> Month
+    requires { later ≤ 12 }
+    ensures { result ≡ 24_287 + later }
+{
+    Month::new(2023, 12).plus(later)
+}
+
+/// What is due for the month that many months after 2023-12, and the balance at its end.
+fn due(later: u32, interest: Cents, principal: Cents, balance: Cents) -> MonthDue
+    requires later { later ≤ 12 }
+    requires interest { IsAmount interest }
+    requires principal { IsAmount principal }
+    requires balance { IsAmount balance }
+    ensures value { result ≡ record { month = 24_287 + later; interest = interest; principal = principal; balance = balance } }
+    ensures small { IsSmallDue result }
+{
+    MonthDue {
+        month: month(later),
+        interest,
+        principal,
+        balance,
+    }
+}
+
+/// The line of a loan whose balance is the investor's too.
+fn line_of(due: &MonthDue) -> ReportLine
+    ensures { result ≡ worked.line_of due.now }
+{
+    ReportLine {
+        loan: 1,
+        interest: due.interest,
+        principal: due.principal,
+        adj_interest: 0,
+        adj_principal: 0,
+        upb: due.balance,
+        balance: due.balance,
+    }
+}
+
+/// Closes the month of that due on the first day after it.
+fn close(seals: &mut Seals, due: &MonthDue) -> Result<(), SealFault>
+    requires expected { IsExpected seals.old.books.reports due.now.month }
+    requires small { IsSmallDue due.now }
+    requires own { All (λ a. a.loan ≡ 1) seals.old.books.pending }
+    ensures { OnOk result (seals.new.books ≡ totals.after seals.old.books (Close due.now.month (worked.line_of due.now ∷ []))) }
+{
+    seals.close(
+        due.month,
+        first_day(due.month.plus(1)),
+        due.month,
+        &[line_of(due)],
+    )
+}
+
+/// The reports of 2023-12 to 2024-03.
+fn four_reports(alloc: Global, february: &MonthDue, march: &MonthDue) -> Result<Seals, SealFault>
+    requires february { february.now.month ≡ 24_289 }
+    requires march { march.now.month ≡ 24_290 }
+    requires february_small { IsSmallDue february.now }
+    requires march_small { IsSmallDue march.now }
+    ensures { IfOk result (λ s. s.books ≡ worked.four_reports february.now march.now) }
+{
+    let mut seals = Seals::new(alloc);
+    close(&mut seals, &due(0, 0, 0, 20_000_000))?;
+    close(&mut seals, &due(1, 0, 0, 20_000_000))?;
+    close(&mut seals, february)?;
+    close(&mut seals, march)?;
+    Ok(seals)
+}
+
+/// Reports two months as they were due, changes what is due for them, and closes 2024-04 with
+/// nothing due.
+fn check_change(
+    rt: &impl Abort,
+    alloc: Global,
+    number: u32,
+    was: &[MonthDue; 2],
+    is: &[MonthDue; 2],
+    wanted: &[Adjustment],
+    sums: (Cents, Cents),
+) -> Result<(), Fail>
+    requires { AreTwoMonths was.now is.now }
+{
+    let mut seals = four_reports(alloc, &was[0], &was[1])?;
+    seals.reserve(1, 2)?;
+    seals.record_change(number, 1, was, is)?;
+    assert_eq!(rt; seals.pending(), wanted);
+
+    let april = due(4, 0, 0, is[1].balance);
+    close(&mut seals, &april)?;
+    let reports = seals.reports();
+    assert_eq!(rt; reports.len(), 5);
+    assert_eq!(rt; reports[3].lines(), [line_of(&was[1])].as_slice());
+    assert_eq!(rt; reports[3].adjustments().len(), 0);
+
+    let report = reports[4].copy()?;
+    let line = ReportLine {
+        adj_interest: sums.0,
+        adj_principal: sums.1,
+        ..line_of(&april)
+    };
+    assert_eq!(rt; report.month(), month(4));
+    assert_eq!(rt; report.lines(), [line].as_slice());
+    assert_eq!(rt; report.adjustments(), wanted);
+    assert_eq!(rt; seals.pending().len(), 0);
+    assert_eq!(rt; seals.held() as usize, wanted.len());
+    Ok(())
+}
+
+/// An adjustment of the loan.
+fn adjustment(number: u32, later: u32, interest: Cents, principal: Cents) -> Adjustment
+    requires { later ≤ 12 }
+{
+    Adjustment {
+        number,
+        loan: 1,
+        month: month(later),
+        interest,
+        principal,
+    }
+}
+
+#[test]
+fn late_payment_of_an_actual_loan(rt: HostRuntime) -> Result<(), Fail> {
+    let was = [due(2, 95_833, 19_910, 19_980_090), due(3, 0, 0, 19_980_090)];
+    let is = [was[0], due(3, 95_737, 20_010, 19_960_080)];
+    let wanted = [adjustment(13, 3, 95_737, 20_010)];
+    check_change(&rt, rt.alloc(), 13, &was, &is, &wanted, (95_737, 20_010))
+}
+
+#[test]
+fn reversal_with_a_fee(rt: HostRuntime) -> Result<(), Fail> {
+    let was = [
+        due(2, 95_833, 19_910, 19_980_090),
+        due(3, 95_737, 20_010, 19_960_080),
+    ];
+    let is = [due(2, 0, 0, 20_000_000), due(3, 95_833, 19_910, 19_980_090)];
+    let wanted = [
+        adjustment(14, 2, -95_833, -19_910),
+        adjustment(14, 3, 96, -100),
+    ];
+    check_change(&rt, rt.alloc(), 14, &was, &is, &wanted, (-95_737, -20_010))
+}
+
+#[test]
+fn reversal_without_fee_whose_change_cancels_in_sum(rt: HostRuntime) -> Result<(), Fail> {
+    let was = [
+        due(2, 100_000, 19_910, 19_980_090),
+        due(3, 99_900, 20_010, 19_960_080),
+    ];
+    let is = [
+        due(2, 0, 0, 20_000_000),
+        due(3, 100_000, 19_910, 19_980_090),
+    ];
+    let wanted = [
+        adjustment(14, 2, -100_000, -19_910),
+        adjustment(14, 3, 100, -100),
+    ];
+    check_change(&rt, rt.alloc(), 14, &was, &is, &wanted, (-99_900, -20_010))
+}
+
+/// Closes a month before any other, where 2023-12 is expected.
+fn first_close(alloc: Global, closed: u32, today: Day) -> Result<(), SealFault>
+    requires { closed ≤ 12 }
+{
+    let mut seals = Seals::new(alloc);
+    let dues = [line_of(&due(0, 0, 0, 20_000_000))];
+    seals.close(month(closed), today, month(0), &dues)
+}
+
+#[test]
+fn months_are_closed_in_order_once_they_ended(rt: HostRuntime) {
+    let first = last_day(month(0));
+    assert_eq!(rt;
+        first_close(rt.alloc(), 1, last_day(month(4))),
+        Err(SealFault::WrongPeriod(month(0)))
+    );
+    assert_eq!(rt;
+        first_close(rt.alloc(), 0, first),
+        Err(SealFault::NotEnded(first))
+    );
+    assert_eq!(rt; first_close(rt.alloc(), 0, first_day(month(1))), Ok(()));
+}
+
+#[test]
+fn months_are_remitted_in_order_once_closed(rt: HostRuntime) -> Result<(), Fail> {
+    let mut none = Seals::new(rt.alloc());
+    assert_eq!(rt; none.remit(month(0)), Err(RemitFault::NotClosed(None)));
+
+    let february = due(2, 95_833, 19_910, 19_980_090);
+    let march = due(3, 95_737, 20_010, 19_960_080);
+    let mut seals = four_reports(rt.alloc(), &february, &march)?;
+    let last = Some(month(3));
+    assert_eq!(rt; seals.closed(), last);
+    assert_eq!(rt; seals.remit(month(4)), Err(RemitFault::NotClosed(last)));
+    assert_eq!(rt;
+        seals.remit(month(1)),
+        Err(RemitFault::WrongRemit(month(0)))
+    );
+    for later in 0..4 {
+        seals.remit(month(later))?;
+    }
+    assert_eq!(rt;
+        seals.remit(month(3)),
+        Err(RemitFault::WrongRemit(month(4)))
+    );
+    assert_eq!(rt; seals.remitted(), last);
+    Ok(())
+}
