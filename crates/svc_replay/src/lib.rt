@@ -17,4 +17,6 @@ pub use plain::Plain;
 #[cfg(test)]
 mod books_tests;
 #[cfg(test)]
+mod money_tests;
+#[cfg(test)]
 mod tests;
