@@ -43,6 +43,7 @@ pub record IsKept (a : Account) (ordered : List Entry) : Type 0 where
 
 -- the books now are those of the business day
 pub record AreNow (a : Account) (b : Books) : Type 0 where
+  pub account : IsAccount a
   pub now : b ≡ books_of a a.today
   pub sound : AreBooks a.terms b
 

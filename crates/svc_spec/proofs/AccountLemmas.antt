@@ -1,22 +1,21 @@
 -- What boarding, entries, reversals and business days keep of an account, and that its sums stay
 -- within the limits.
-use Rattle.std.proofs.Common.{◌≡◌, ℕ, zero, suc, ◌+◌, ◌≤◌, ◌<◌, Bool, true, false, cond, List, [], ◌∷◌, ◌++◌, length, get_or, arith, refl, sym, ap, subst, ◌∙◌, append-nil, length-append}
-use Rattle.std.specs.Prelude.{◌≢◌, ◌||◌, ◌==◌, not, is_some, Option, None, Some, if◌then◌else◌}
-use Rattle.std.specs.List.{All, AllPairs, filter, find, list_any}
+use Rattle.std.proofs.Common.{◌≡◌, ℕ, suc, ◌+◌, ◌≤◌, ◌<◌, Bool, true, false, cond, List, [], ◌∷◌, ◌++◌, length, get_or, arith, refl, sym, ap, subst, append-nil, length-append}
+use Rattle.std.specs.Prelude.{◌==◌, not, is_some, Some, if◌then◌else◌}
+use Rattle.std.specs.List.{All, filter, find}
 use Rattle.std.proofs.lemmas.List.Elements.{All-cons, All-head, All-tail, All-append}
 use Rattle.std.proofs.lemmas.List.Quantifiers.{all_pairs_push}
 use Rattle.std.proofs.lemmas.Bool.Decides.{nat_tests}
 use Rattle.svc_types.specs.declared.terms.Terms.{Terms}
-use Rattle.svc_types.specs.declared.books.Books.{Books}
 use Rattle.svc_types.specs.declared.account.Entry.{Entry}
 use Rattle.svc_types.specs.Live.{is_before, placed, placed_onto, is_reversed, is_live, live_entries}
 use Rattle.svc_types.proofs.OrderLemmas.{live_order, live_all, live_posted, live_reversed, order_days}
 use Rattle.svc_spec.specs.Books.{AreBooks, IsAct, start}
 use Rattle.svc_spec.specs.Entries.{AreEntries}
 use Rattle.svc_spec.specs.Events.{events_to, folded, books_at}
-use Rattle.svc_spec.specs.Accounts.{Account, begun, posted, reversed_in, advanced_to, live_of, books_of, entry_of, reverser_of, IsAccount, MayBegin, MayPost}
+use Rattle.svc_spec.specs.Accounts.{Account, begun, posted, reversed_in, advanced_to, live_of, books_of, entry_of, IsAccount, MayBegin, MayPost}
 use Rattle.svc_spec.proofs.WholeStep.{books_on}
-use Rattle.svc_spec.proofs.EventLemmas.{CanFold, can_fold_events}
+use Rattle.svc_spec.proofs.EventLemmas.{can_fold_events}
 
 -- ---- what is found
 
@@ -106,6 +105,7 @@ begun_account t d may = record {
   after = may.after;
   few = omega arith;
   since = λ k x lt. absurd (omega arith);
+  until = λ k x lt. absurd (omega arith);
   acts = λ k x lt. absurd (omega arith);
   rising = λ i j x lt within. absurd (omega arith);
   named = λ k x lt. absurd (omega arith);
@@ -121,6 +121,7 @@ posted_account a e h may room = record {
   after = h.after;
   few = omega (arith, length-append a.entries (e ∷ []));
   since = all_push (λ x. a.terms.boarded ≤ x.day) a.entries e h.since may.since;
+  until = all_push (λ x. x.day ≤ a.today) a.entries e h.until may.until;
   acts = all_push (λ x. IsAct x.act) a.entries e h.acts may.act;
   rising = all_pairs_push (λ x y. x.number < y.number) a.entries e h.rising (λ k d lt. may.number k d lt);
   named = λ k d lt. find_more (λ x. x.number == (get_or a.reversals k d).0) a.entries (e ∷ []) (h.named k d lt);
@@ -133,6 +134,7 @@ reversed_account a number by h there = record {
   after = h.after;
   few = h.few;
   since = h.since;
+  until = h.until;
   acts = h.acts;
   rising = h.rising;
   named = All-append (λ r. is_some (entry_of a r.0) ≡ true) a.reversals ((number, by) ∷ []) h.named (All-cons (λ r. is_some (entry_of a r.0) ≡ true) (number, by) [] there (λ k d lt. absurd (omega arith)));
@@ -145,6 +147,7 @@ advanced_account a d h later = let after = h.after in record {
   after = omega arith;
   few = h.few;
   since = h.since;
+  until = λ k x lt. let early = h.until k x lt in omega arith;
   acts = h.acts;
   rising = h.rising;
   named = h.named;

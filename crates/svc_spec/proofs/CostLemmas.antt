@@ -1,30 +1,28 @@
 -- How many steps it takes to fold a loan anew from boarding.
-use Rattle.std.proofs.Common.{◌≡◌, ℕ, zero, suc, ◌+◌, ◌-◌, ◌*◌, ◌≤◌, ◌<◌, Bool, true, false, cond, List, [], ◌∷◌, ◌++◌, length, map, get_or, arith, refl, sym, ap, subst, ◌∙◌, length-append}
+use Rattle.std.proofs.Common.{◌≡◌, ℕ, zero, suc, ◌+◌, ◌-◌, ◌*◌, ◌≤◌, Bool, true, false, cond, List, [], ◌∷◌, ◌++◌, length, map, get_or, arith, refl, ap, ◌∙◌, length-append}
 use Rattle.std.proofs.lemmas.List.{length-map}
-use Rattle.std.specs.Prelude.{nat_le, nat_lt, min, if◌then◌else◌}
+use Rattle.std.specs.Prelude.{nat_le, min, if◌then◌else◌}
 use Rattle.std.specs.List.{All, filter}
 use Rattle.std.proofs.lemmas.List.Elements.{All-cons, All-head, All-tail}
-use Rattle.std.proofs.lemmas.Bool.Decides.{nat_tests}
-use Rattle.svc_base.specs.Calendar.{month_of, first_day, day_after, IsReadDay}
+use Rattle.svc_base.specs.Calendar.{month_of}
 use Rattle.svc_base.proofs.CalendarLemmas.{day_after_least}
 use Rattle.svc_types.specs.declared.terms.Terms.{Terms}
 use Rattle.svc_types.specs.declared.books.Books.{Books}
 use Rattle.svc_types.specs.declared.account.Entry.{Entry}
 use Rattle.svc_types.specs.declared.account.Event.{Event}
-use Rattle.svc_types.specs.Terms.{IsSound}
 use Rattle.svc_types.proofs.OrderLemmas.{live_all}
 use Rattle.svc_spec.specs.Installments.{due_month, due_day}
 use Rattle.svc_spec.specs.Settling.{greatest, due_count, can_move, moves, marked}
 use Rattle.svc_spec.specs.Step.{happened, step}
-use Rattle.svc_spec.specs.Books.{AreBooks, start}
+use Rattle.svc_spec.specs.Books.{start}
 use Rattle.svc_spec.specs.Events.{month_mark, month_marks_from, month_marks, late_day, late_mark, late_marks_from, late_marks, up_to, event_of, entry_events, insert_event, by_day, events_to, folded, books_at}
 use Rattle.svc_spec.specs.Accounts.{Account, live_of, books_of, IsAccount}
-use Rattle.svc_spec.specs.Months.{books_at_end, entries_from, months_from, open_by, cost_of_month}
-use Rattle.svc_spec.proofs.SettlingLemmas.{nat_le-true, nat_le-false, from_nat_le, from_not_nat_le}
+use Rattle.svc_spec.specs.Months.{books_at_end, entries_from, cost_of_month}
+use Rattle.svc_spec.proofs.SettlingLemmas.{nat_le-true, from_nat_le}
 use Rattle.svc_spec.proofs.WholeStep.{step_next, marked_next, happened_next}
 use Rattle.svc_spec.proofs.EventLemmas.{events_all, start_next}
 use Rattle.svc_spec.proofs.MonthLemmas.{boarded_some, before_boarded}
-use Rattle.svc_spec.proofs.AccountLemmas.{filter_length, live_few, account_books}
+use Rattle.svc_spec.proofs.AccountLemmas.{filter_length, account_books}
 
 -- ---- how many events there are
 

@@ -9,3 +9,6 @@ pub mod EventLemmas
 pub mod AccountLemmas
 pub mod MonthLemmas
 pub mod CostLemmas
+pub mod TotalLemmas
+pub mod TimeLemmas
+pub mod RiseLemmas

@@ -57,6 +57,7 @@ pub record IsAccount (a : Account) : Type 0 where
   pub after : a.terms.boarded ≤ a.today
   pub few : length a.entries ≤ 4_096
   pub since : All (λ e. a.terms.boarded ≤ e.day) a.entries
+  pub until : All (λ e. e.day ≤ a.today) a.entries
   pub acts : All (λ e. IsAct e.act) a.entries
   pub rising : AllPairs (λ e f. e.number < f.number) a.entries
   pub named : All (λ r. is_some (entry_of a r.0) ≡ true) a.reversals

@@ -7,3 +7,4 @@ pub mod Events
 pub mod Entries
 pub mod Accounts
 pub mod Months
+pub mod Totals
