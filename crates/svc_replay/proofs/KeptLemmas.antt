@@ -1,5 +1,5 @@
 -- What the fields of an account keep.
-use Rattle.std.proofs.Common.{◌≡◌, ℕ, ◌+◌, ◌-◌, ◌*◌, ◌≤◌, ◌<◌, List, [], ◌∷◌, ◌++◌, length, arith, refl, sym, ap, subst, ◌∙◌}
+use Rattle.std.proofs.Common.{◌≡◌, ℕ, ◌+◌, ◌≤◌, ◌<◌, List, [], ◌∷◌, ◌++◌, length, arith, refl, sym, ap, subst, ◌∙◌}
 use Rattle.std.specs.Prelude.{◌==◌, not, is_some, true}
 use Rattle.std.specs.List.{AllPairs, filter}
 use Rattle.svc_base.specs.Calendar.{month_of}
@@ -10,7 +10,7 @@ use Rattle.svc_types.specs.Live.{placed, live_entries}
 use Rattle.svc_types.proofs.OrderLemmas.{follows, live_order}
 use Rattle.svc_spec.specs.Entries.{AreEntries}
 use Rattle.svc_spec.specs.Events.{events_to, books_at}
-use Rattle.svc_spec.specs.Accounts.{Account, posted, reversed_in, live_of, books_of, entry_of, IsAccount, MayBegin, MayPost}
+use Rattle.svc_spec.specs.Accounts.{Account, live_of, books_of, entry_of, MayBegin, MayPost}
 use Rattle.svc_spec.specs.Months.{cost_of_month}
 use Rattle.svc_spec.proofs.AccountLemmas.{live_after_post, live_after_reversal, live_few, live_entries_fold, begun_account, posted_account, reversed_account}
 use Rattle.svc_spec.proofs.CostLemmas.{refold_within}

@@ -1,8 +1,7 @@
 -- What a change of the account that books are kept of is for the books.
-use Rattle.std.proofs.Common.{◌≡◌, ℕ, ◌+◌, ◌-◌, ◌≤◌, FitsSigned, w64, to_z, of_z, arith, refl, sym, ap, subst, ◌∙◌}
+use Rattle.std.proofs.Common.{◌≡◌, ℕ, FitsSigned, w64, to_z, of_z, arith, refl}
 use Rattle.std.proofs.lemmas.Int.{ints, to_z-of_z}
-use Rattle.std.specs.Prelude.{ℤ, pos, ◌-ℤ◌, ◌≤ℤ◌, int_le, Option, Some, None, MatchOption, Bool}
-use Rattle.svc_types.specs.declared.books.Books.{Books}
+use Rattle.std.specs.Prelude.{ℤ, pos, ◌-ℤ◌, ◌≤ℤ◌, Option, Some, None, MatchOption, Bool}
 use Rattle.svc_types.specs.declared.books.MonthFacts.{MonthFacts}
 use Rattle.svc_types.specs.declared.account.Entry.{Entry}
 

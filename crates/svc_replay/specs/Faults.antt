@@ -1,5 +1,5 @@
 -- Why a posting or a reversal is refused.
-use Rattle.std.specs.Prelude.{◌≡◌, ℕ, ◌≤◌, ◌<◌, true, is_some, Option, Some, None, length}
+use Rattle.std.specs.Prelude.{◌≡◌, ℕ, ◌≤◌, ◌<◌, true, is_some, Some, None, length}
 use Rattle.svc_replay.specs.declared.fault.BookFault.{BookFault}
 use Rattle.svc_replay.specs.declared.fault.BookFault.TheVariants.{Full, NoSuchEntry, AlreadyReversed, OutOfMemory}
 use Rattle.svc_spec.specs.Accounts.{Account, entry_of, reverser_of}

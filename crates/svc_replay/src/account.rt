@@ -179,6 +179,7 @@ impl LoanAccount {
         requires until { day ≤ self.now.account.today }
         ensures books { result ≡ rule.books_of self.now.account day }
         ensures sound { AreBooks self.now.account.terms result }
+        ensures account { rule.IsAccount self.now.account }
         ensures steps { steps.new ≤ steps.old + cost_of_month self.now.account (month_number self.now.account.terms.boarded) }
     {
         refold(&self.terms, &self.live, day, steps)

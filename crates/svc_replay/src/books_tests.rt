@@ -3,7 +3,7 @@
 ghost use Rattle.std.specs.Prelude.{◌≡◌, ◌+◌, ◌-◌, ◌*◌, ◌<◌, ◌≤◌, pos};
 ghost use Rattle.svc_base.specs.Calendar.{IsReadDay};
 
-use crate::{BookFault, LoanBooks, Plain};
+use crate::{BookFault, LoanAccount, LoanBooks, Plain};
 use std::alloc::Global;
 use std::marker::Brand;
 use std::sync::ledger::{Blank, Ledger};
@@ -13,7 +13,7 @@ use svc_types::{Act, Books, Entry, MonthFacts, RemitType, Terms};
 
 /// A day before the 29th, of a year from 1990 to 2099.
 #[tactic(auto, using(svc_base::specs::DayLemmas::month_length_least))]
-pub(crate) fn day(year: u32, month: u32, day: u32) -> Day
+fn day(year: u32, month: u32, day: u32) -> Day
     requires year { 1990 ≤ year }
     requires last { year ≤ 2099 }
     requires month { 1 ≤ month }
@@ -27,7 +27,7 @@ pub(crate) fn day(year: u32, month: u32, day: u32) -> Day
 }
 
 /// A loan of 200,000.00 at 6 percent over 30 years, with 15 days of grace.
-pub(crate) fn loan() -> Terms
+fn loan() -> Terms
     ensures boarded { result.boarded ≡ 31 * (12 * 2023 + 11) + 14 }
     ensures read { IsReadDay result.boarded }
 {
@@ -57,6 +57,19 @@ fn payment(number: u32, day: Day) -> Entry
         number,
         day,
         act: Act::Pay(119_910),
+    }
+}
+
+/// A cent for escrow.
+fn deposit(number: u32, day: Day) -> Entry
+    ensures number { result.number ≡ number }
+    ensures day { result.day ≡ day }
+    ensures act { result.act ≡ Act.Deposit (pos 1) }
+{
+    Entry {
+        number,
+        day,
+        act: Act::Deposit(1),
     }
 }
 
@@ -172,5 +185,56 @@ fn a_reversed_payment_is_as_if_it_had_never_been(rt: HostRuntime) -> Result<(), 
     assert_eq!(rt; row, second_alone);
     assert_eq!(rt; again, Err(BookFault::AlreadyReversed(14)));
     assert_eq!(rt; unknown, Err(BookFault::NoSuchEntry));
+    Ok(())
+}
+
+/// The entry behind 4,096 others, and what is known of one of them.
+fn overfull<B: LoanBooks, L: Ledger>(
+    alloc: Global,
+    blank: Blank,
+) -> Result<(Result<(), BookFault>, Option<Entry>, Option<u32>), Fail>
+    requires name { blank.name ≡ L.name }
+    requires parts { blank.parts ≡ L.parts }
+    requires some { 0 < L.parts }
+{
+    let terms = loan();
+    terms.check()?;
+    let today = day(2024, 2, 1);
+    let mut steps = Steps::<L>::new(blank);
+    let mut books = B::begin(alloc, terms, today, &mut steps)?;
+    for number in 1..4_097 {
+        books.post(deposit(number, today), &mut steps)?;
+    }
+    let more = books.post(deposit(4_097, today), &mut steps);
+    Ok((more, books.entry(4_096), books.reversed_by(4_096)))
+}
+
+#[test]
+fn an_account_is_full_at_4096_entries(rt: HostRuntime) -> Result<(), Fail> {
+    let (more, last, reversed) = overfull::<Plain, Brand>(rt.alloc(), Blank::new(1))?;
+    assert_eq!(rt; more, Err(BookFault::Full));
+    assert_eq!(rt; last, Some(deposit(4_096, day(2024, 2, 1))));
+    assert_eq!(rt; reversed, None);
+    Ok(())
+}
+
+#[test]
+fn an_account_keeps_its_live_entries_in_order(rt: HostRuntime) -> Result<(), Fail> {
+    let terms = loan();
+    terms.check()?;
+    let mut account = LoanAccount::new(rt.alloc(), terms, day(2024, 3, 1));
+    account.reserve()?;
+    account.post(&payment(3, day(2024, 3, 1)))?;
+    account.post(&payment(4, day(2024, 2, 1)))?;
+    account.post(&payment(5, day(2024, 2, 1)))?;
+    account.reverse(4, 6)?;
+    account.advance(day(2024, 4, 1));
+    assert_eq!(rt; account.live().len(), 2);
+    assert_eq!(rt; account.live().first(), Some(&payment(5, day(2024, 2, 1))));
+    assert_eq!(rt; account.entry(4), Some(payment(4, day(2024, 2, 1))));
+    assert_eq!(rt; account.reversed_by(4), Some(6));
+    assert_eq!(rt; account.reversed_by(5), None);
+    assert_eq!(rt; account.today(), day(2024, 4, 1));
+    assert_eq!(rt; *account.terms(), terms);
     Ok(())
 }

@@ -4,8 +4,8 @@ ghost use Rattle.std.specs.Prelude.{◌≡◌, ℕ, ◌+◌, ◌-◌, ◌≤◌,
 ghost use Rattle.svc_base.specs.Calendar.{month_of};
 ghost use Rattle.svc_spec.specs.Accounts.{Account, IsAccount, MayBegin, MayPost, begun, posted, reversed_in, advanced_to, books_of, entry_of, reverser_of};
 ghost use Rattle.svc_spec.specs.Books.{AreBooks, total};
+ghost use Rattle.svc_spec.specs.Months.{month_facts, AreFacts};
 ghost use Rattle.svc_spec.specs.Totals.{received, returned, refunded, disbursed};
-ghost use Rattle.svc_spec.specs.Months.{month_facts};
 ghost use Rattle.svc_replay.specs.Faults.{most_entries, IsPostFault, IsReverseFault};
 ghost use Rattle.svc_replay.specs.Kept.{Room, IsLoweredBy, nothing, one_entry, one_reversal, some_months};
 
@@ -95,12 +95,13 @@ pub trait LoanBooks: Sized + Drop {
         ensures terms { result.now ≡ (account self.now).terms }
         ensures account { IsAccount (account self.now) };
 
-    /// The books at the business day. What was received, less what was returned, refunded and
+    /// The books at the business day. What the loan received, less what was returned, refunded and
     /// disbursed, is what they hold and have collected.
     fn now(&self) -> &Books
         ensures books { result.now ≡ books_of (account self.now) (account self.now).today }
         ensures sound { AreBooks (account self.now).terms result.now }
-        ensures money { total result.now ≡ received (account self.now) -ℤ returned (account self.now) -ℤ refunded (account self.now) -ℤ disbursed (account self.now) };
+        ensures conserved { received (account self.now) -ℤ returned (account self.now) -ℤ refunded (account self.now) -ℤ disbursed (account self.now)
+            ≡ total result.now };
 
     /// The entry with that number, reversed or not.
     fn entry(&self, number: u32) -> Option<Entry>
@@ -124,5 +125,6 @@ pub trait LoanBooks: Sized + Drop {
         requires after { month_of (account self.now).terms.boarded ≤ month }
         requires until { month ≤ month_of (account self.now).today }
         ensures facts { result ≡ month_facts (account self.now) month }
+        ensures within { AreFacts (account self.now).terms result }
         ensures steps { steps.new ≤ steps.old + month_cost (account self.now) month };
 }

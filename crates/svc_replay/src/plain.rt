@@ -55,7 +55,7 @@ impl LoanBooks for Plain {
         steps: &mut Steps<L>,
     ) -> Result<Plain, OutOfMemory> {
         let kept = LoanAccount::new(alloc, terms, today);
-        let now = kept.refolded(kept.today(), steps);
+        let now = kept.refolded(today, steps);
         Ok(Plain { kept, now })
     }
 
@@ -92,7 +92,6 @@ impl LoanBooks for Plain {
         self.kept.terms()
     }
 
-    #[tactic(auto, using(svc_spec::proofs::MoneyLemmas::account_total))]
     fn now(&self) -> &Books {
         &self.now
     }

@@ -3,7 +3,7 @@
 use Rattle.std.proofs.Common.{◌≡◌, ℕ, suc, ◌+◌, ◌≤◌, ◌<◌, Bool, true, false, cond, List, [], ◌∷◌, ◌++◌, length, get_or, arith, refl, sym, ap, subst, append-nil, length-append}
 use Rattle.std.specs.Prelude.{◌==◌, not, is_some, Some, if◌then◌else◌}
 use Rattle.std.specs.List.{All, filter, find}
-use Rattle.std.proofs.lemmas.List.Elements.{All-cons, All-head, All-tail, All-append, All-weaker}
+use Rattle.std.proofs.lemmas.List.Elements.{All-cons, All-head, All-tail, All-append}
 use Rattle.std.proofs.lemmas.List.Quantifiers.{all_pairs_push}
 use Rattle.std.proofs.lemmas.Bool.Decides.{nat_tests}
 use Rattle.svc_types.specs.declared.terms.Terms.{Terms}
@@ -147,7 +147,7 @@ advanced_account a d h later = let after = h.after in record {
   after = omega arith;
   few = h.few;
   since = h.since;
-  until = All-weaker (λ (e : Entry). e.day ≤ a.today) (λ (e : Entry). e.day ≤ d) (λ e p. omega arith) a.entries h.until;
+  until = λ k x lt. let early = h.until k x lt in omega arith;
   acts = h.acts;
   rising = h.rising;
   named = h.named;

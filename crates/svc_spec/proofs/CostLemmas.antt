@@ -1,11 +1,10 @@
 -- How many steps it takes to fold a loan anew from boarding.
-use Rattle.std.proofs.Common.{◌≡◌, ℕ, zero, suc, ◌+◌, ◌-◌, ◌*◌, ◌≤◌, ◌<◌, Bool, true, false, cond, List, [], ◌∷◌, ◌++◌, length, map, get_or, arith, refl, ap, ◌∙◌, length-append}
+use Rattle.std.proofs.Common.{◌≡◌, ℕ, zero, suc, ◌+◌, ◌-◌, ◌*◌, ◌≤◌, Bool, true, false, cond, List, [], ◌∷◌, ◌++◌, length, map, get_or, arith, refl, ap, ◌∙◌, length-append}
 use Rattle.std.proofs.lemmas.List.{length-map}
-use Rattle.std.specs.Prelude.{nat_le, nat_lt, min, if◌then◌else◌}
+use Rattle.std.specs.Prelude.{nat_le, min, if◌then◌else◌}
 use Rattle.std.specs.List.{All, filter}
 use Rattle.std.proofs.lemmas.List.Elements.{All-cons, All-head, All-tail}
-use Rattle.std.proofs.lemmas.Bool.Decides.{nat_tests}
-use Rattle.svc_base.specs.Calendar.{month_of, IsReadDay}
+use Rattle.svc_base.specs.Calendar.{month_of}
 use Rattle.svc_base.proofs.CalendarLemmas.{day_after_least}
 use Rattle.svc_types.specs.declared.terms.Terms.{Terms}
 use Rattle.svc_types.specs.declared.books.Books.{Books}
@@ -23,7 +22,7 @@ use Rattle.svc_spec.proofs.SettlingLemmas.{nat_le-true, from_nat_le}
 use Rattle.svc_spec.proofs.WholeStep.{step_next, marked_next, happened_next}
 use Rattle.svc_spec.proofs.EventLemmas.{events_all, start_next}
 use Rattle.svc_spec.proofs.MonthLemmas.{boarded_some, before_boarded}
-use Rattle.svc_spec.proofs.AccountLemmas.{filter_length, live_few, account_books}
+use Rattle.svc_spec.proofs.AccountLemmas.{filter_length, account_books}
 
 -- ---- how many events there are
 

@@ -1,20 +1,22 @@
 -- The order of a loan's events, and that each of them can be folded in its turn.
-use Rattle.std.proofs.Common.{◌≡◌, ℕ, zero, suc, ◌+◌, ◌-◌, ◌≤◌, ◌<◌, true, false, cond, List, [], ◌∷◌, ◌++◌, length, map, arith, refl, ap, subst, ◌∙◌}
-use Rattle.std.specs.Prelude.{nat_le, if◌then◌else◌}
-use Rattle.std.specs.List.{All}
+use Rattle.std.proofs.Common.{◌≡◌, ℕ, zero, suc, ◌+◌, ◌*◌, ◌-◌, ◌≤◌, ◌<◌, Bool, true, false, cond, List, [], ◌∷◌, ◌++◌, length, map, arith, refl, sym, ap, subst, ◌∙◌, length-append}
+use Rattle.std.specs.Prelude.{pos, ◌+ℤ◌, ◌≤ℤ◌, nat_le, if◌then◌else◌}
+use Rattle.std.specs.List.{All, AllPairs, filter, sum_by}
 use Rattle.std.proofs.lemmas.List.Elements.{All-cons, All-head, All-tail, All-append, All-map, All-filter}
 use Rattle.std.proofs.lemmas.Int.{ints}
 use Rattle.svc_base.specs.Calendar.{month_of, first_day, day_after, day_in_month, month_length, IsDay}
-use Rattle.svc_base.specs.DayLemmas.{month_length_least}
+use Rattle.svc_base.specs.DayLemmas.{month_length_most, month_length_least}
 use Rattle.svc_base.proofs.CalendarLemmas.{day_after_within, day_after_beyond, day_after_least}
 use Rattle.svc_types.specs.declared.terms.Terms.{Terms}
 use Rattle.svc_types.specs.declared.books.Books.{Books}
 use Rattle.svc_types.specs.declared.account.Entry.{Entry}
 use Rattle.svc_types.specs.declared.account.Event.{Event}
+use Rattle.svc_types.specs.declared.account.What.{What}
+use Rattle.svc_types.specs.declared.account.What.TheVariants as what
 use Rattle.svc_types.specs.Terms.{IsSound}
 use Rattle.svc_spec.specs.Installments.{due_month, due_day}
 use Rattle.svc_spec.specs.Step.{step}
-use Rattle.svc_spec.specs.Books.{AreWithin, AreBooks, IsWhat, start}
+use Rattle.svc_spec.specs.Books.{HaveSigns, AreWithin, AreBooks, IsAct, IsWhat, start}
 use Rattle.svc_spec.specs.Entries.{AreEntries}
 use Rattle.svc_spec.specs.Events.{month_mark, month_marks_from, month_marks, late_day, late_mark, late_marks_from, late_marks, up_to, event_of, entry_events, insert_event, by_day, events_to, folded}
 use Rattle.svc_spec.proofs.SettlingLemmas.{nat_le-true, nat_le-false, from_nat_le, from_not_nat_le}
@@ -238,7 +240,7 @@ events_turn t live d s h =
     let entries : All P (entry_events live d) = All-filter (λ e. nat_le e.day d) P (map event_of live) (All-map P event_of live h.since) in
     by_day_turn t.boarded (month_marks t d ++ late_marks t d ++ entry_events live d) (All-append P (month_marks t d ++ late_marks t d) (entry_events live d) (All-append P (month_marks t d) (late_marks t d) months lates) entries)
 
-pub events_whats : (t : Terms) (live : List Entry) (d : ℕ) → AreEntries t live → All (λ e. IsWhat e.what) (events_to t live d)
+events_whats : (t : Terms) (live : List Entry) (d : ℕ) → AreEntries t live → All (λ e. IsWhat e.what) (events_to t live d)
 events_whats t live d h =
     let P : Event → Type 0 = λ e. IsWhat e.what in
     events_all P t live d (months_whats (month_of t.boarded + 1) (month_of d - month_of t.boarded)) (All-filter (λ e. nat_le e.day d) P (late_marks_from t 1 t.term) (lates_whats t 1 t.term)) (All-filter (λ e. nat_le e.day d) P (map event_of live) (All-map P event_of live h.acts))

@@ -6,7 +6,9 @@ pub mod WholeStep
 pub mod BooksLemmas
 pub mod LimitLemmas
 pub mod EventLemmas
-pub mod MoneyLemmas
 pub mod AccountLemmas
 pub mod MonthLemmas
 pub mod CostLemmas
+pub mod TotalLemmas
+pub mod TimeLemmas
+pub mod RiseLemmas

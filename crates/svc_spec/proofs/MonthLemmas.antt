@@ -1,11 +1,11 @@
 -- The books at the ends of months.
-use Rattle.std.proofs.Common.{◌≡◌, ℕ, zero, suc, ◌+◌, ◌-◌, ◌*◌, ◌≤◌, ◌<◌, true, false, arith, refl, sym, ap, subst, ◌∙◌}
-use Rattle.std.specs.Prelude.{nat_lt, min, if◌then◌else◌}
+use Rattle.std.proofs.Common.{◌≡◌, ℕ, ◌≤◌, ◌<◌, true, false, arith, refl, ap, ◌∙◌}
+use Rattle.std.specs.Prelude.{nat_lt}
 use Rattle.std.proofs.lemmas.Bool.Decides.{nat_tests}
 use Rattle.svc_base.specs.Calendar.{month_of, day_in_month, month_length, last_day, IsReadDay}
-use Rattle.svc_base.specs.DayLemmas.{month_length_most, month_length_least}
+use Rattle.svc_base.specs.DayLemmas.{month_length_most}
 use Rattle.svc_spec.specs.Books.{start}
-use Rattle.svc_spec.specs.Accounts.{Account, books_of, IsAccount}
+use Rattle.svc_spec.specs.Accounts.{Account, books_of}
 use Rattle.svc_spec.specs.Months.{end_day, books_at_end}
 
 pub boarded_some : (d : ℕ) → IsReadDay d → 0 < month_of d

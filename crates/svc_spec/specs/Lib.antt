@@ -5,6 +5,6 @@ pub mod Step
 pub mod Books
 pub mod Events
 pub mod Entries
-pub mod Totals
 pub mod Accounts
 pub mod Months
+pub mod Totals

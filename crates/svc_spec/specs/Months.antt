@@ -1,5 +1,5 @@
 -- What one month did to a loan, and what it may cost to fold a loan anew from a month on.
-use Rattle.std.specs.Prelude.{ℕ, ◌+◌, ◌-◌, ◌*◌, min, nat_lt, nat_le, if◌then◌else◌, pos, ◌-ℤ◌, int_le, List, length}
+use Rattle.std.specs.Prelude.{ℕ, ◌+◌, ◌-◌, ◌*◌, min, nat_lt, nat_le, if◌then◌else◌, pos, ◌-ℤ◌, ◌≤ℤ◌, int_le, List, length}
 use Rattle.std.specs.List.{filter}
 use Rattle.svc_base.specs.Calendar.{month_of, last_day}
 use Rattle.svc_types.specs.declared.terms.Terms.{Terms}
@@ -49,3 +49,14 @@ open_by t b by = min (t.term + 1 - b.next) (by + 1 - due_month t b.next)
 -- installment that may be satisfied, and 4
 unfoldable pub cost_of_month : Account → ℕ → ℕ
 cost_of_month a m = length (entries_from a m) + 2 * months_from a m + open_by a.terms (books_at_end a (m - 1)) (month_of a.today + 1) + 4
+
+-- facts of a month whose balance lies from 0 to the principal, and each other amount from 0 to 10^18
+pub record AreFacts (t : Terms) (f : MonthFacts) : Type 0 where
+  pub upb_low : pos 0 ≤ℤ f.upb
+  pub upb_high : f.upb ≤ℤ t.principal
+  pub curtailed_low : pos 0 ≤ℤ f.curtailed
+  pub curtailed_high : f.curtailed ≤ℤ pos 1_000_000_000_000_000_000
+  pub interest_low : pos 0 ≤ℤ f.interest
+  pub interest_high : f.interest ≤ℤ pos 1_000_000_000_000_000_000
+  pub fee_low : pos 0 ≤ℤ f.fee
+  pub fee_high : f.fee ≤ℤ pos 1_000_000_000_000_000_000

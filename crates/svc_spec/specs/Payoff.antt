@@ -1,5 +1,5 @@
 -- What satisfies a loan on a day.
-use Rattle.std.specs.Prelude.{ℕ, ◌-◌, nat_le, Bool, ◌||◌, ℤ, pos, ◌+ℤ◌, ◌-ℤ◌, int_lt, int_le, if◌then◌else◌}
+use Rattle.std.specs.Prelude.{ℕ, ◌+◌, ◌-◌, nat_le, Bool, ◌||◌, ℤ, pos, neg_ℤ, ◌+ℤ◌, ◌-ℤ◌, int_lt, int_le, if◌then◌else◌}
 use Rattle.std.specs.Int.{int_max}
 use Rattle.svc_base.specs.Calendar.{first_day, days360, day_after}
 use Rattle.svc_base.specs.Money.{day_interest}

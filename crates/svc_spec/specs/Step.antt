@@ -1,6 +1,6 @@
 -- One step of the books: what an event does, and the settling that follows it.
 use Rattle.std.specs.Prelude.{ℕ, ◌==◌, ◌&&◌, nat_le, ℤ, pos, ◌+ℤ◌, ◌-ℤ◌, int_lt, int_le, if◌then◌else◌}
-use Rattle.std.specs.Int.{int_min}
+use Rattle.std.specs.Int.{int_min, int_max}
 use Rattle.svc_base.specs.Money.{share_bp, day_interest}
 use Rattle.svc_types.specs.declared.terms.Terms.{Terms}
 use Rattle.svc_types.specs.declared.escrow.EscrowPlan.{EscrowPlan}

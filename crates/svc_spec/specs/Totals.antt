@@ -1,4 +1,4 @@
--- What the entries of a loan brought in and paid out.
+-- What the entries of a loan brought in and paid out: the totals that custody is told of.
 use Rattle.std.specs.Prelude.{List, [], ◌∷◌, ℤ, pos, ◌+ℤ◌}
 use Rattle.std.specs.List.{filter}
 use Rattle.svc_types.specs.declared.account.Act.{Act}
@@ -8,57 +8,49 @@ use Rattle.svc_types.specs.Live.{is_reversed}
 use Rattle.svc_spec.specs.Step.{brought}
 use Rattle.svc_spec.specs.Accounts.{Account, live_of}
 
--- the sum of an amount over a list
-abbrev pub sum_with : {X : Type 0} → (X → ℤ) → List X → ℤ
-sum_with f [] = pos 0
-sum_with f (x ∷ xs) = f x +ℤ sum_with f xs
+-- an amount of each of some entries, summed
+abbrev pub sum_over : (Act → ℤ) → List Entry → ℤ
+sum_over f [] = pos 0
+sum_over f (e ∷ es) = f e.act +ℤ sum_over f es
 
--- what an act pays back to the borrower
-abbrev pub paid_back_by : Act → ℤ
-paid_back_by (Pay c) = pos 0
-paid_back_by (Curtail c) = pos 0
-paid_back_by (Payoff c) = pos 0
-paid_back_by (Deposit c) = pos 0
-paid_back_by (Disburse c line) = pos 0
-paid_back_by (Refund c) = c
-paid_back_by (Waive c) = pos 0
-paid_back_by (Analyse s) = s.refund
+-- what an act pays back to the borrower: a refund, and that of an analysis
+abbrev pub refunded_by : Act → ℤ
+refunded_by (Pay c) = pos 0
+refunded_by (Curtail c) = pos 0
+refunded_by (Payoff c) = pos 0
+refunded_by (Deposit c) = pos 0
+refunded_by (Disburse c line) = pos 0
+refunded_by (Refund c) = c
+refunded_by (Waive c) = pos 0
+refunded_by (Analyse s) = s.refund
 
 -- what an act pays to others
-abbrev pub paid_away_by : Act → ℤ
-paid_away_by (Pay c) = pos 0
-paid_away_by (Curtail c) = pos 0
-paid_away_by (Payoff c) = pos 0
-paid_away_by (Deposit c) = pos 0
-paid_away_by (Disburse c line) = c
-paid_away_by (Refund c) = pos 0
-paid_away_by (Waive c) = pos 0
-paid_away_by (Analyse s) = pos 0
+abbrev pub disbursed_by : Act → ℤ
+disbursed_by (Pay c) = pos 0
+disbursed_by (Curtail c) = pos 0
+disbursed_by (Payoff c) = pos 0
+disbursed_by (Deposit c) = pos 0
+disbursed_by (Disburse c line) = c
+disbursed_by (Refund c) = pos 0
+disbursed_by (Waive c) = pos 0
+disbursed_by (Analyse s) = pos 0
 
--- what some entries brought in: payments, curtailments, payoffs and deposits
-abbrev pub brought_in : List Entry → ℤ
-brought_in = sum_with (λ e. brought e.act)
+-- the entries that a reversal names
+abbrev pub reversed_of : Account → List Entry
+reversed_of a = filter (λ e. is_reversed a.reversals e.number) a.entries
 
--- what some entries paid back to the borrower
-abbrev pub paid_back : List Entry → ℤ
-paid_back = sum_with (λ e. paid_back_by e.act)
-
--- what some entries paid to others
-abbrev pub paid_away : List Entry → ℤ
-paid_away = sum_with (λ e. paid_away_by e.act)
-
--- what all entries of an account brought in, reversed ones too
+-- all payments, curtailments, payoffs and deposits, reversed ones too
 abbrev pub received : Account → ℤ
-received a = brought_in a.entries
+received a = sum_over brought a.entries
 
--- what its reversed entries brought in
+-- the reversed ones of these
 abbrev pub returned : Account → ℤ
-returned a = brought_in (filter (λ e. is_reversed a.reversals e.number) a.entries)
+returned a = sum_over brought (reversed_of a)
 
--- what its live refunds and analyses paid back to the borrower
+-- live refunds, and refunds of live analyses
 abbrev pub refunded : Account → ℤ
-refunded a = paid_back (live_of a)
+refunded a = sum_over refunded_by (live_of a)
 
--- what its live disbursements paid to others
+-- live disbursements
 abbrev pub disbursed : Account → ℤ
-disbursed a = paid_away (live_of a)
+disbursed a = sum_over disbursed_by (live_of a)

@@ -1,4 +1,4 @@
-use Rattle.std.proofs.Common.{◌≡◌, ◌+◌, ◌-◌, ◌≤◌, ◌<◌, sym, ap, ◌∙◌, arith}
+use Rattle.std.proofs.Common.{◌≡◌, ◌-◌, ◌≤◌, ◌<◌, sym, ap, ◌∙◌, arith}
 use Rattle.svc_base.specs.Calendar.{month_of, last_day}
 use Rattle.svc_base.proofs.CentsRules.{is_le-nat_cmp}
 use Rattle.svc_types.specs.declared.terms.Terms.{Terms}

@@ -1,5 +1,5 @@
-use Rattle.std.proofs.Common.{◌≡◌, w64, arith, to_z, of_z, ap}
-use Rattle.std.specs.Prelude.{ℤ, pos, ◌-ℤ◌, ◌≤ℤ◌, int_le}
+use Rattle.std.proofs.Common.{arith, ap}
+use Rattle.std.specs.Prelude.{pos, ◌≤ℤ◌, int_le}
 use Rattle.std.proofs.lemmas.Int.{ints}
 use Rattle.svc_replay.proofs.PlainLemmas.{facts_same, cast_same, cast_less}
 use Rattle.svc_replay.proofs.plain.facts_between.Goals as goal

@@ -1,5 +1,4 @@
 use Rattle.std.proofs.Common.{◌≡◌, ◌∙◌, ◌∷◌, [], ◌++◌, ◌<◌, length, arith, sym, ap}
-use Rattle.svc_types.specs.Live.{placed}
 use Rattle.svc_spec.specs.Accounts.{Account}
 use Rattle.svc_replay.specs.Kept.{Kept}
 use Rattle.svc_replay.proofs.KeptLemmas.{kept_order, kept_posted}

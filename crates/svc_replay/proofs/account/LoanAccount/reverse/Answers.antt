@@ -1,4 +1,4 @@
-use Rattle.std.proofs.Common.{◌≡◌, ◌∙◌, ◌∷◌, [], ◌++◌, true, sym, ap, rules}
+use Rattle.std.proofs.Common.{◌≡◌, true, sym, ap, rules}
 use Rattle.std.specs.Prelude.{◌==◌, not, is_some}
 use Rattle.std.proofs.lemmas.Fn.{filter_same}
 use Rattle.svc_spec.specs.Accounts.{Account, entry_of}

@@ -1,7 +1,8 @@
-use Rattle.std.proofs.Common.{◌≡◌, ◌-◌, sym, ap, ◌∙◌}
+use Rattle.std.proofs.Common.{◌-◌, sym, ap, subst, ◌∙◌}
 use Rattle.svc_spec.specs.Accounts.{books_of}
-use Rattle.svc_spec.specs.Months.{facts_between, books_at_end}
+use Rattle.svc_spec.specs.Months.{facts_between, books_at_end, AreFacts}
 use Rattle.svc_spec.proofs.MonthLemmas.{from_boarded}
+use Rattle.svc_spec.proofs.RiseLemmas.{month_within}
 use Rattle.svc_replay.proofs.plain.PlainLoanBooks.month.Goals as goal
 
 pub returns-clause-facts : goal.returns-clause-facts
@@ -20,3 +21,8 @@ facts_between-requires-clause-before g c = record { terms = c.self.inside.kept.a
 
 pub facts_between-requires-clause-after : goal.facts_between-requires-clause-after
 facts_between-requires-clause-after g c = record { terms = c.self.inside.kept.account.terms; sound = c.end_day.ensures.account.terms; books = c.refolded-after.ensures.sound }
+
+pub returns-clause-within : goal.returns-clause-within
+returns-clause-within g c =
+    let sound = rw c.self.view_is at c.end_day.ensures.account in
+    subst (AreFacts c.args.self.now.account.terms) (sym (returns-clause-facts g c)) (month_within c.args.self.now.account c.args.month sound c.requires.after)
