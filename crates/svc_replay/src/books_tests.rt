@@ -13,7 +13,7 @@ use svc_types::{Act, Books, Entry, MonthFacts, RemitType, Terms};
 
 /// A day before the 29th, of a year from 1990 to 2099.
 #[tactic(auto, using(svc_base::specs::DayLemmas::month_length_least))]
-fn day(year: u32, month: u32, day: u32) -> Day
+pub(crate) fn day(year: u32, month: u32, day: u32) -> Day
     requires year { 1990 ≤ year }
     requires last { year ≤ 2099 }
     requires month { 1 ≤ month }
@@ -27,7 +27,7 @@ fn day(year: u32, month: u32, day: u32) -> Day
 }
 
 /// A loan of 200,000.00 at 6 percent over 30 years, with 15 days of grace.
-fn loan() -> Terms
+pub(crate) fn loan() -> Terms
     ensures boarded { result.boarded ≡ 31 * (12 * 2023 + 11) + 14 }
     ensures read { IsReadDay result.boarded }
 {

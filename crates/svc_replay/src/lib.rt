@@ -19,4 +19,6 @@ pub use rows::{worked_accounts, worked_totals};
 #[cfg(test)]
 mod books_tests;
 #[cfg(test)]
+mod money_tests;
+#[cfg(test)]
 mod tests;
