@@ -95,12 +95,12 @@ fn row_of(books: &Books) -> Row {
     }
 }
 
-/// One payment on its day, and one of March that is entered in April: the books before and after
-/// it, and the facts of March.
+/// One payment on its day, and one of March that is entered in April: the books before and behind
+/// it, those of the day before its own, and the facts of March.
 fn late_payment<B: LoanBooks, L: Ledger>(
     alloc: Global,
     blank: Blank,
-) -> Result<(Row, Row, MonthFacts), Fail>
+) -> Result<(Row, Row, Row, MonthFacts), Fail>
     requires name { blank.name ≡ L.name }
     requires parts { blank.parts ≡ L.parts }
     requires some { 0 < L.parts }
@@ -115,13 +115,14 @@ fn late_payment<B: LoanBooks, L: Ledger>(
     let before = row_of(books.now());
     books.post(payment(13, day(2024, 3, 10)), &mut steps)?;
     let after = row_of(books.now());
+    let earlier = row_of(&books.books_at(day(2024, 3, 9), &mut steps));
     let march = books.month(Month::new(2024, 3), &mut steps);
-    Ok((before, after, march))
+    Ok((before, after, earlier, march))
 }
 
 #[test]
 fn a_late_payment_counts_on_its_day(rt: HostRuntime) -> Result<(), Fail> {
-    let (before, after, march) = late_payment::<Plain, Brand>(rt.alloc(), Blank::new(1))?;
+    let (before, after, earlier, march) = late_payment::<Plain, Brand>(rt.alloc(), Blank::new(1))?;
     let one_paid = Row {
         upb: 19_980_090,
         next: 2,
@@ -140,6 +141,13 @@ fn a_late_payment_counts_on_its_day(rt: HostRuntime) -> Result<(), Fail> {
     };
     assert_eq!(rt; before, one_paid);
     assert_eq!(rt; after, both_paid);
+    assert_eq!(rt;
+        earlier,
+        Row {
+            late_owed: 0,
+            ..one_paid
+        }
+    );
     assert_eq!(rt; march.upb, 19_960_080);
     assert_eq!(rt; march.interest, 99_900);
     assert_eq!(rt; march.fee, 4_163);
@@ -192,7 +200,7 @@ fn a_reversed_payment_is_as_if_it_had_never_been(rt: HostRuntime) -> Result<(), 
 fn overfull<B: LoanBooks, L: Ledger>(
     alloc: Global,
     blank: Blank,
-) -> Result<(Result<(), BookFault>, Option<Entry>, Option<u32>), Fail>
+) -> Result<(u32, Result<(), BookFault>, Option<Entry>, Option<u32>), Fail>
     requires name { blank.name ≡ L.name }
     requires parts { blank.parts ≡ L.parts }
     requires some { 0 < L.parts }
@@ -206,12 +214,14 @@ fn overfull<B: LoanBooks, L: Ledger>(
         books.post(deposit(number, today), &mut steps)?;
     }
     let more = books.post(deposit(4_097, today), &mut steps);
-    Ok((more, books.entry(4_096), books.reversed_by(4_096)))
+    let term = books.terms().term;
+    Ok((term, more, books.entry(4_096), books.reversed_by(4_096)))
 }
 
 #[test]
 fn an_account_is_full_at_4096_entries(rt: HostRuntime) -> Result<(), Fail> {
-    let (more, last, reversed) = overfull::<Plain, Brand>(rt.alloc(), Blank::new(1))?;
+    let (term, more, last, reversed) = overfull::<Plain, Brand>(rt.alloc(), Blank::new(1))?;
+    assert_eq!(rt; term, 360);
     assert_eq!(rt; more, Err(BookFault::Full));
     assert_eq!(rt; last, Some(deposit(4_096, day(2024, 2, 1))));
     assert_eq!(rt; reversed, None);
