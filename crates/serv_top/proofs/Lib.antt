@@ -9,3 +9,4 @@ pub mod FormLemmas
 pub mod FormFacts
 pub mod AnswerLemmas
 pub mod WorldLemmas
+pub mod KeyLemmas

@@ -11,4 +11,5 @@ pub mod Outcome
 pub mod Serving
 pub mod Stop
 pub mod Answers
+pub mod KnownKeys
 pub mod World

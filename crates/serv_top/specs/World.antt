@@ -20,7 +20,7 @@ use Rattle.serv_top.specs.declared.loan.Loan.{Loan}
 use Rattle.serv_top.specs.declared.verdict.Verdict.{Verdict}
 use Rattle.serv_top.specs.declared.verdict.Verdict.TheVariants as verdict
 use Rattle.serv_top.specs.Answers.{whole_pay}
-use Rattle.serv_top.specs.Values.{same}
+use Rattle.serv_top.specs.KnownKeys.{is_known}
 
 pub record World : Type 0 where
   pub keys : List (List ℕ)
@@ -30,10 +30,6 @@ pub record World : Type 0 where
 -- nothing was accepted yet, and the business day is 1990-01-01
 unfoldable pub empty_world : World
 empty_world = record { keys = []; today = 31 * (12 * 1990); loans = [] }
-
--- whether a command with a key was accepted
-abbrev pub is_known : List (List ℕ) → List ℕ → Bool
-is_known keys key = list_any (λ k. same k key) keys
 
 -- the loan with a number
 abbrev pub find_loan : List Loan → ℕ → Option Loan

@@ -29,13 +29,6 @@ pub(crate) const COMMANDS: usize = 1_000_000;
 
 const ENTRIES: usize = 4_096;
 
-/// Whether a command with a key was accepted.
-pub(crate) fn is_known(keys: &[Key], key: &Key) -> bool
-    ensures { result ≡ world.is_known keys.now key.now }
-{
-    keys.iter().any(|known| *known == *key)
-}
-
 /// The books of a loan on a day.
 pub(crate) fn loan_books<L: Ledger>(loan: &Loan, day: Day, steps: &mut Steps<L>) -> Books
     requires held { world.IsHeld day loan.now }

@@ -8,6 +8,7 @@ mod form_reading;
 mod form_values;
 mod form_words;
 mod judging;
+mod keys;
 mod loan;
 mod replies;
 mod serving;

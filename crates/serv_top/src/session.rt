@@ -9,7 +9,8 @@ ghost use Rattle.serv_top.specs.World as world;
 use crate::answers::books_reply;
 use crate::form::{Command, Form};
 use crate::form_reading::read_form;
-use crate::judging::{COMMANDS, is_known, loan_books, place_of, verdict_of};
+use crate::judging::{COMMANDS, loan_books, place_of, verdict_of};
+use crate::keys::Keys;
 use crate::loan::{Entries, Loan};
 use crate::replies::{no_such_loan, not_built, verdict_text};
 use crate::verdict::Verdict;
@@ -23,7 +24,7 @@ use svc_types::{Act, Entry, Key};
 #[derive(Drop)]
 pub(crate) struct Session {
     alloc: Global,
-    keys: Vec<Key>,
+    keys: Keys,
     today: Day,
     loans: Vec<Loan>,
 }
@@ -33,9 +34,9 @@ impl Model for Session {
 
     ghost Value = { World };
 
-    ghost view = { λ s. record { keys = s.keys.items; today = s.today; loans = s.loans.items } };
+    ghost view = { λ s. record { keys = s.keys.keys; today = s.today; loans = s.loans.items } };
 
-    ghost invariant = { λ s. IsWorld (record { keys = s.keys.items; today = s.today; loans = s.loans.items }) };
+    ghost invariant = { λ s. IsWorld (record { keys = s.keys.keys; today = s.today; loans = s.loans.items }) };
 }
 
 impl Session {
@@ -46,7 +47,7 @@ impl Session {
     {
         Session {
             alloc,
-            keys: Vec::new(alloc),
+            keys: Keys::new(alloc),
             today: first_day(Month::new(1990, 1)),
             loans: Vec::new(alloc),
         }
@@ -131,7 +132,7 @@ impl Session {
         if self.keys.len() >= COMMANDS {
             return Verdict::NotBuilt;
         }
-        if is_known(&self.keys, key) {
+        if self.keys.has(key) {
             return Verdict::NotBuilt;
         }
         verdict_of(self.today, &self.loans, command, steps)
@@ -146,7 +147,7 @@ impl Session {
         ensures err { OnErr result (self.new ≡ self.old) }
     {
         let number = self.keys.len() as u32 + 1;
-        self.keys.reserve(1)?;
+        self.keys.reserve()?;
         act(
             self.alloc,
             &mut self.today,
@@ -154,7 +155,7 @@ impl Session {
             command,
             number,
         )?;
-        self.keys.push_reserved(*key);
+        self.keys.push(*key);
         Ok(())
     }
 }
