@@ -1,5 +1,4 @@
-use Rattle.std.proofs.Common.{◌≡◌, sym, ap, ◌∙◌, [], ◌∷◌, ◌++◌}
-use Rattle.std.specs.Prelude.{List}
+use Rattle.std.proofs.Common.{sym, ap, ◌∙◌}
 use Rattle.std.specs.HashSet.{contains}
 use Rattle.serv_top.specs.Values.{same}
 use Rattle.serv_top.specs.KnownKeys.{is_known}
