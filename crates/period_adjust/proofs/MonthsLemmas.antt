@@ -14,7 +14,7 @@ use Rattle.period_adjust.specs.Kept.{IsBefore}
 -- the adjustments of a loan for so many months from 1990-01 on
 pub months_total : Part → ℕ → List Adjustment → ℕ → ℤ
 months_total p loan xs zero = pos 0
-months_total p loan xs (suc n) = months_total p loan xs n +ℤ total_by (adjusted p loan (23_880 + n)) xs
+months_total p loan xs (suc n) = months_total p loan xs n +ℤ total_by (adjusted p loan (23_868 + n)) xs
 
 -- an adjustment of another month
 pub adjusted_other : (p : Part) (loan month : ℕ) (a : Adjustment) → (a.month == month) ≡ false → adjusted p loan month a ≡ pos 0
@@ -37,40 +37,40 @@ months_total-cons p loan a xs zero = refl
 months_total-cons p loan a xs (suc n) = omega (arith, ints, months_total-cons p loan a xs n)
 
 -- an adjustment of a later month
-months_total-above : (p : Part) (loan : ℕ) (a : Adjustment) (n : ℕ) → 23_880 + n ≤ a.month → months_total p loan (a ∷ []) n ≡ pos 0
+months_total-above : (p : Part) (loan : ℕ) (a : Adjustment) (n : ℕ) → 23_868 + n ≤ a.month → months_total p loan (a ∷ []) n ≡ pos 0
 unfolding months_total
 months_total-above p loan a zero h = refl
 months_total-above p loan a (suc n) h =
-    let apart : (a.month == (23_880 + n)) ≡ false = grind (arith, nat_tests) in
-    let none : adjusted p loan (23_880 + n) a ≡ pos 0 = adjusted_other p loan (23_880 + n) a apart in
+    let apart : (a.month == (23_868 + n)) ≡ false = grind (arith, nat_tests) in
+    let none : adjusted p loan (23_868 + n) a ≡ pos 0 = adjusted_other p loan (23_868 + n) a apart in
     let rest : months_total p loan (a ∷ []) n ≡ pos 0 = months_total-above p loan a n (omega arith) in
     omega (arith, ints)
 
 -- one of these months
-months_total-one : (p : Part) (loan : ℕ) (a : Adjustment) (n : ℕ) → 23_880 ≤ a.month → a.month < 23_880 + n → months_total p loan (a ∷ []) n ≡ share p loan a
+months_total-one : (p : Part) (loan : ℕ) (a : Adjustment) (n : ℕ) → 23_868 ≤ a.month → a.month < 23_868 + n → months_total p loan (a ∷ []) n ≡ share p loan a
 unfolding months_total
 months_total-one p loan a zero low high = absurd (omega arith)
 months_total-one p loan a (suc n) low high =
-    elim (a.month == (23_880 + n)) as (λ t. (a.month == (23_880 + n)) ≡ t → months_total p loan (a ∷ []) (suc n) ≡ share p loan a) [
+    elim (a.month == (23_868 + n)) as (λ t. (a.month == (23_868 + n)) ≡ t → months_total p loan (a ∷ []) (suc n) ≡ share p loan a) [
       | true ↦ λ e.
-          let here : a.month ≡ 23_880 + n = grind (arith, nat_tests) in
+          let here : a.month ≡ 23_868 + n = grind (arith, nat_tests) in
           let none : months_total p loan (a ∷ []) n ≡ pos 0 = months_total-above p loan a n (omega arith) in
-          let own : adjusted p loan (23_880 + n) a ≡ share p loan a = adjusted_own p loan (23_880 + n) a e in
+          let own : adjusted p loan (23_868 + n) a ≡ share p loan a = adjusted_own p loan (23_868 + n) a e in
           omega (arith, ints)
       | false ↦ λ e.
-          let below : a.month < 23_880 + n = grind (arith, nat_tests) in
+          let below : a.month < 23_868 + n = grind (arith, nat_tests) in
           let rest : months_total p loan (a ∷ []) n ≡ share p loan a = months_total-one p loan a n low below in
-          let none : adjusted p loan (23_880 + n) a ≡ pos 0 = adjusted_other p loan (23_880 + n) a e in
+          let none : adjusted p loan (23_868 + n) a ≡ pos 0 = adjusted_other p loan (23_868 + n) a e in
           omega (arith, ints)
     ] refl
 
 -- the months together are all adjustments of the loan
-pub months_total-all : (p : Part) (loan end n : ℕ) (xs : List Adjustment) → end ≤ 23_880 + n → All (λ a. IsBefore end a.month) xs → months_total p loan xs n ≡ total_by (share p loan) xs
+pub months_total-all : (p : Part) (loan end n : ℕ) (xs : List Adjustment) → end ≤ 23_868 + n → All (λ a. IsBefore end a.month) xs → months_total p loan xs n ≡ total_by (share p loan) xs
 months_total-all p loan end n [] h all = months_total-nil p loan n
 months_total-all p loan end n (a ∷ xs) h all =
     let here : IsBefore end a.month = All-head (λ (b : Adjustment). IsBefore end b.month) a xs all in
-    let low : 23_880 ≤ a.month = here.low in
-    let high : a.month < 23_880 + n = omega arith in
+    let low : 23_868 ≤ a.month = here.low in
+    let high : a.month < 23_868 + n = omega arith in
     let one : months_total p loan (a ∷ []) n ≡ share p loan a = months_total-one p loan a n low high in
     let rest : months_total p loan xs n ≡ total_by (share p loan) xs = months_total-all p loan end n xs h (All-tail (λ (b : Adjustment). IsBefore end b.month) a xs all) in
     let split : months_total p loan (a ∷ xs) n ≡ months_total p loan (a ∷ []) n +ℤ months_total p loan xs n = months_total-cons p loan a xs n in
@@ -89,12 +89,12 @@ pub months_total-bound : (p : Part) (loan n : ℕ) (xs : List Adjustment) → ((
 unfolding months_total
 months_total-bound p loan zero xs h = record { low = omega (arith, ints); high = omega (arith, ints) }
 months_total-bound p loan (suc n) xs h =
-    let here : IsDifference (total_by (adjusted p loan (23_880 + n)) xs) = h (23_880 + n) in
+    let here : IsDifference (total_by (adjusted p loan (23_868 + n)) xs) = h (23_868 + n) in
     let rest : IsWithinMonths n (months_total p loan xs n) = months_total-bound p loan n xs h in
     record { low = omega (arith, ints); high = omega (arith, ints) }
 
-pub IsWithinMonths-fits : (z : ℤ) → IsWithinMonths 1_800 z → FitsSigned w64 z
+pub IsWithinMonths-fits : (z : ℤ) → IsWithinMonths 1_812 z → FitsSigned w64 z
 IsWithinMonths-fits z h =
-    let low : pos 0 ≤ℤ (z +ℤ pos 3_600_000_000_000_000_000) = h.low in
-    let high : z ≤ℤ pos 3_600_000_000_000_000_000 = h.high in
+    let low : pos 0 ≤ℤ (z +ℤ pos 3_624_000_000_000_000_000) = h.low in
+    let high : z ≤ℤ pos 3_624_000_000_000_000_000 = h.high in
     omega (arith, ints)

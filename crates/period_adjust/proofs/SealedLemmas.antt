@@ -60,8 +60,8 @@ pub sums_fit : (s : Books) (end : ℕ) → AreSealedTo s end → SumsFit s.pendi
 sums_fit s end h = λ k p loan.
     let before : All (λ (a : Adjustment). IsBefore end a.month) (take k s.pending) = All-take (λ (a : Adjustment). IsBefore end a.month) k s.pending h.pending in
     let most : end ≤ 25_680 = h.most in
-    let all : months_total p loan (take k s.pending) 1_800 ≡ total_by (share p loan) (take k s.pending) = months_total-all p loan end 1_800 (take k s.pending) most before in
-    let bound : IsWithinMonths 1_800 (months_total p loan (take k s.pending) 1_800) = months_total-bound p loan 1_800 (take k s.pending) (λ month. pending_difference p loan end s k month h) in
+    let all : months_total p loan (take k s.pending) 1_812 ≡ total_by (share p loan) (take k s.pending) = months_total-all p loan end 1_812 (take k s.pending) most before in
+    let bound : IsWithinMonths 1_812 (months_total p loan (take k s.pending) 1_812) = months_total-bound p loan 1_812 (take k s.pending) (λ month. pending_difference p loan end s k month h) in
     subst (λ (z : ℤ). FitsSigned w64 z) all (IsWithinMonths-fits _ bound)
 
 -- A change of dues.
@@ -242,7 +242,7 @@ sealed_close s m dues h may =
     let end : ℕ = behind (last_month s.reports) in
     let new : Books = after s (Close m dues) in
     let next : end ≤ m = behind_next (last_month s.reports) m may.expected.next in
-    let low : 23_880 ≤ m = may.expected.low in
+    let low : 23_868 ≤ m = may.calendar.begin in
     let high : m ≤ 25_679 = may.expected.high in
     let report : Sealed = report_of m dues s.pending in
     let here : IsBefore (m + 1) m = record { low = low; high = omega arith } in

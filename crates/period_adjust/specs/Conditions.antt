@@ -1,6 +1,7 @@
 -- When the dues of a command may be recorded and a month may be closed.
 use Rattle.std.specs.Prelude.{◌≡◌, ℕ, ◌+◌, ◌<◌, ◌≤◌, List, [], ◌∷◌, map, length, ℤ, pos, neg_ℤ, ◌≤ℤ◌, Option, Some, None, IfSome, ⊤}
 use Rattle.std.specs.List.{All, Any, AllPairs}
+use Rattle.svc_base.specs.Calendar.{IsMonth}
 use Rattle.remit_types.specs.declared.dues.MonthDue.{MonthDue}
 use Rattle.period_adjust.specs.declared.entries.Adjustment.{Adjustment}
 use Rattle.period_adjust.specs.declared.entries.ReportLine.{ReportLine}
@@ -66,10 +67,8 @@ pub record MayChange (s : Books) (number loan : ℕ) (before later : List MonthD
   pub later_small : All IsSmallDue later
   pub few : count_held s + length (adjustments_of number loan before later) ≤ 4_000_000
 
--- the month that may be closed: from 1990-01, before which no day of a request lies, to 2139-12, and
--- the one behind the last closed one
+-- the month that may be closed: at most 2139-12, and the one behind the last closed one
 pub record IsExpected (reports : List Sealed) (month : ℕ) : Type 0 where
-  pub low : 23_880 ≤ month
   pub high : month ≤ 25_679
   pub next : IfSome (last_month reports) (λ last. month ≡ last + 1)
 
@@ -86,6 +85,7 @@ pub record AreDues (pending : List Adjustment) (dues : List ReportLine) : Type 0
   pub small : All IsSmallLine dues
 
 pub record MayClose (s : Books) (month : ℕ) (dues : List ReportLine) : Type 0 where
+  pub calendar : IsMonth month
   pub expected : IsExpected s.reports month
   pub lines : AreDues s.pending dues
 

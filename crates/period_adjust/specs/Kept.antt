@@ -21,13 +21,13 @@ AreConsecutive (r ∷ rs) = IfSome (first_month rs) (λ next. next ≡ r.month +
 
 -- a month from 1990-01 on, before that end
 pub record IsBefore (end month : ℕ) : Type 0 where
-  pub low : 23_880 ≤ month
+  pub low : 23_868 ≤ month
   pub high : month < end
 
 -- what holds of all reports and adjustments: the months of reports follow one another, from 1990-01
 -- to 2139-12; no adjustment is of a month behind them; and what was reported and sent for a month of
 -- a loan, with its part of the first so many pending adjustments, lies between -10^15 and 10^15, so
--- that a loan's sum of these over at most 1,800 months is a number of 64 bits
+-- that a loan's sum of these over at most 1,812 months is a number of 64 bits
 pub record AreSealedTo (s : Books) (end : ℕ) : Type 0 where
   pub consecutive : AreConsecutive s.reports
   pub most : end ≤ 25_680

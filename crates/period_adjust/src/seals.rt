@@ -180,7 +180,7 @@ impl Seals {
         ensures err_lines { OnErr result (self.old.line_room ≤ self.new.line_room) }
         ensures err_adjustments { OnErr result (self.old.adjustment_room ≤ self.new.adjustment_room) }
     {
-        if month != expected {
+        if month.number() != expected.number() {
             return Err(SealFault::WrongPeriod(expected));
         }
         let last = last_day(month);
@@ -210,6 +210,7 @@ impl Seals {
 
     /// Adds the report of a month.
     fn seal(&mut self, month: Month, dues: &[ReportLine])
+        requires month { calendar.IsMonth month }
         requires expected { IsExpected self.old.books.reports month }
         requires dues { AreDues self.old.books.pending dues.now }
         requires report_room { 1 ≤ self.old.report_room }

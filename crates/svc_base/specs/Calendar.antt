@@ -1,6 +1,6 @@
 -- The calendar of the books. A month is counted from January of the year 0, and a day is seen as a
 -- number, 31 to each month, so that later days have greater numbers; some numbers are no day.
-use Rattle.std.specs.Prelude.{ℕ, zero, suc, ◌+◌, ◌-◌, ◌*◌, ◌/◌, ◌%◌, ◌≤◌, nat_lt, min, pos, if◌then◌else◌}
+use Rattle.std.specs.Prelude.{ℕ, zero, suc, ◌+◌, ◌-◌, ◌*◌, ◌/◌, ◌%◌, ◌≤◌, ◌<◌, nat_lt, min, pos, if◌then◌else◌}
 use Rattle.jiff_core.specs.Calendar.{days_in_month}
 
 -- the year of a month
@@ -15,9 +15,18 @@ number_in_year m = m % 12 + 1
 unfoldable pub month_length : ℕ → ℕ
 month_length m = days_in_month (pos (year_of_month m)) (number_in_year m)
 
--- the months that the books reach end with December 2140
+-- the months that the books reach begin with January 1989, the year before the first that requests
+-- name, and end with December 2140
+abbrev pub months_begin : ℕ
+months_begin = 23_868
+
 abbrev pub months_end : ℕ
 months_end = 25_692
+
+-- a month that the books reach
+pub record IsMonth (m : ℕ) : Type 0 where
+  pub begin : months_begin ≤ m
+  pub end : m < months_end
 
 -- the month of a day
 abbrev pub month_of : ℕ → ℕ

@@ -1,7 +1,7 @@
 //! A month of a year.
 
 ghost use Rattle.std.specs.Prelude.{◌≡◌, ℕ, ◌+◌, ◌*◌, ◌<◌, ◌≤◌, ◌-◌};
-ghost use Rattle.svc_base.specs.Calendar.{year_of_month, number_in_year, months_end};
+ghost use Rattle.svc_base.specs.Calendar.{year_of_month, number_in_year, months_begin, months_end};
 
 use std::marker::Model;
 
@@ -12,22 +12,23 @@ pub struct Month {
 }
 
 impl Model for Month {
-    ghost use Rattle.std.specs.Prelude.{ℕ, ◌<◌};
-    ghost use Rattle.svc_base.specs.Calendar.{months_end};
+    ghost use Rattle.std.specs.Prelude.{ℕ};
+    ghost use Rattle.svc_base.specs.Calendar.{IsMonth};
 
     ghost Value = { ℕ };
 
     ghost view = { λ m. m.number };
 
-    ghost invariant = { λ m. m.number < months_end };
+    ghost invariant = { λ m. IsMonth m.number };
 
     ghost inverse = { λ n. record { number = n } };
 }
 
 impl Month {
-    /// The month of that number, from 1, in a year up to 2140.
+    /// The month of that number, from 1, in a year from 1989 to 2140.
     pub fn new(year: u32, month: u32) -> Month
-        requires year { year ≤ 2140 }
+        requires first_year { 1989 ≤ year }
+        requires last_year { year ≤ 2140 }
         requires first { 1 ≤ month }
         requires last { month ≤ 12 }
         ensures { result ≡ 12 * year + (month - 1) }
@@ -54,7 +55,8 @@ impl Month {
     /// The count of months since January of the year 0.
     pub fn number(&self) -> u32
         ensures value { result ≡ self.now }
-        ensures bound { self.now < months_end }
+        ensures begin { months_begin ≤ self.now }
+        ensures end { self.now < months_end }
     {
         self.number
     }
@@ -71,7 +73,7 @@ impl Month {
 
     /// The month before.
     pub fn previous(&self) -> Month
-        requires { 0 < self.now }
+        requires { months_begin < self.now }
         ensures { result + 1 ≡ self.now }
     {
         Month {

@@ -15,7 +15,7 @@ pub invariant_of-self : goal.invariant_of-self
 invariant_of-self c =
     let s : Books = books c.self.inside.reports.items c.self.inside.pending.items in
     let same : c.args.self.now.books ≡ s = sym (ap (λ (x : State). x.books) c.self.view_is) in
-    let here : MayClose c.args.self.now.books c.args.month c.args.dues.now = record { expected = c.requires.expected; lines = c.requires.dues } in
+    let here : MayClose c.args.self.now.books c.args.month c.args.dues.now = record { calendar = c.requires.month; expected = c.requires.expected; lines = c.requires.dues } in
     let may : MayClose s c.args.month c.args.dues.now = subst (λ (b : Books). MayClose b c.args.month c.args.dues.now) same here in
     let lines : c.new-3.result.lines ≡ map (line_with s.pending) c.args.dues.now =
     c.new-3.ensures.lines ∙ c.report_lines-lines.ensures ∙ ap (λ (ps : List Adjustment). map (line_with ps) c.args.dues.now) c.as_slice.ensures.value in
