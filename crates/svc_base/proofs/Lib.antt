@@ -2,3 +2,4 @@ pub mod CalendarLemmas
 pub mod MoneyLemmas
 pub mod CentsRules
 pub mod TextLemmas
+pub mod SumLemmas

@@ -54,7 +54,7 @@ pub record IsReadDay (d : ℕ) : Type 0 where
   pub first : 1990 ≤ year_of_month (month_of d)
   pub last : year_of_month (month_of d) ≤ 2099
 
--- the day behind a day
+-- the day after a day
 abbrev pub next_day : ℕ → ℕ
 next_day d = if nat_lt (day_in_month d) (month_length (month_of d)) then d + 1 else first_day (month_of d + 1)
 
