@@ -197,7 +197,7 @@ not_true b h = grind arith
 not_false : (b : Bool) → not b ≡ false → b ≡ true
 not_false b h = grind arith
 
--- what comes at or behind an entry that e takes effect before, e takes effect before too
+-- what comes at or after an entry that e takes effect before, e takes effect before too
 pub partitioned : (e : Entry) (xs : List Entry) → AllPairs follows xs → IsPartitionedBy (λ x. not (is_before e x)) xs
 partitioned e xs h i j d le within later =
     elim (nat_lt i j) as (λ v. nat_lt i j ≡ v → not (is_before e (get_or xs i d)) ≡ true) [

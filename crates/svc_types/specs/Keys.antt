@@ -14,7 +14,7 @@ pub record IsKey (text : List ℕ) : Type 0 where
   pub high : length text ≤ 32
   pub each : IsTrue (list_all is_key_byte text)
 
--- what holds of the fields of a key: zeros stand behind its bytes
+-- what holds of the fields of a key: zeros stand after its bytes
 pub record IsKeyOf (bytes : List ℕ) (len : ℕ) : Type 0 where
   pub size : length bytes ≡ 32
   pub low : 1 ≤ len

@@ -3,11 +3,22 @@
 use crate::escrow::Settled;
 use svc_base::{Cents, Day};
 
+/// Where what a payment leaves goes once nothing is due on or before its day.
+#[derive(Clone, Copy, Debug, PartialEq, Eq)]
+pub enum Designation {
+    /// It waits in suspense, and pays the installment due next as soon as it covers it.
+    Regular,
+    /// To principal, ahead of its time.
+    Principal,
+    /// To escrow.
+    Escrow,
+}
+
 /// What an entry does.
 #[derive(Clone, Copy, Debug, PartialEq, Eq)]
 pub enum Act {
-    /// A payment.
-    Pay(Cents),
+    /// A payment, and where what it leaves goes.
+    Pay(Cents, Designation),
     /// A payment on the principal alone.
     Curtail(Cents),
     /// A payment that is to satisfy the loan.

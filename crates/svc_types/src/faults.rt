@@ -16,7 +16,7 @@ pub enum TermFault {
     Payment,
     #[error("the term is not from 1 to 480 installments")]
     Term,
-    #[error("the first due date is not one or two months behind the boarded month")]
+    #[error("the first due date is not one or two months after the boarded month")]
     FirstDue,
     #[error("the days of grace are above 28")]
     Grace,

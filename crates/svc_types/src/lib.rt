@@ -10,7 +10,7 @@ mod order;
 mod terms;
 mod words;
 
-pub use account::{Act, Entry, Event, What};
+pub use account::{Act, Designation, Entry, Event, What};
 pub use books::{Books, Installment, MonthFacts};
 pub use escrow::{EscrowPlan, Figures, LineKind, PartPlan, Plan, PlanPart, Settled, SurplusPlan};
 pub use faults::{LineWhy, PlanFault, TermFault};

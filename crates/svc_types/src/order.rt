@@ -16,7 +16,7 @@ pub fn before(a: &Entry, b: &Entry) -> bool
     a.day < b.day || (a.day == b.day && a.number < b.number)
 }
 
-/// The place that an entry takes among entries in order: behind all that it does not take effect
+/// The place that an entry takes among entries in order: after all that it does not take effect
 /// before.
 pub fn place_of(ordered: &[Entry], entry: &Entry) -> usize
     requires { AllPairs (λ a b. rule.is_before b a ≡ false) ordered.now }

@@ -36,7 +36,7 @@ pub struct Terms {
     pub term: u32,
     /// The month in which the first installment is due.
     pub first: Month,
-    /// The days of grace behind a due day.
+    /// The days of grace after a due day.
     pub grace: u32,
     /// The late charge, in basis points of the level payment.
     pub late: u32,
