@@ -3,3 +3,5 @@ pub mod Words
 pub mod Keys
 pub mod KeyLemmas
 pub mod Live
+pub mod Same
+pub mod Requests

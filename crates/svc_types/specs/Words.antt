@@ -1,6 +1,8 @@
 -- The spelling of the words that requests choose from: each has one text.
-use Rattle.std.specs.Prelude.{ℕ, ◌<◌, ◌^◌, List, ◌++◌, codes}
+use Rattle.std.specs.Prelude.{ℕ, ◌<◌, ◌^◌, List, [], ◌++◌, codes}
 use Rattle.svc_base.specs.Text.{text_of_number}
+use Rattle.svc_types.specs.declared.account.Designation.{Designation}
+use Rattle.svc_types.specs.declared.account.Designation.TheVariants as over
 use Rattle.svc_types.specs.declared.terms.RemitType.{RemitType}
 use Rattle.svc_types.specs.declared.terms.RemitType.TheVariants.{AA, SA, SS}
 use Rattle.svc_types.specs.declared.escrow.LineKind.{LineKind}
@@ -22,6 +24,18 @@ text_of_kind Tax = codes "tax"
 text_of_kind Hazard = codes "hazard"
 text_of_kind Flood = codes "flood"
 text_of_kind Other = codes "other"
+
+-- where what a payment leaves goes; a regular payment names nothing
+abbrev pub text_of_designation : Designation → List ℕ
+text_of_designation over.Regular = []
+text_of_designation over.Principal = codes "principal"
+text_of_designation over.Escrow = codes "escrow"
+
+-- a designation that a payment names
+abbrev pub IsNamed : Designation → Type 0
+IsNamed over.Regular = ⊥
+IsNamed over.Principal = Unit {0}
+IsNamed over.Escrow = Unit {0}
 
 -- what is done with a surplus
 abbrev pub text_of_surplus : SurplusPlan → List ℕ

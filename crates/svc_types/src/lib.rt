@@ -1,4 +1,4 @@
-//! What a loan, its entries and its books are made of.
+//! What a loan, its entries and its books are made of, and what a servicer is asked and answers.
 #![tactic(auto)]
 
 mod account;
@@ -7,6 +7,8 @@ mod escrow;
 mod faults;
 mod key;
 mod order;
+mod replies;
+mod requests;
 mod terms;
 mod words;
 
@@ -16,10 +18,14 @@ pub use escrow::{EscrowPlan, Figures, LineKind, PartPlan, Plan, PlanPart, Settle
 pub use faults::{LineWhy, PlanFault, TermFault};
 pub use key::{Key, read_key};
 pub use order::{before, live, place_of};
+pub use replies::{Extra, Limit, Refusal, Reply};
+pub use requests::{Command, Query, Request, TypeChange, is_same};
 pub use terms::{RemitType, Terms};
-pub use words::{read_kind, read_part, read_surplus, read_type};
+pub use words::{read_designation, read_kind, read_part, read_surplus, read_type};
 
 #[cfg(test)]
 mod order_tests;
+#[cfg(test)]
+mod request_tests;
 #[cfg(test)]
 mod tests;

@@ -4,11 +4,14 @@
 ghost use Rattle.std.specs.Prelude.{◌≡◌, ◌≢◌, ◌<◌, ◌^◌, ◌++◌, ℕ, IfSome, IfNone, codes};
 ghost use Rattle.svc_base.specs.Text.{text_of_number};
 ghost use Rattle.svc_types.specs.Words.{text_of_type, text_of_kind, text_of_surplus, text_of_part, IsReadPart};
+ghost use Rattle.svc_types.specs.Words.{text_of_designation, IsNamed};
+ghost use Rattle.svc_types.specs.declared.account.Designation as over;
 ghost use Rattle.svc_types.specs.declared.terms.RemitType as types;
 ghost use Rattle.svc_types.specs.declared.escrow.LineKind as kinds;
 ghost use Rattle.svc_types.specs.declared.escrow.SurplusPlan as surpluses;
 ghost use Rattle.svc_types.specs.declared.escrow.PartPlan as parts;
 
+use crate::account::Designation;
 use crate::escrow::{LineKind, PartPlan, SurplusPlan};
 use crate::terms::RemitType;
 use svc_base::read_number;
@@ -36,6 +39,18 @@ pub fn read_kind(text: &[u8]) -> Option<LineKind>
         b"hazard" => Some(LineKind::Hazard),
         b"flood" => Some(LineKind::Flood),
         b"other" => Some(LineKind::Other),
+        _ => None,
+    }
+}
+
+/// The designation that a text spells: `principal` or `escrow`. A regular payment names none.
+pub fn read_designation(text: &[u8]) -> Option<Designation>
+    ensures read { IfSome result (λ d. IsNamed d × (text.now ≡ text_of_designation d)) }
+    ensures none { IfNone result ((d : over.Designation) → IsNamed d → text.now ≢ text_of_designation d) }
+{
+    match text {
+        b"principal" => Some(Designation::Principal),
+        b"escrow" => Some(Designation::Escrow),
         _ => None,
     }
 }
