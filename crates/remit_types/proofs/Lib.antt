@@ -1,2 +1,4 @@
-pub mod Interest
 pub mod DueFields
+pub mod Interest
+pub mod LimitLemmas
+pub mod MonthsLemmas

@@ -1,10 +1,11 @@
-//! The dues of a month, and what the next month's need of it.
+//! The due of a month, and what the next month's needs of it.
 
-ghost use Rattle.std.specs.Prelude.{◌≡◌, List, [], ◌∷◌, pos, ◌≤ℤ◌};
+ghost use Rattle.std.specs.Prelude.{◌≡◌, ◌⊎◌, pos, neg_ℤ, ◌≤ℤ◌};
 ghost use Rattle.svc_base.specs.Money as interest;
 ghost use Rattle.svc_types.specs.Terms.{IsSound};
 ghost use Rattle.remit_types.specs.Dues as dues;
-ghost use Rattle.remit_types.specs.Limits.{IsWithin, AreWithin};
+ghost use Rattle.remit_types.specs.Schedule as schedule;
+ghost use Rattle.remit_types.specs.Limits.{IsWithin, HasSums, AreWithin};
 
 use svc_base::{Cents, Month, month_interest};
 use svc_types::{MonthFacts, RemitType, Terms};
@@ -18,49 +19,86 @@ pub struct MonthDue {
     pub balance: Cents,
 }
 
-/// The loan's balance and the investor's balance at the end of the month before, in cents.
+/// A loan's remittance at a month's end, in cents: the loan's balance and the investor's, and from
+/// boarding on the interest less fee that was collected, scheduled and passed to the investor.
 #[derive(Clone, Copy, Debug, PartialEq, Eq)]
 pub struct Carry {
     pub upb: Cents,
     pub balance: Cents,
+    pub actual: Cents,
+    pub scheduled: Cents,
+    pub passed: Cents,
 }
 
-/// The balances before the boarded month: both are the principal.
+/// The remittance before the boarded month: both balances are the principal, and no interest was
+/// collected, scheduled or passed.
 pub fn first(terms: &Terms) -> Carry
-    requires { IsSound terms.now }
-    ensures value { result ≡ dues.carry_at terms.now [] }
-    ensures limits { IsWithin terms.now result }
+    ensures carry { result ≡ dues.carried_first terms.now }
+    ensures limits { IsSound terms.now → IsWithin terms.now result }
+    ensures sums { HasSums result }
 {
     Carry {
         upb: terms.principal,
         balance: terms.principal,
+        actual: 0,
+        scheduled: 0,
+        passed: 0,
     }
 }
 
-/// What is due for the next month, by the type that it is remitted as. It is called month by
-/// month from the boarded month, with the month's facts; the carry then is that month's.
+/// What is due for a month, by the type that it is remitted as, and what is carried from the month
+/// before it to the next. A change of type brings the interest passed to the new type's sum, so
+/// its first month's interest may be that of many months, or below 0.
 pub fn due(carry: &mut Carry, terms: &Terms, kind: RemitType, facts: &MonthFacts) -> MonthDue
     requires terms { IsSound terms.now }
     requires carry { IsWithin terms.now carry.old }
+    requires sums { HasSums carry.old }
     requires facts { AreWithin terms.now facts.now }
-    ensures carry { (earlier : List dues.LoanMonth) → carry.old ≡ dues.carry_at terms.now earlier →
-        carry.new ≡ dues.carry_at terms.now (dues.loan_month kind facts.now ∷ earlier) }
-    ensures due { (earlier : List dues.LoanMonth) → carry.old ≡ dues.carry_at terms.now earlier →
-        result ≡ dues.due terms.now (dues.loan_month kind facts.now) earlier }
+    ensures carry { carry.new ≡ dues.carried_after terms.now carry.old (dues.loan_month kind facts.now) }
+    ensures due { result ≡ dues.due_between facts.now.month carry.old carry.new }
     ensures limits { IsWithin terms.now carry.new }
 {
-    let before = carry.balance;
-    let balance = balance_after(terms, kind, before, facts);
-    let interest = interest_due(terms, kind, before, facts);
-    *carry = Carry {
-        upb: facts.upb,
-        balance,
-    };
+    let before = *carry;
+    *carry = carried(&before, terms, kind, facts);
     MonthDue {
         month: facts.month,
-        interest,
-        principal: before - balance,
+        interest: carry.passed - before.passed,
+        principal: before.balance - carry.balance,
+        balance: carry.balance,
+    }
+}
+
+/// The remittance at a month's end, from that of the month before.
+fn carried(before: &Carry, terms: &Terms, kind: RemitType, facts: &MonthFacts) -> Carry
+    requires terms { IsSound terms.now }
+    requires carry { IsWithin terms.now before.now }
+    requires sums { HasSums before.now }
+    requires facts { AreWithin terms.now facts.now }
+    ensures carry { result ≡ dues.carried_after terms.now before.now (dues.loan_month kind facts.now) }
+    ensures limits { IsWithin terms.now result }
+    ensures passed_low { neg_ℤ (pos 2_000_000_000_000_000_000) ≤ℤ result.passed }
+    ensures passed_high { result.passed ≤ℤ pos 2_000_000_000_000_000_000 }
+{
+    let balance = balance_after(terms, kind, before.balance, facts);
+    let actual = before.actual + (facts.interest - facts.fee);
+    let scheduled = before.scheduled + scheduled_interest(terms, facts.month, before.balance);
+    Carry {
+        upb: facts.upb,
         balance,
+        actual,
+        scheduled,
+        passed: passed_by(kind, actual, scheduled),
+    }
+}
+
+/// The interest passed: what was collected, or what was scheduled.
+fn passed_by(kind: RemitType, actual: Cents, scheduled: Cents) -> Cents
+    ensures value { result ≡ dues.passed_by kind actual scheduled }
+    ensures one_of_both { (result ≡ actual) ⊎ (result ≡ scheduled) }
+{
+    match kind {
+        RemitType::AA => actual,
+        RemitType::SA | RemitType::SS => scheduled,
     }
 }
 
@@ -97,12 +135,12 @@ fn scheduled_balance(terms: &Terms, before: Cents, facts: &MonthFacts) -> Cents
 }
 
 /// The principal that the schedule asks of a balance in a month.
-#[tactic(auto, unfolding(crate::specs::Dues::scheduled_principal))]
+#[tactic(auto, unfolding(crate::specs::Schedule::scheduled_principal))]
 fn scheduled_principal(terms: &Terms, month: Month, before: Cents) -> Cents
     requires terms { IsSound terms.now }
     requires low { pos 0 ≤ℤ before }
     requires high { before ≤ℤ terms.now.principal }
-    ensures value { result ≡ dues.scheduled_principal terms.now month before }
+    ensures value { result ≡ schedule.scheduled_principal terms.now month before }
     ensures low { pos 0 ≤ℤ result }
     ensures high { result ≤ℤ before }
 {
@@ -116,12 +154,12 @@ fn scheduled_principal(terms: &Terms, month: Month, before: Cents) -> Cents
 }
 
 /// The part of the level payment that is principal, at most the balance.
-#[tactic(auto, using(std::proofs::lemmas::Int::ints, std::proofs::lemmas::Int::clamps), unfolding(crate::specs::Dues::level_principal))]
+#[tactic(auto, using(std::proofs::lemmas::Int::ints, std::proofs::lemmas::Int::clamps), unfolding(crate::specs::Schedule::level_principal))]
 fn level_principal(terms: &Terms, before: Cents) -> Cents
     requires terms { IsSound terms.now }
     requires low { pos 0 ≤ℤ before }
     requires high { before ≤ℤ terms.now.principal }
-    ensures value { result ≡ dues.level_principal terms.now before }
+    ensures value { result ≡ schedule.level_principal terms.now before }
     ensures low { pos 0 ≤ℤ result }
     ensures high { result ≤ℤ before }
 {
@@ -137,6 +175,7 @@ fn note_interest(terms: &Terms, balance: Cents) -> Cents
     ensures value { result ≡ interest.month_interest balance terms.now.rate }
     ensures low { pos 0 ≤ℤ result }
     ensures high { result ≤ℤ terms.now.pi }
+    ensures most { result ≤ℤ pos 208_333_333 }
 {
     month_interest(balance, terms.rate)
 }
@@ -153,28 +192,16 @@ fn fee_interest(terms: &Terms, balance: Cents) -> Cents
     month_interest(balance, terms.fee)
 }
 
-/// The interest due for a month, less the servicing fee.
-fn interest_due(terms: &Terms, kind: RemitType, before: Cents, facts: &MonthFacts) -> Cents
-    requires terms { IsSound terms.now }
-    requires low { pos 0 ≤ℤ before }
-    requires high { before ≤ℤ terms.now.principal }
-    requires facts { AreWithin terms.now facts.now }
-    ensures { result ≡ dues.interest_due terms.now before (dues.loan_month kind facts.now) }
-{
-    match kind {
-        RemitType::AA => facts.interest - facts.fee,
-        RemitType::SA | RemitType::SS => scheduled_interest(terms, facts.month, before),
-    }
-}
-
 /// One month's interest on the investor's balance less the servicing fee, from the first due
 /// month on.
-#[tactic(auto, using(std::proofs::lemmas::Int::ints), unfolding(crate::specs::Dues::scheduled_interest))]
+#[tactic(auto, using(std::proofs::lemmas::Int::ints), unfolding(crate::specs::Schedule::scheduled_interest))]
 fn scheduled_interest(terms: &Terms, month: Month, before: Cents) -> Cents
     requires terms { IsSound terms.now }
     requires low { pos 0 ≤ℤ before }
     requires high { before ≤ℤ terms.now.principal }
-    ensures { result ≡ dues.scheduled_interest terms.now month before }
+    ensures value { result ≡ schedule.scheduled_interest terms.now month before }
+    ensures low { pos 0 ≤ℤ result }
+    ensures high { result ≤ℤ pos 208_333_333 }
 {
     if terms.first <= month {
         note_interest(terms, before) - fee_interest(terms, before)

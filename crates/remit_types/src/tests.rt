@@ -1,11 +1,14 @@
-//! Dues month by month.
+//! Dues month by month, by running `due` for each type and for changes of type.
 
-ghost use Rattle.std.specs.Prelude.{◌≡◌, pos};
+ghost use Rattle.std.specs.Prelude.{◌≡◌, pos, IsTrue};
 ghost use Rattle.svc_types.specs.Terms.{IsSound};
+ghost use Rattle.remit_types.specs.Limits.{HasSums};
 
 use super::*;
+use std::process::Abort;
 use std::test::*;
 use svc_base::{Cents, Day, Month};
+use svc_types::RemitType::{AA, SA, SS};
 
 /// 200,000.00 at 6%, of which 0.25% is the fee, first due in 2024-02.
 #[tactic(auto, using(svc_base::specs::DayLemmas::month_length_least), unfolding(svc_base::specs::Money::month_interest))]
@@ -25,53 +28,230 @@ fn level_loan() -> Terms
         late: 500,
         cushion: 2,
         escrow: 0,
-        kind: RemitType::SS,
+        kind: SS,
+    }
+}
+
+/// The sums lie between -10^18 and 10^18.
+fn has_sums(carry: &Carry) -> bool
+    ensures { IsTrue result → HasSums carry.now }
+{
+    let limit = 1_000_000_000_000_000_000;
+    let low = -limit <= carry.actual && -limit <= carry.scheduled && -limit <= carry.passed;
+    let high = carry.actual <= limit && carry.scheduled <= limit && carry.passed <= limit;
+    low && high
+}
+
+/// A month and its type, what it did to the loan, and what is due for it: interest, principal and
+/// the investor's balance.
+#[derive(Clone, Copy)]
+struct Row {
+    kind: RemitType,
+    month: (u32, u32),
+    upb: u32,
+    curtailed: u32,
+    interest: u32,
+    fee: u32,
+    satisfied: bool,
+    want: (Cents, Cents, Cents),
+}
+
+/// A month in which nothing was paid.
+fn unpaid(kind: RemitType, month: (u32, u32), upb: u32, want: (Cents, Cents, Cents)) -> Row {
+    Row {
+        kind,
+        month,
+        upb,
+        curtailed: 0,
+        interest: 0,
+        fee: 0,
+        satisfied: false,
+        want,
+    }
+}
+
+/// A month in which interest and the fee in it were collected.
+fn paid(
+    kind: RemitType,
+    month: (u32, u32),
+    upb: u32,
+    collected: (u32, u32),
+    want: (Cents, Cents, Cents),
+) -> Row {
+    let (interest, fee) = collected;
+    Row {
+        interest,
+        fee,
+        ..unpaid(kind, month, upb, want)
+    }
+}
+
+/// The two months before the first due month, in which nothing is due.
+fn boarding(kind: RemitType) -> [Row; 2] {
+    [
+        unpaid(kind, (2023, 12), 20_000_000, (0, 0, 20_000_000)),
+        unpaid(kind, (2024, 1), 20_000_000, (0, 0, 20_000_000)),
+    ]
+}
+
+/// The payoff on 2024-02-16 after the first installment.
+fn paid_off(kind: RemitType) -> Row {
+    Row {
+        satisfied: true,
+        ..paid(
+            kind,
+            (2024, 2),
+            0,
+            (149_950, 6_248),
+            (95_833, 20_000_000, 0),
+        )
+    }
+}
+
+/// What `due` says of some months from the boarded month on.
+fn check_rows(rt: &impl Abort, start: RemitType, rows: &[Row]) {
+    let before = boarding(start);
+    let terms = level_loan();
+    let mut carry = first(&terms);
+    for row in before.iter().chain(rows) {
+        let (year, month) = row.month;
+        assert!(rt; 2023 <= year && year <= 2024);
+        assert!(rt; 1 <= month && month <= 12);
+        assert!(rt; row.upb <= 20_000_000);
+        assert!(rt; has_sums(&carry));
+        let facts = MonthFacts {
+            month: Month::new(year, month),
+            upb: Cents::from(row.upb),
+            curtailed: Cents::from(row.curtailed),
+            interest: Cents::from(row.interest),
+            fee: Cents::from(row.fee),
+            satisfied: row.satisfied,
+        };
+        let got = due(&mut carry, &terms, row.kind, &facts);
+        let (interest, principal, balance) = row.want;
+        assert_eq!(rt; got.interest, interest, "interest of {year}-{month}");
+        assert_eq!(rt; got.principal, principal, "principal of {year}-{month}");
+        assert_eq!(rt; got.balance, balance, "balance of {year}-{month}");
+        assert_eq!(rt; carry.upb, Cents::from(row.upb));
+        assert_eq!(rt; carry.balance, balance);
     }
 }
 
 #[test]
-fn scheduled_loan_that_is_paid_once_and_curtailed(rt: HostRuntime) {
-    let terms = level_loan();
-    let mut carry = first(&terms);
-    // year, month, balance, curtailed, interest, fee; then what is due
-    let rows: [(u32, u32, u32, u32, u32, u32, Cents, Cents, Cents); 4] = [
-        (2023, 12, 20_000_000, 0, 0, 0, 0, 0, 20_000_000),
-        (2024, 1, 20_000_000, 0, 0, 0, 0, 0, 20_000_000),
-        (
-            2024, 2, 19_880_090, 100_000, 100_000, 4_167, 95_833, 119_910, 19_880_090,
-        ),
-        (2024, 3, 19_880_090, 0, 0, 0, 95_258, 20_510, 19_859_580),
-    ];
-    for (
-        year,
-        month,
-        upb,
-        curtailed,
-        interest,
-        fee,
-        want_interest,
-        want_principal,
-        want_balance,
-    ) in rows {
-        assert!(rt; year < 3_000 && 1 <= month && month <= 12);
-        assert!(rt; upb <= 20_000_000);
-        let facts = MonthFacts {
-            month: Month::new(year, month),
-            upb: Cents::from(upb),
-            curtailed: Cents::from(curtailed),
-            interest: Cents::from(interest),
-            fee: Cents::from(fee),
-            satisfied: false,
-        };
-        let got = due(&mut carry, &terms, RemitType::SS, &facts);
-        assert_eq!(rt; got.interest, want_interest, "interest of {year}-{month}");
-        assert_eq!(rt;
-            got.principal,
-            want_principal,
-            "principal of {year}-{month}"
-        );
-        assert_eq!(rt; got.balance, want_balance, "balance of {year}-{month}");
-        assert_eq!(rt; carry.upb, Cents::from(upb));
-        assert_eq!(rt; carry.balance, want_balance);
-    }
+fn scheduled_interest_and_principal(rt: HostRuntime) {
+    let first = paid(
+        SS,
+        (2024, 2),
+        19_980_090,
+        (100_000, 4_167),
+        (95_833, 19_910, 19_980_090),
+    );
+    let unpaid_month = unpaid(SS, (2024, 3), 19_980_090, (95_737, 20_010, 19_960_080));
+    let late = paid(
+        SS,
+        (2024, 3),
+        19_960_080,
+        (99_900, 4_163),
+        (95_737, 20_010, 19_960_080),
+    );
+    check_rows(&rt, SS, &[first, unpaid_month]);
+    check_rows(&rt, SS, &[first, late]);
+    let curtailed = Row {
+        curtailed: 100_000,
+        ..paid(
+            SS,
+            (2024, 2),
+            19_880_090,
+            (100_000, 4_167),
+            (95_833, 119_910, 19_880_090),
+        )
+    };
+    let after = unpaid(SS, (2024, 3), 19_880_090, (95_258, 20_510, 19_859_580));
+    check_rows(&rt, SS, &[curtailed, after]);
+    check_rows(&rt, SS, &[paid_off(SS)]);
+}
+
+#[test]
+fn scheduled_interest_and_actual_principal(rt: HostRuntime) {
+    let first = paid(
+        SA,
+        (2024, 2),
+        19_980_090,
+        (100_000, 4_167),
+        (95_833, 19_910, 19_980_090),
+    );
+    let unpaid_month = unpaid(SA, (2024, 3), 19_980_090, (95_737, 0, 19_980_090));
+    let second = paid(
+        SA,
+        (2024, 3),
+        19_960_080,
+        (99_900, 4_163),
+        (95_737, 20_010, 19_960_080),
+    );
+    check_rows(&rt, SA, &[first, unpaid_month]);
+    check_rows(&rt, SA, &[first, second]);
+    check_rows(&rt, SA, &[paid_off(SA)]);
+}
+
+#[test]
+fn actual_interest_and_principal(rt: HostRuntime) {
+    let first = paid(
+        AA,
+        (2024, 2),
+        19_980_090,
+        (100_000, 4_167),
+        (95_833, 19_910, 19_980_090),
+    );
+    let unpaid_month = unpaid(AA, (2024, 3), 19_980_090, (0, 0, 19_980_090));
+    let second = paid(
+        AA,
+        (2024, 3),
+        19_960_080,
+        (99_900, 4_163),
+        (95_737, 20_010, 19_960_080),
+    );
+    check_rows(&rt, AA, &[first, unpaid_month]);
+    check_rows(&rt, AA, &[first, second]);
+    // the first installment's payment was reversed, and that of March pays it
+    let nothing = unpaid(AA, (2024, 2), 20_000_000, (0, 0, 20_000_000));
+    let in_march = paid(
+        AA,
+        (2024, 3),
+        19_980_090,
+        (100_000, 4_167),
+        (95_833, 19_910, 19_980_090),
+    );
+    check_rows(&rt, AA, &[nothing, in_march]);
+}
+
+#[test]
+fn changes_of_type(rt: HostRuntime) {
+    let first = paid(
+        AA,
+        (2024, 2),
+        19_980_090,
+        (100_000, 4_167),
+        (95_833, 19_910, 19_980_090),
+    );
+    let unpaid_month = unpaid(AA, (2024, 3), 19_980_090, (0, 0, 19_980_090));
+    // two months' interest in the first month of Scheduled/Actual, and back again
+    let scheduled = unpaid(SA, (2024, 4), 19_980_090, (191_474, 0, 19_980_090));
+    let actual = unpaid(AA, (2024, 5), 19_980_090, (-191_474, 0, 19_980_090));
+    check_rows(&rt, AA, &[first, unpaid_month, scheduled, actual]);
+    // March was paid late: 958.32 less
+    let second = paid(
+        AA,
+        (2024, 3),
+        19_960_080,
+        (99_900, 4_163),
+        (95_737, 20_010, 19_960_080),
+    );
+    let less = unpaid(SA, (2024, 4), 19_960_080, (191_474 - 95_832, 0, 19_960_080));
+    check_rows(&rt, AA, &[first, second, less]);
+    // a satisfied loan passes what it collected beyond its schedule
+    let satisfied = Row {
+        satisfied: true,
+        ..unpaid(AA, (2024, 3), 0, (47_869, 0, 0))
+    };
+    check_rows(&rt, SS, &[paid_off(SS), satisfied]);
 }
