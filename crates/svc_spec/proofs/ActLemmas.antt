@@ -1,5 +1,5 @@
 -- What the acts and marks keep: the signs of the numbers, and all money.
-use Rattle.std.proofs.Common.{◌≡◌, ℕ, zero, suc, ◌+◌, ◌≤◌, ◌<◌, Bool, true, false, cond, arith, refl, sym, ap, subst, ◌∙◌}
+use Rattle.std.proofs.Common.{◌≡◌, ℕ, zero, suc, ◌+◌, ◌≤◌, ◌<◌, Bool, true, false, cond, arith, refl, sym, ap, subst, ◌∙◌, ◌⊎◌, ⊎_elim}
 use Rattle.std.specs.Prelude.{ℤ, pos, ◌+ℤ◌, ◌-ℤ◌, ◌≤ℤ◌, ◌<ℤ◌, ◌&&◌, ◌==◌, not, int_lt, int_le, nat_le, is_some, Option, Some, if◌then◌else◌}
 use Rattle.std.specs.Int.{int_min, int_max}
 use Rattle.std.proofs.lemmas.Int.{ints, clamps}
@@ -142,6 +142,9 @@ paid_keeps t d c to b P s a h p settle apply = cases to
     cases Regular = p
     cases Principal = rest Principal
     cases Escrow = rest Escrow
+
+pub paid-designated : (t : Terms) (d : ℕ) (c : ℤ) (to : Designation) (b : Books) → (to ≡ Principal) ⊎ (to ≡ Escrow) → paid t d c to b ≡ rest_applied t d c to (due_settled t d (paid_in c b))
+paid-designated t d c to b h = ⊎_elim (λ e. rw e) (λ e. rw e) h
 
 paid_signs : (t : Terms) (d : ℕ) (c : ℤ) (to : Designation) (b : Books) → IsSound t → IsSum c → HaveSigns t b → HaveSigns t (paid t d c to b)
 paid_signs t d c to b s a h = paid_keeps t d c to b (HaveSigns t) s a h (paid_in_signs t c b a h) (λ x hx p. settled_signs t (month_of d) d x s hx) (λ to x y low within hy p. applied_signs t to x y low within hy)

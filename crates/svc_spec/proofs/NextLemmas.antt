@@ -6,6 +6,7 @@ use Rattle.std.proofs.lemmas.List.Elements.{All-head}
 use Rattle.svc_base.specs.Calendar.{month_of}
 use Rattle.svc_base.specs.Money.{share_bp}
 use Rattle.svc_types.specs.declared.terms.Terms.{Terms}
+use Rattle.svc_types.specs.declared.escrow.Settled.{Settled}
 use Rattle.svc_types.specs.declared.books.Books.{Books}
 use Rattle.svc_types.specs.declared.account.Designation.{Designation}
 use Rattle.svc_types.specs.declared.account.Designation.TheVariants.{Regular, Principal, Escrow}
@@ -28,25 +29,37 @@ use Rattle.svc_spec.proofs.AccountLemmas.{live_few, live_entries_fold}
 
 -- ---- what an event satisfies before settling: what is due, for a designated payment
 
-charged_next : (t : Terms) (k : ℕ) (b : Books) → (charged t k b).next ≡ b.next
+pub charged_next : (t : Terms) (k : ℕ) (b : Books) → (charged t k b).next ≡ b.next
 unfolding charged
 charged_next t k b = elim (int_lt (pos 0) b.upb && nat_le b.next k) as (λ v. (let x : Books = if v then record b { late_owed = b.late_owed +ℤ share_bp t.pi t.late } else b in x.next ≡ b.next)) [ true ↦ refl | false ↦ refl ]
 
-payoff_tried_next : (t : Terms) (d : ℕ) (b : Books) → (payoff_tried t d b).next ≡ b.next
+pub payoff_tried_next : (t : Terms) (d : ℕ) (b : Books) → (payoff_tried t d b).next ≡ b.next
 unfolding payoff_tried paid_off
 payoff_tried_next t d b = elim (int_lt (pos 0) b.upb && int_le (payoff_sum t d b) b.suspense) as (λ v. (let x : Books = if v then paid_off t d b else b in x.next ≡ b.next)) [ true ↦ refl | false ↦ refl ]
 
-deposited_next : (c : ℤ) (b : Books) → (deposited c b).next ≡ b.next
+pub deposited_next : (c : ℤ) (b : Books) → (deposited c b).next ≡ b.next
 unfolding deposited
 deposited_next c b = elim (int_lt (pos 0) b.upb) as (λ v. (let x : Books = if v then record b { escrow = b.escrow +ℤ c } else record b { suspense = b.suspense +ℤ c } in x.next ≡ b.next)) [ true ↦ refl | false ↦ refl ]
 
+pub to_principal_next : (x : ℤ) (b : Books) → (to_principal x b).next ≡ b.next
+unfolding to_principal
+to_principal_next x b = refl
+
+pub refunded_next : (c : ℤ) (b : Books) → (refunded c b).next ≡ b.next
+unfolding refunded
+refunded_next c b = refl
+
+pub analysed_next : (s : Settled) (b : Books) → (analysed s b).next ≡ b.next
+unfolding analysed
+analysed_next s b = refl
+
 applied_next : (to : Designation) (x : ℤ) (b : Books) → (applied to x b).next ≡ b.next
-unfolding to_principal to_escrow
+unfolding to_escrow
 applied_next Regular x b = refl
-applied_next Principal x b = refl
+applied_next Principal x b = to_principal_next x b
 applied_next Escrow x b = refl
 
-rest_applied_next : (t : Terms) (d : ℕ) (c : ℤ) (to : Designation) (b : Books) → (rest_applied t d c to b).next ≡ b.next
+pub rest_applied_next : (t : Terms) (d : ℕ) (c : ℤ) (to : Designation) (b : Books) → (rest_applied t d c to b).next ≡ b.next
 unfolding rest_applied
 rest_applied_next t d c to b = elim (int_lt (pos 0) b.upb && not (is_overdue t d b)) as (λ v. (let x : Books = if v then applied to (int_min c b.suspense) b else b in x.next ≡ b.next)) [ true ↦ applied_next to (int_min c b.suspense) b | false ↦ refl ]
 
@@ -56,17 +69,16 @@ paid_advances t d c Principal b = rw (rest_applied_next t d c Principal (due_set
 paid_advances t d c Escrow b = rw (rest_applied_next t d c Escrow (due_settled t d (paid_in c b))) (settled_advances t (month_of d) d (paid_in c b))
 
 happened_advances : (t : Terms) (d : ℕ) (w : What) (b : Books) → Advances t (month_of d) b.next (happened t d w b).next
-unfolding to_principal refunded analysed
 happened_advances t d what.MonthMark b = advances_none t (month_of d) b.next
 happened_advances t d (what.LateMark k) b = rw (charged_next t k b) (advances_none t (month_of d) b.next)
 happened_advances t d (what.Act (Pay c to)) b = paid_advances t d c to b
-happened_advances t d (what.Act (Curtail c)) b = advances_none t (month_of d) b.next
+happened_advances t d (what.Act (Curtail c)) b = rw (to_principal_next c (paid_in c b)) (advances_none t (month_of d) b.next)
 happened_advances t d (what.Act (Payoff c)) b = rw (payoff_tried_next t d (paid_in c b)) (advances_none t (month_of d) b.next)
 happened_advances t d (what.Act (Deposit c)) b = rw (deposited_next c b) (advances_none t (month_of d) b.next)
 happened_advances t d (what.Act (Disburse c line)) b = advances_none t (month_of d) b.next
-happened_advances t d (what.Act (Refund c)) b = advances_none t (month_of d) b.next
+happened_advances t d (what.Act (Refund c)) b = rw (refunded_next c b) (advances_none t (month_of d) b.next)
 happened_advances t d (what.Act (Waive c)) b = advances_none t (month_of d) b.next
-happened_advances t d (what.Act (Analyse s)) b = advances_none t (month_of d) b.next
+happened_advances t d (what.Act (Analyse s)) b = rw (analysed_next s b) (advances_none t (month_of d) b.next)
 
 -- ---- a step satisfies only installments that are due by the first day of the next month
 
@@ -91,17 +103,16 @@ paid_last t d c Principal b s a h le = rw (rest_applied_next t d c Principal (du
 paid_last t d c Escrow b s a h le = rw (rest_applied_next t d c Escrow (due_settled t d (paid_in c b))) (settled_last t (month_of d) d (paid_in c b) s (paid_in_signs t c b a h) le)
 
 happened_last : (t : Terms) (d : ℕ) (w : What) (b : Books) → IsSound t → IsWhat w → HaveSigns t b → b.next ≤ t.term + 1 → (happened t d w b).next ≤ t.term + 1
-unfolding to_principal refunded analysed
 happened_last t d what.MonthMark b s a h le = le
 happened_last t d (what.LateMark k) b s a h le = rw (charged_next t k b) le
 happened_last t d (what.Act (Pay c to)) b s a h le = paid_last t d c to b s a h le
-happened_last t d (what.Act (Curtail c)) b s a h le = le
+happened_last t d (what.Act (Curtail c)) b s a h le = rw (to_principal_next c (paid_in c b)) le
 happened_last t d (what.Act (Payoff c)) b s a h le = rw (payoff_tried_next t d (paid_in c b)) le
 happened_last t d (what.Act (Deposit c)) b s a h le = rw (deposited_next c b) le
 happened_last t d (what.Act (Disburse c line)) b s a h le = le
-happened_last t d (what.Act (Refund c)) b s a h le = le
+happened_last t d (what.Act (Refund c)) b s a h le = rw (refunded_next c b) le
 happened_last t d (what.Act (Waive c)) b s a h le = le
-happened_last t d (what.Act (Analyse x)) b s a h le = le
+happened_last t d (what.Act (Analyse x)) b s a h le = rw (analysed_next x b) le
 
 step_last : (t : Terms) (e : Event) (b : Books) → IsSound t → IsWhat e.what → HaveSigns t b → b.next ≤ t.term + 1 → (step t e b).next ≤ t.term + 1
 unfolding step

@@ -2,7 +2,7 @@
 use Rattle.std.proofs.Common.{◌≡◌, ℕ, zero, suc, ◌+◌, ◌-◌, ◌<◌, ◌≤◌, Bool, true, false, cond, arith, refl, sym, ap, subst, ◌∙◌, ⊎_elim}
 use Rattle.std.specs.Prelude.{ℤ, pos, ◌+ℤ◌, ◌-ℤ◌, ◌≤ℤ◌, ◌<ℤ◌, ◌&&◌, ◌==◌, ◌≢◌, int_lt, int_le, nat_le, if◌then◌else◌}
 use Rattle.std.proofs.lemmas.Int.{ints, clamps}
-use Rattle.svc_base.proofs.CentsRules.{int_le-true, int_le-false, int_lt-true, from_int_le, from_not_int_le}
+use Rattle.svc_base.proofs.CentsRules.{int_le-true, int_le-false, int_lt-true, int_lt-false, from_int_le, from_not_int_le}
 use Rattle.svc_types.specs.declared.terms.Terms.{Terms}
 use Rattle.svc_types.specs.declared.escrow.EscrowPlan.{EscrowPlan}
 use Rattle.svc_types.specs.declared.books.Books.{Books}
@@ -148,6 +148,12 @@ is_movable-true t by b due owed covered = is_movable-is t by b ∙ and_true _ _ 
 
 pub is_movable-short : (t : Terms) (by : ℕ) (b : Books) → b.suspense <ℤ whole_part t b.plan b.earlier b.upb b.next → is_movable t by b ≡ false
 is_movable-short t by b short = is_movable-is t by b ∙ third_false (nat_le (due_month t b.next) by) (int_lt (pos 0) b.upb) (int_le (whole_part t b.plan b.earlier b.upb b.next) b.suspense) (int_le-false (whole_part t b.plan b.earlier b.upb b.next) b.suspense short)
+
+pub is_movable-later : (t : Terms) (by : ℕ) (b : Books) → by < due_month t b.next → is_movable t by b ≡ false
+is_movable-later t by b later = rw (nat_le-false (due_month t b.next) by later)
+
+pub is_movable-paid : (t : Terms) (by : ℕ) (b : Books) → b.upb ≤ℤ pos 0 → is_movable t by b ≡ false
+is_movable-paid t by b paid = is_movable-is t by b ∙ rw (int_lt-false (pos 0) b.upb paid) (and_false (nat_le (due_month t b.next) by))
 
 -- ---- how many installments are moved
 
