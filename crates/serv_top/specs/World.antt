@@ -10,6 +10,7 @@ use Rattle.svc_types.specs.declared.books.Books.{Books}
 use Rattle.svc_types.specs.declared.books.Installment.{Installment}
 use Rattle.svc_types.specs.declared.account.Entry.{Entry}
 use Rattle.svc_types.specs.declared.account.Act.TheVariants as act
+use Rattle.svc_types.specs.declared.account.Designation.TheVariants.{Regular}
 use Rattle.svc_spec.specs.Installments.{open_installment}
 use Rattle.svc_spec.specs.Events.{books_at, late_day}
 use Rattle.svc_spec.specs.Entries.{AreEntries}
@@ -118,7 +119,7 @@ command_verdict w key c = if nat_le 1_000_000 (length w.keys) || is_known w.keys
 
 -- a payment as the entry of a command
 abbrev pub payment : ℕ → ℕ → ℤ → Entry
-payment number day c = record { number = number; day = day; act = act.Pay c }
+payment number day c = record { number = number; day = day; act = act.Pay c Regular }
 
 -- a loan with one more entry
 abbrev pub with_entry : Entry → Loan → Loan
