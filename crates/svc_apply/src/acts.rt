@@ -11,7 +11,7 @@ ghost use Rattle.svc_apply.specs.Room.{AreNear, AreSums, HasRoom, MayApply};
 use crate::payoff::{escrow_advanced, payoff_days, payoff_sum};
 use crate::settle::{is_overdue, settle};
 use std::sync::ledger::Ledger;
-use svc_base::{Cents, Day, Steps, day_interest, share_bp};
+use svc_base::{Cents, Day, Steps, day_interest, month_of, share_bp};
 use svc_types::{Act, Books, Designation, EscrowPlan, Settled, Terms, What};
 
 /// What happens on a day, but for the settling that follows. It counts one step for each installment
@@ -82,7 +82,7 @@ fn pay<L: Ledger>(
     match to {
         Designation::Regular => {}
         Designation::Principal | Designation::Escrow => {
-            settle(books, terms, day.in_month().number(), day, steps);
+            settle(books, terms, month_of(day).number(), day, steps);
             apply_rest(books, terms, day, cents, to);
         }
     }
@@ -235,11 +235,11 @@ fn deposit(books: &mut Books, cents: Cents)
     requires amount { IsSum cents }
     ensures { books.new ≡ rule.deposited cents books.old }
 {
-    if books.upb > 0 {
-        books.escrow += cents;
+    if books.upb <= 0 {
+        pay_in(books, cents);
         return;
     }
-    pay_in(books, cents);
+    books.escrow += cents;
 }
 
 /// A bill paid from escrow, below 0 too.

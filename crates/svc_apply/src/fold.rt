@@ -73,7 +73,7 @@ pub fn fold_step<L: Ledger>(books: &mut Books, terms: &Terms, event: &Event, ste
     settle(
         books,
         terms,
-        event.day.in_month().number() + 1,
+        month_of(event.day).number() + 1,
         event.day,
         steps,
     );

@@ -59,7 +59,7 @@ returns-in-Principal-clause-books g c =
     let b = c.args.books.now in
     let fits : FitsSigned w64 c.args.cents = c.ranges.cents in
     let first : c.pay_in.new.books ≡ paid_in c.args.cents b = simp to_z-of_z at c.pay_in.ensures.books in
-    let by : c.number.result ≡ month_of c.args.day = c.number.ensures.value ∙ c.in_month.ensures in
+    let by : c.number.result ≡ month_of c.args.day = c.number.ensures.value ∙ c.month_of.ensures in
     let due : c.settle.new.books ≡ due_settled t c.args.day (paid_in c.args.cents b) = rw (by, first) at c.settle.ensures.books in
     let rest : c.apply_rest.new.books ≡ rest_applied t c.args.day c.args.cents c.args.to c.settle.new.books = simp to_z-of_z at c.apply_rest.ensures in
     rest ∙ ap (rest_applied t c.args.day c.args.cents c.args.to) due ∙ sym (paid-designated t c.args.day c.args.cents c.args.to b c.in-Principal.is)
