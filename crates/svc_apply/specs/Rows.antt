@@ -171,4 +171,5 @@ escrow_after es = folded escrow_loan (start escrow_loan) es
 
 abbrev pub deposit_then_bill : List Event
 deposit_then_bill =
-    on (day_at 2024 6 10) (act.Deposit (pos 150_000)) ∷ on (day_at 2024 6 12) (act.Disburse (pos 200_000) 1) ∷ []
+    on (day_at 2024 6 10) (act.Deposit (pos 150_000))
+    ∷ on (day_at 2024 6 12) (act.Disburse (pos 200_000) 1) ∷ []

@@ -12,8 +12,8 @@ pub use fold::{fold_step, start};
 pub use installment::open_installment;
 pub use payoff::{available, is_current, payoff_due};
 pub use rows::{
-    worked_charges, worked_designations, worked_escrow, worked_last_payments, worked_payments,
-    worked_payoffs,
+    due_by_the_month, worked_charges, worked_designations, worked_escrow, worked_last_payments,
+    worked_payments, worked_payoffs,
 };
 pub use svc_types::Installment;
 

@@ -59,7 +59,8 @@ fn movable(books: &Books, terms: &Terms, by: u32) -> Option<Installment>
     ensures movable { is_some result ≡ rule.is_movable terms.now by books.now }
     ensures value { IfSome result (λ found. found ≡ installments.installment terms.now books.now) }
     ensures parts { IfSome result (λ found. HasParts found books.now.upb) }
-    ensures covered { IfSome result (λ found. (found.interest +ℤ found.principal +ℤ found.escrow) ≤ℤ books.now.suspense) }
+    ensures covered { IfSome result (λ found.
+        (found.interest +ℤ found.principal +ℤ found.escrow) ≤ℤ books.now.suspense) }
 {
     if books.upb <= 0 {
         return None;

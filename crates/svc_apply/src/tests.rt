@@ -88,7 +88,8 @@ fn is_plan(plan: &EscrowPlan) -> bool
 }
 
 fn is_settled(settled: &Settled) -> bool
-    ensures { IsTrue result → IsSum settled.now.refund × IsSum settled.now.within30 × IsPlan settled.now.plan }
+    ensures { IsTrue result
+        → IsSum settled.now.refund × IsSum settled.now.within30 × IsPlan settled.now.plan }
 {
     is_sum(settled.refund) && is_sum(settled.within30) && is_plan(&settled.plan)
 }

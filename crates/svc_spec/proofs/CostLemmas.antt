@@ -38,7 +38,7 @@ months_length : (m n : ℕ) → length (month_marks_from m n) ≡ n
 months_length m zero = refl
 months_length m (suc n) = omega (arith, months_length (m + 1) n)
 
--- the grace of an installment ends behind its due day
+-- the grace of an installment ends after its due day
 late_within : (t : Terms) (k d : ℕ) → late_day t k ≤ d → due_month t k ≤ month_of d
 late_within t k d le = omega (arith, day_after_least (due_day t k) (t.grace + 1))
 
@@ -53,7 +53,7 @@ lates_length t k (suc n) d low =
       | false ↦ λ e. omega (arith, rest)
     ] refl
 
--- at most one for each month behind the boarded month, one for each installment that is due, and
+-- at most one for each month after the boarded month, one for each installment that is due, and
 -- one for each entry
 events_length : (t : Terms) (live : List Entry) (d : ℕ) → length (events_to t live d) ≤ (month_of d - month_of t.boarded) + (month_of d + 1 - t.first) + length live
 unfolding events_to
@@ -97,7 +97,7 @@ up_to_by d (x ∷ xs) =
 events_by : (t : Terms) (live : List Entry) (d : ℕ) → t.boarded ≤ d → All (λ e. e.day ≤ d) (events_to t live d)
 events_by t live d after = events_all (λ e. e.day ≤ d) t live d (months_by (month_of t.boarded + 1) (month_of d - month_of t.boarded) d (omega arith)) (up_to_by d (late_marks_from t 1 t.term)) (up_to_by d (map event_of live))
 
--- the books at a day have no installment satisfied that is due behind the next month
+-- the books at a day have no installment satisfied that is due after the next month
 pub books_reach : (t : Terms) (live : List Entry) (d : ℕ) → t.boarded ≤ d → (books_at t live d).next ≤ reached t d
 unfolding books_at
 books_reach t live d after = folded_reaches t d (start t) (events_to t live d) (omega (arith, start_next t)) (events_by t live d after) (omega (arith, start_next t))

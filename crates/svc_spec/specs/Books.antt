@@ -6,7 +6,8 @@ use Rattle.svc_types.specs.declared.escrow.EscrowPlan.{EscrowPlan}
 use Rattle.svc_types.specs.declared.escrow.Settled.{Settled}
 use Rattle.svc_types.specs.declared.books.Books.{Books}
 use Rattle.svc_types.specs.declared.account.Act.{Act}
-use Rattle.svc_types.specs.declared.account.Act.TheVariants.{Pay, Curtail, Payoff, Deposit, Disburse, Refund, Waive, Analyse}
+use Rattle.svc_types.specs.declared.account.Act.TheVariants.{Pay, Curtail, Payoff, Deposit}
+use Rattle.svc_types.specs.declared.account.Act.TheVariants.{Disburse, Refund, Waive, Analyse}
 use Rattle.svc_types.specs.declared.account.Event.{Event}
 use Rattle.svc_types.specs.declared.account.What.{What}
 use Rattle.svc_types.specs.declared.account.What.TheVariants as what
