@@ -1,30 +1,25 @@
 -- What the acts and marks keep: the signs of the numbers, and all money.
-use Rattle.std.proofs.Common.{◌≡◌, ℕ, zero, suc, ◌+◌, ◌≤◌, ◌<◌, Bool, true, false, cond, arith, refl, sym, ap, subst, ◌∙◌, ◌⊎◌, ⊎_elim}
-use Rattle.std.specs.Prelude.{ℤ, pos, ◌+ℤ◌, ◌-ℤ◌, ◌≤ℤ◌, ◌<ℤ◌, ◌&&◌, ◌==◌, not, int_lt, int_le, nat_le, is_some, Option, Some, if◌then◌else◌}
-use Rattle.std.specs.Int.{int_min, int_max}
+use Rattle.std.proofs.Common.{◌≡◌, ℕ, true, false, arith, refl, ◌∙◌, ◌⊎◌, ⊎_elim}
+use Rattle.std.specs.Prelude.{ℤ, pos, ◌+ℤ◌, ◌≤ℤ◌, ◌&&◌, ◌==◌, not, int_lt, int_le, nat_le, if◌then◌else◌}
+use Rattle.std.specs.Int.{int_min}
 use Rattle.std.proofs.lemmas.Int.{ints, clamps}
-use Rattle.svc_base.specs.Calendar.{month_of, IsDay, IsReadDay, months_end}
-use Rattle.svc_base.specs.Money.{month_interest, day_interest, share_bp, IsAmount}
-use Rattle.svc_base.proofs.MoneyLemmas.{month_interest_low, month_interest_rises, day_interest_low, day_interest_rises, share_bp_low}
-use Rattle.svc_base.proofs.CentsRules.{int_le-true, int_le-false, int_lt-true, int_lt-false, from_int_le, from_not_int_le, from_int_lt, from_not_int_lt}
+use Rattle.svc_base.specs.Calendar.{month_of}
+use Rattle.svc_base.specs.Money.{day_interest, share_bp}
+use Rattle.svc_base.proofs.MoneyLemmas.{day_interest_low, share_bp_low}
+use Rattle.svc_base.proofs.CentsRules.{from_int_le}
 use Rattle.svc_types.specs.declared.terms.Terms.{Terms}
-use Rattle.svc_types.specs.declared.escrow.EscrowPlan.{EscrowPlan}
 use Rattle.svc_types.specs.declared.escrow.Settled.{Settled}
 use Rattle.svc_types.specs.declared.books.Books.{Books}
 use Rattle.svc_types.specs.declared.account.Designation.{Designation}
 use Rattle.svc_types.specs.declared.account.Designation.TheVariants.{Regular, Principal, Escrow}
-use Rattle.svc_types.specs.declared.account.Act.{Act}
 use Rattle.svc_types.specs.declared.account.Act.TheVariants.{Pay, Curtail, Payoff, Deposit, Disburse, Refund, Waive, Analyse}
-use Rattle.svc_types.specs.declared.account.Event.{Event}
 use Rattle.svc_types.specs.declared.account.What.{What}
 use Rattle.svc_types.specs.declared.account.What.TheVariants as what
 use Rattle.svc_types.specs.Terms.{IsSound}
-use Rattle.svc_spec.specs.Installments.{interest_part, fee_part, whole_part, principal_part, escrow_part, due_month}
 use Rattle.svc_spec.specs.Settling.{is_overdue, due_settled}
-use Rattle.svc_spec.specs.Payoff.{payoff_sum, payoff_principal, payoff_days, escrow_advanced}
-use Rattle.svc_spec.specs.Step.{paid_in, charged, to_principal, to_escrow, applied, rest_applied, paid, curtailed, paid_off, payoff_tried, deposited, from_suspense, refunded, waived, analysed, acted, happened, step, brought, paid_out, brought_by, paid_out_by}
-use Rattle.svc_spec.specs.Books.{IsSum, IsPlan, HaveSigns, AreWithin, AreBooks, IsAct, IsWhat, total}
-use Rattle.svc_spec.proofs.InstallmentLemmas.{IsBalance, principal_part_bounds, escrow_part_bounds}
+use Rattle.svc_spec.specs.Payoff.{payoff_sum, payoff_principal, payoff_days}
+use Rattle.svc_spec.specs.Step.{paid_in, charged, to_principal, to_escrow, applied, rest_applied, paid, curtailed, paid_off, payoff_tried, deposited, from_suspense, refunded, waived, analysed, happened, brought_by, paid_out_by}
+use Rattle.svc_spec.specs.Books.{IsSum, IsPlan, HaveSigns, IsWhat, total}
 use Rattle.svc_spec.proofs.SettlingLemmas.{both}
 use Rattle.svc_spec.proofs.SettledLemmas.{Falls, StaysPaid, stays_paid, falls_stays, settled_signs, settled_total, settled_satisfied}
 
@@ -134,10 +129,13 @@ paid_keeps t d c to b P s a h p settle apply = cases to
   where
     signs : HaveSigns t (due_settled t d (paid_in c b))
     signs = settled_signs t (month_of d) d (paid_in c b) s (paid_in_signs t c b a h)
+
     due : P (due_settled t d (paid_in c b))
     due = settle (paid_in c b) (paid_in_signs t c b a h) p
+
     rest : (to : Designation) → P (rest_applied t d c to (due_settled t d (paid_in c b)))
     rest to = rest_applied_keeps t d c to (due_settled t d (paid_in c b)) P a signs.suspense (λ x low within. apply to x (due_settled t d (paid_in c b)) low within signs due) due
+
     cases : (to : Designation) → P (paid t d c to b)
     cases Regular = p
     cases Principal = rest Principal

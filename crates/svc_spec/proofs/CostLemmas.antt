@@ -12,8 +12,7 @@ use Rattle.svc_types.specs.declared.account.Entry.{Entry}
 use Rattle.svc_types.specs.declared.account.Event.{Event}
 use Rattle.svc_types.proofs.OrderLemmas.{live_all}
 use Rattle.svc_spec.specs.Installments.{due_month, due_day}
-use Rattle.svc_spec.specs.Settling.{greatest, due_count, can_move, moves, marked}
-use Rattle.svc_spec.specs.Step.{happened, step}
+use Rattle.svc_spec.specs.Step.{step}
 use Rattle.svc_spec.specs.Books.{start}
 use Rattle.svc_spec.specs.Events.{month_mark, month_marks_from, month_marks, late_day, late_mark, late_marks_from, late_marks, up_to, event_of, entry_events, insert_event, by_day, events_to, folded, books_at}
 use Rattle.svc_spec.specs.Accounts.{Account, live_of, books_of, IsAccount}

@@ -1,12 +1,12 @@
 -- Bounds of the parts of an installment.
-use Rattle.std.proofs.Common.{◌≡◌, ℕ, zero, suc, ◌+◌, ◌≤◌, true, false, Bool, arith, refl, subst}
-use Rattle.std.specs.Prelude.{ℤ, pos, ◌+ℤ◌, ◌-ℤ◌, ◌≤ℤ◌, ◌<ℤ◌, ◌==◌, nat_le, if◌then◌else◌}
+use Rattle.std.proofs.Common.{ℕ, true, false, arith}
+use Rattle.std.specs.Prelude.{ℤ, pos, ◌-ℤ◌, ◌≤ℤ◌, ◌==◌, nat_le, if◌then◌else◌}
 use Rattle.std.proofs.lemmas.Int.{ints, clamps}
-use Rattle.svc_base.proofs.MoneyLemmas.{month_interest_low, month_interest_most, month_interest_rises}
+use Rattle.svc_base.proofs.MoneyLemmas.{month_interest_low, month_interest_rises}
 use Rattle.svc_types.specs.declared.terms.Terms.{Terms}
 use Rattle.svc_types.specs.declared.escrow.EscrowPlan.{EscrowPlan}
 use Rattle.svc_types.specs.Terms.{IsSound}
-use Rattle.svc_spec.specs.Installments.{interest_part, fee_part, level_principal, principal_part, asked, is_asked, escrow_of_plan, escrow_part, plan_in_force, whole_part, due_month}
+use Rattle.svc_spec.specs.Installments.{level_principal, principal_part, asked, is_asked, escrow_of_plan, escrow_part, whole_part, due_month}
 use Rattle.svc_spec.specs.Books.{IsSum, IsPlan}
 
 -- a balance of a loan

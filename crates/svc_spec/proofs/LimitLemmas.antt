@@ -1,14 +1,12 @@
 -- How far the sums of the books can have come after some events: all money that they hold was brought
 -- in, and escrow is short by no more than was paid out.
-use Rattle.std.proofs.Common.{◌≡◌, ℕ, zero, suc, ◌+◌, ◌*◌, ◌-◌, ◌≤◌, ◌<◌, Bool, true, false, cond, arith, refl, sym, ap, subst, ◌∙◌}
-use Rattle.std.specs.Prelude.{ℤ, pos, ◌+ℤ◌, ◌-ℤ◌, ◌≤ℤ◌, ◌<ℤ◌, ◌&&◌, ◌==◌, int_lt, int_le, nat_le, is_some, is_none, Option, Some, None, if◌then◌else◌}
-use Rattle.std.specs.Int.{int_min, int_max}
+use Rattle.std.proofs.Common.{ℕ, ◌+◌, ◌*◌, ◌≤◌, true, false, arith}
+use Rattle.std.specs.Prelude.{ℤ, pos, ◌+ℤ◌, ◌-ℤ◌, ◌≤ℤ◌, ◌&&◌, int_lt, int_le, nat_le, is_none, Some, if◌then◌else◌}
 use Rattle.std.proofs.lemmas.Int.{ints, clamps}
 use Rattle.svc_base.specs.Calendar.{month_of}
-use Rattle.svc_base.specs.Money.{month_interest, day_interest, share_bp, IsAmount}
+use Rattle.svc_base.specs.Money.{share_bp, IsAmount}
 use Rattle.svc_base.proofs.MoneyLemmas.{month_interest_low, month_interest_rises, day_interest_rises, share_bp_most}
 use Rattle.svc_types.specs.declared.terms.Terms.{Terms}
-use Rattle.svc_types.specs.declared.escrow.EscrowPlan.{EscrowPlan}
 use Rattle.svc_types.specs.declared.escrow.Settled.{Settled}
 use Rattle.svc_types.specs.declared.books.Books.{Books}
 use Rattle.svc_types.specs.declared.account.Designation.{Designation}
@@ -19,11 +17,11 @@ use Rattle.svc_types.specs.declared.account.Event.{Event}
 use Rattle.svc_types.specs.declared.account.What.{What}
 use Rattle.svc_types.specs.declared.account.What.TheVariants as what
 use Rattle.svc_types.specs.Terms.{IsSound}
-use Rattle.svc_spec.specs.Installments.{principal_part, escrow_part, due_month}
-use Rattle.svc_spec.specs.Settling.{moved_one, late_paid, late_taken, is_overdue, marked, settled_by, settled, due_settled}
-use Rattle.svc_spec.specs.Payoff.{payoff_sum, payoff_days, escrow_advanced}
-use Rattle.svc_spec.specs.Step.{paid_in, charged, to_principal, to_escrow, applied, paid, curtailed, paid_off, payoff_tried, deposited, from_suspense, refunded, waived, analysed, acted, happened, step, brought, paid_out, brought_by, paid_out_by}
-use Rattle.svc_spec.specs.Books.{IsSum, IsPlan, HaveSigns, AreWithin, AreBooks, IsAct, IsWhat, total, start}
+use Rattle.svc_spec.specs.Installments.{due_month}
+use Rattle.svc_spec.specs.Settling.{moved_one, late_paid, late_taken, is_overdue, marked, settled_by, settled}
+use Rattle.svc_spec.specs.Payoff.{payoff_sum, payoff_days}
+use Rattle.svc_spec.specs.Step.{paid_in, charged, to_principal, to_escrow, applied, paid, curtailed, paid_off, payoff_tried, deposited, refunded, waived, analysed, happened, step, brought_by, paid_out_by}
+use Rattle.svc_spec.specs.Books.{IsSum, HaveSigns, AreWithin, IsAct, IsWhat, total, start}
 use Rattle.svc_spec.proofs.InstallmentLemmas.{IsBalance, principal_part_bounds, escrow_part_bounds}
 use Rattle.svc_spec.proofs.SettledLemmas.{settled_keeps, settled_signs}
 use Rattle.svc_spec.proofs.ActLemmas.{from_suspense_bounds, paid_in_signs, paid_keeps}

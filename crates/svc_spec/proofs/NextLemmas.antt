@@ -1,6 +1,6 @@
 -- Which installment is open after some events.
-use Rattle.std.proofs.Common.{◌≡◌, ℕ, ◌+◌, ◌-◌, ◌≤◌, true, false, List, [], ◌∷◌, ◌++◌, length, arith, refl, sym, append-nil}
-use Rattle.std.specs.Prelude.{ℤ, pos, ◌+ℤ◌, ◌-ℤ◌, ◌&&◌, not, max, int_lt, int_le, nat_le, if◌then◌else◌}
+use Rattle.std.proofs.Common.{◌≡◌, ℕ, ◌+◌, ◌≤◌, true, false, List, [], ◌∷◌, length, arith, refl}
+use Rattle.std.specs.Prelude.{ℤ, pos, ◌+ℤ◌, ◌&&◌, not, int_lt, int_le, nat_le, if◌then◌else◌}
 use Rattle.std.specs.Int.{int_min}
 use Rattle.std.proofs.lemmas.List.Elements.{All-head}
 use Rattle.svc_base.specs.Calendar.{month_of}
@@ -15,9 +15,9 @@ use Rattle.svc_types.specs.declared.account.Event.{Event}
 use Rattle.svc_types.specs.declared.account.What.{What}
 use Rattle.svc_types.specs.declared.account.What.TheVariants as what
 use Rattle.svc_types.specs.Terms.{IsSound}
-use Rattle.svc_spec.specs.Settling.{is_overdue, marked, settled, due_settled}
+use Rattle.svc_spec.specs.Settling.{is_overdue, marked, due_settled}
 use Rattle.svc_spec.specs.Payoff.{payoff_sum}
-use Rattle.svc_spec.specs.Step.{paid_in, charged, to_principal, to_escrow, applied, rest_applied, paid, curtailed, paid_off, payoff_tried, deposited, refunded, analysed, happened, step}
+use Rattle.svc_spec.specs.Step.{paid_in, charged, to_principal, to_escrow, applied, rest_applied, paid, paid_off, payoff_tried, deposited, refunded, analysed, happened, step}
 use Rattle.svc_spec.specs.Books.{IsSum, HaveSigns, IsWhat, start}
 use Rattle.svc_spec.specs.Events.{events_to, folded, books_at}
 use Rattle.svc_spec.specs.Accounts.{Account, live_of, books_of, IsAccount}

@@ -17,7 +17,7 @@ use Rattle.svc_types.specs.declared.account.Event.{Event}
 use Rattle.svc_types.specs.declared.account.What.{What}
 use Rattle.svc_types.specs.declared.account.What.TheVariants as what
 use Rattle.svc_types.specs.Terms.{IsSound}
-use Rattle.svc_spec.specs.Settling.{moved_one, late_paid, late_taken, is_overdue, marked, settled_by, settled, due_settled}
+use Rattle.svc_spec.specs.Settling.{moved_one, late_paid, late_taken, is_overdue, marked, settled_by}
 use Rattle.svc_spec.specs.Payoff.{payoff_sum, payoff_days}
 use Rattle.svc_spec.specs.Step.{paid_in, charged, to_principal, to_escrow, applied, paid, curtailed, paid_off, payoff_tried, deposited, refunded, analysed, happened, step}
 use Rattle.svc_spec.specs.Books.{IsSum, HaveSigns, AreBooks, IsWhat, start}

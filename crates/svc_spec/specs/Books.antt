@@ -1,14 +1,12 @@
 -- What holds of all books, where they begin, and which events they take.
-use Rattle.std.specs.Prelude.{◌≡◌, ℕ, ◌+◌, ◌≤◌, ◌<◌, Bool, is_some, Option, Some, None, ℤ, pos, ◌+ℤ◌, ◌≤ℤ◌, ◌<ℤ◌, int_le, if◌then◌else◌}
-use Rattle.svc_base.specs.Calendar.{month_of, IsDay}
+use Rattle.std.specs.Prelude.{◌≡◌, ◌≤◌, is_some, None, ℤ, pos, ◌+ℤ◌, ◌≤ℤ◌, ◌<ℤ◌, int_le}
+use Rattle.svc_base.specs.Calendar.{month_of}
 use Rattle.svc_types.specs.declared.terms.Terms.{Terms}
 use Rattle.svc_types.specs.declared.escrow.EscrowPlan.{EscrowPlan}
-use Rattle.svc_types.specs.declared.escrow.Settled.{Settled}
 use Rattle.svc_types.specs.declared.books.Books.{Books}
 use Rattle.svc_types.specs.declared.account.Act.{Act}
 use Rattle.svc_types.specs.declared.account.Act.TheVariants.{Pay, Curtail, Payoff, Deposit}
 use Rattle.svc_types.specs.declared.account.Act.TheVariants.{Disburse, Refund, Waive, Analyse}
-use Rattle.svc_types.specs.declared.account.Event.{Event}
 use Rattle.svc_types.specs.declared.account.What.{What}
 use Rattle.svc_types.specs.declared.account.What.TheVariants as what
 
