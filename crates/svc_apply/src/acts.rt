@@ -6,7 +6,7 @@ ghost use Rattle.svc_types.specs.Terms.{IsSound};
 ghost use Rattle.svc_spec.specs.Books.{AreBooks, HaveSigns, IsAct, IsSum, IsPlan, IsWhat};
 ghost use Rattle.svc_spec.specs.Payoff.{payoff_sum as payoff_sum_of};
 ghost use Rattle.svc_spec.specs.Step as rule;
-ghost use Rattle.svc_apply.specs.Room.{AreNear, AreSums, HasRoom, MayApply};
+ghost use Rattle.svc_apply.specs.Conditions.{AreNear, AreSums, MaySettle, MayApply};
 
 use crate::payoff::{escrow_advanced, payoff_days, payoff_sum};
 use crate::settle::{is_overdue, settle};
@@ -94,7 +94,7 @@ fn apply_rest(books: &mut Books, terms: &Terms, day: Day, cents: Cents, to: Desi
     requires terms { IsSound terms.now }
     requires boarded { IsReadDay terms.now.boarded }
     requires signs { HaveSigns terms.now books.old }
-    requires room { HasRoom books.old }
+    requires sums { MaySettle books.old }
     requires curtailed { books.old.curtailed ≤ℤ pos 1_000_000_000_000_000_000 }
     requires amount { IsSum cents }
     ensures { books.new ≡ rule.rest_applied terms.now day cents to books.old }

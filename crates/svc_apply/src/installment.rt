@@ -6,7 +6,7 @@ ghost use Rattle.svc_base.specs.Money.{IsAmount};
 ghost use Rattle.svc_types.specs.Terms.{IsSound};
 ghost use Rattle.svc_spec.specs.Books.{AreBooks, HaveSigns, IsPlan, IsSum};
 ghost use Rattle.svc_spec.specs.Installments as rule;
-ghost use Rattle.svc_apply.specs.Room.{HasParts};
+ghost use Rattle.svc_apply.specs.Conditions.{HasParts};
 
 use svc_base::{Cents, Month, add_months, first_day, month_interest};
 use svc_types::{Books, EscrowPlan, Installment, Terms};

@@ -438,18 +438,23 @@ fn what_a_payment_leaves_goes_where_it_is_designated(rt: HostRuntime) {
         suspense: 50_000,
         ..BOARDED
     };
-    for (act, row) in [
-        (with_principal(169_910), one_paid_ahead(50_000)),
-        (with_escrow(169_910), in_escrow),
-        (regular(169_910), waiting),
-        (with_principal(239_820), one_paid_ahead(119_910)),
-        (regular(239_820), TWO_PAID),
-        (with_principal(119_911), one_paid_ahead(1)),
-        (with_principal(50_000), still_due),
-        (with_escrow(50_000), still_due),
-    ] {
-        assert_eq!(rt; after_first(act), Some(row), "{act:?}");
-    }
+    assert_eq!(rt;
+        after_first(with_principal(169_910)),
+        Some(one_paid_ahead(50_000))
+    );
+    assert_eq!(rt; after_first(with_escrow(169_910)), Some(in_escrow));
+    assert_eq!(rt; after_first(regular(169_910)), Some(waiting));
+    assert_eq!(rt;
+        after_first(with_principal(239_820)),
+        Some(one_paid_ahead(119_910))
+    );
+    assert_eq!(rt; after_first(regular(239_820)), Some(TWO_PAID));
+    assert_eq!(rt;
+        after_first(with_principal(119_911)),
+        Some(one_paid_ahead(1))
+    );
+    assert_eq!(rt; after_first(with_principal(50_000)), Some(still_due));
+    assert_eq!(rt; after_first(with_escrow(50_000)), Some(still_due));
 }
 
 #[test]
