@@ -14,7 +14,7 @@ use Rattle.svc_types.specs.declared.account.Designation.TheVariants.{Regular}
 use Rattle.svc_spec.specs.Installments.{open_installment}
 use Rattle.svc_spec.specs.Events.{books_at, late_day}
 use Rattle.svc_spec.specs.Entries.{AreEntries}
-use Rattle.svc_spec.specs.Books.{IsSum}
+use Rattle.svc_spec.specs.Books.{IsEntryAmount}
 use Rattle.serv_top.specs.declared.form.Command.{Command}
 use Rattle.serv_top.specs.declared.form.Command.TheVariants as command
 use Rattle.serv_top.specs.declared.loan.Loan.{Loan}
@@ -178,4 +178,4 @@ pub record IsWorld (w : World) : Type 0 where
 abbrev pub MayFollow : ℕ → List Loan → Command → Type 0
 MayFollow today loans (command.Day d) = today ≤ d
 MayFollow today loans (command.Board id t) = IsSound t × (t.boarded ≤ today) × (length loans < 10_000)
-MayFollow today loans (command.Pay id day c) = (day ≡ today) × IsSum c × ((l : Loan) → find_loan loans id ≡ Some l → length l.entries < 4_096) × IsSome (find_loan loans id)
+MayFollow today loans (command.Pay id day c) = (day ≡ today) × IsEntryAmount c × ((l : Loan) → find_loan loans id ≡ Some l → length l.entries < 4_096) × IsSome (find_loan loans id)

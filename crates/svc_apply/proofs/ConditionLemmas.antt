@@ -20,7 +20,7 @@ use Rattle.svc_spec.specs.Installments.{due_month}
 use Rattle.svc_spec.specs.Settling.{moved_one, late_paid, late_taken, is_overdue, marked, settled_by}
 use Rattle.svc_spec.specs.Payoff.{payoff_sum, payoff_days}
 use Rattle.svc_spec.specs.Step.{paid_in, charged, to_principal, to_escrow, applied, paid, curtailed, paid_off, payoff_tried, deposited, refunded, waived, analysed, happened}
-use Rattle.svc_spec.specs.Books.{IsSum, HaveSigns, AreBooks, IsWhat}
+use Rattle.svc_spec.specs.Books.{IsEntryAmount, HaveSigns, AreBooks, IsWhat}
 use Rattle.svc_spec.proofs.InstallmentLemmas.{IsBalance, principal_part_bounds, escrow_part_bounds}
 use Rattle.svc_spec.proofs.SettlingLemmas.{both}
 use Rattle.svc_spec.proofs.StepLemmas.{CanPay}
@@ -97,7 +97,7 @@ books_may_settle t b h =
     let within = h.within in
     record { upb_low = omega (arith, ints); suspense = omega (arith, ints); interest_low = omega (arith, ints); fee_low = omega (arith, ints); principal_low = omega (arith, ints); late_paid_low = omega (arith, ints); interest = omega (arith, ints); fee = omega (arith, ints); principal = omega (arith, ints); late_paid = omega (arith, ints); escrow = omega (arith, ints); escrow_low = omega (arith, ints) }
 
-pub paid_in_may_settle : (t : Terms) (c : ℤ) (b : Books) → IsSum c → AreBooks t b → MaySettle (paid_in c b)
+pub paid_in_may_settle : (t : Terms) (c : ℤ) (b : Books) → IsEntryAmount c → AreBooks t b → MaySettle (paid_in c b)
 paid_in_may_settle t c b a h =
     let signs = h.signs in
     let within = h.within in
@@ -124,7 +124,7 @@ applied_may_settle Regular x b low h = h
 applied_may_settle Principal x b low h = to_principal_may_settle x b low h
 applied_may_settle Escrow x b low h = record { upb_low = h.upb_low; suspense = omega (arith, ints); interest_low = h.interest_low; fee_low = h.fee_low; principal_low = h.principal_low; late_paid_low = h.late_paid_low; interest = omega (arith, ints); fee = omega (arith, ints); principal = omega (arith, ints); late_paid = omega (arith, ints); escrow = omega (arith, ints); escrow_low = omega (arith, ints) }
 
-paid_may_settle : (t : Terms) (d : ℕ) (c : ℤ) (to : Designation) (b : Books) → IsSound t → IsSum c → AreBooks t b → MaySettle (paid t d c to b)
+paid_may_settle : (t : Terms) (d : ℕ) (c : ℤ) (to : Designation) (b : Books) → IsSound t → IsEntryAmount c → AreBooks t b → MaySettle (paid t d c to b)
 paid_may_settle t d c to b s a h = paid_keeps t d c to b MaySettle s a h.signs (paid_in_may_settle t c b a h) (λ x hx r. settled_may_settle t (month_of d) d x s hx r) (λ to x y low within hy r. applied_may_settle to x y low r)
 
 paid_off_may_settle : (t : Terms) (d : ℕ) (b : Books) → IsSound t → HaveSigns t b → AreNear b → int_lt (pos 0) b.upb ≡ true → payoff_sum t d b ≤ℤ b.suspense → MaySettle (paid_off t d b)
@@ -147,13 +147,13 @@ payoff_tried_may_settle t d b s h n =
       | false ↦ λ e. near_may_settle t b h n
     ] refl
 
-paid_in_near : (t : Terms) (c : ℤ) (b : Books) → IsSum c → AreBooks t b → AreNear (paid_in c b)
+paid_in_near : (t : Terms) (c : ℤ) (b : Books) → IsEntryAmount c → AreBooks t b → AreNear (paid_in c b)
 paid_in_near t c b a h =
     let signs = h.signs in
     let within = h.within in
     record { escrow_low = within.escrow_low; escrow_high = within.escrow_high; suspense_low = omega (arith, ints); suspense_high = omega (arith, ints); late_owed = within.late_owed; interest = within.interest; fee = within.fee; principal = within.principal; late_paid = within.late_paid }
 
-deposited_may_settle : (t : Terms) (c : ℤ) (b : Books) → IsSum c → AreBooks t b → MaySettle (deposited c b)
+deposited_may_settle : (t : Terms) (c : ℤ) (b : Books) → IsEntryAmount c → AreBooks t b → MaySettle (deposited c b)
 unfolding deposited
 deposited_may_settle t c b a h =
     elim (int_lt (pos 0) b.upb) as (λ v. MaySettle (if v then record b { escrow = b.escrow +ℤ c } else record b { suspense = b.suspense +ℤ c })) [
@@ -161,13 +161,13 @@ deposited_may_settle t c b a h =
       | false ↦ paid_in_may_settle t c b a h
     ]
 
-disbursed_may_settle : (t : Terms) (c : ℤ) (b : Books) → IsSum c → AreBooks t b → MaySettle (record b { escrow = b.escrow -ℤ c })
+disbursed_may_settle : (t : Terms) (c : ℤ) (b : Books) → IsEntryAmount c → AreBooks t b → MaySettle (record b { escrow = b.escrow -ℤ c })
 disbursed_may_settle t c b a h =
     let signs = h.signs in
     let within = h.within in
     record { upb_low = omega (arith, ints); suspense = omega (arith, ints); interest_low = omega (arith, ints); fee_low = omega (arith, ints); principal_low = omega (arith, ints); late_paid_low = omega (arith, ints); interest = omega (arith, ints); fee = omega (arith, ints); principal = omega (arith, ints); late_paid = omega (arith, ints); escrow = omega (arith, ints); escrow_low = omega (arith, ints) }
 
-refunded_may_settle : (t : Terms) (c : ℤ) (b : Books) → IsSum c → AreBooks t b → MaySettle (refunded c b)
+refunded_may_settle : (t : Terms) (c : ℤ) (b : Books) → IsEntryAmount c → AreBooks t b → MaySettle (refunded c b)
 unfolding refunded
 refunded_may_settle t c b a h =
     let signs = h.signs in
@@ -181,7 +181,7 @@ waived_may_settle t c b h =
     let within = h.within in
     record { upb_low = omega (arith, ints); suspense = omega (arith, ints); interest_low = omega (arith, ints); fee_low = omega (arith, ints); principal_low = omega (arith, ints); late_paid_low = omega (arith, ints); interest = omega (arith, ints); fee = omega (arith, ints); principal = omega (arith, ints); late_paid = omega (arith, ints); escrow = omega (arith, ints); escrow_low = omega (arith, ints) }
 
-analysed_may_settle : (t : Terms) (s : Settled) (b : Books) → IsSum s.refund → AreBooks t b → MaySettle (analysed s b)
+analysed_may_settle : (t : Terms) (s : Settled) (b : Books) → IsEntryAmount s.refund → AreBooks t b → MaySettle (analysed s b)
 unfolding analysed
 analysed_may_settle t s b a h =
     let signs = h.signs in
@@ -204,7 +204,7 @@ pub event_may_settle : (t : Terms) (d : ℕ) (w : What) (b : Books) → IsSound 
 event_may_settle t d w b s a h = marked_may_settle d (happened t d w b) (happened_may_settle t d w b s a h)
 
 -- what is left of a payment may be applied
-pub rest_may_apply : (t : Terms) (c : ℤ) (b : Books) → IsSound t → IsSum c → HaveSigns t b → MaySettle b → b.curtailed ≤ℤ pos 1_000_000_000_000_000_000 → MayApply (int_min c b.suspense) b
+pub rest_may_apply : (t : Terms) (c : ℤ) (b : Books) → IsSound t → IsEntryAmount c → HaveSigns t b → MaySettle b → b.curtailed ≤ℤ pos 1_000_000_000_000_000_000 → MayApply (int_min c b.suspense) b
 rest_may_apply t c b s a signs h curtailed =
     let c_low = a.low in
     let suspense = signs.suspense in
@@ -213,7 +213,7 @@ rest_may_apply t c b s a signs h curtailed =
     record { low = omega (arith, ints, clamps); within = omega (arith, ints, clamps); upb_low = signs.upb_low; upb_high = omega (arith, ints); principal = omega (arith, ints); curtailed = curtailed; escrow = omega (arith, ints, clamps) }
 
 -- and so may all of a curtailment
-pub curtailment_may_apply : (c : ℤ) (b : Books) → IsSum c → AreSums b → MayApply c (paid_in c b)
+pub curtailment_may_apply : (c : ℤ) (b : Books) → IsEntryAmount c → AreSums b → MayApply c (paid_in c b)
 curtailment_may_apply c b a h =
     let c_low = a.low in
     let c_high = a.high in

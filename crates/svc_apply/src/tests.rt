@@ -3,7 +3,7 @@
 ghost use Rattle.std.specs.Prelude.{◌≡◌, ◌≤◌, ◌<◌, IfSome, IsTrue, length, pos, ◌≤ℤ◌};
 ghost use Rattle.svc_base.specs.Calendar.{IsReadDay};
 ghost use Rattle.svc_types.specs.Terms.{IsSound};
-ghost use Rattle.svc_spec.specs.Books.{AreBooks, IsAct, IsPlan, IsSum, IsWhat};
+ghost use Rattle.svc_spec.specs.Books.{AreBooks, IsAct, IsPlan, IsEntryAmount, IsWhat};
 
 use crate::{available, fold_step, is_current, open_installment, payoff_due, start};
 use std::marker::Brand;
@@ -53,8 +53,8 @@ fn loan(boarded: Day, first: Month, term: u32, escrow: Cents) -> Option<Terms>
 
 /// Whether an entry may name the amount.
 #[tactic(auto, using(std::proofs::lemmas::Int::ints))]
-fn is_sum(cents: Cents) -> bool
-    ensures { IsTrue result → IsSum cents }
+fn is_entry_amount(cents: Cents) -> bool
+    ensures { IsTrue result → IsEntryAmount cents }
 {
     if cents < 0 {
         return false;
@@ -64,21 +64,21 @@ fn is_sum(cents: Cents) -> bool
 
 /// Whether a plan may ask the amount for so many months.
 fn is_part(cents: Cents, months: u32) -> bool
-    ensures { IsTrue result → IsSum cents × months ≤ 60 }
+    ensures { IsTrue result → IsEntryAmount cents × months ≤ 60 }
 {
     if months > 60 {
         return false;
     }
-    is_sum(cents)
+    is_entry_amount(cents)
 }
 
 fn is_plan(plan: &EscrowPlan) -> bool
     ensures { IsTrue result → IsPlan plan.now }
 {
-    if !is_sum(plan.base) {
+    if !is_entry_amount(plan.base) {
         return false;
     }
-    if !is_sum(plan.credit) {
+    if !is_entry_amount(plan.credit) {
         return false;
     }
     if !is_part(plan.short, plan.short_months) {
@@ -89,22 +89,22 @@ fn is_plan(plan: &EscrowPlan) -> bool
 
 fn is_settled(settled: &Settled) -> bool
     ensures { IsTrue result
-        → IsSum settled.now.refund × IsSum settled.now.within30 × IsPlan settled.now.plan }
+        → IsEntryAmount settled.now.refund × IsEntryAmount settled.now.within30 × IsPlan settled.now.plan }
 {
-    is_sum(settled.refund) && is_sum(settled.within30) && is_plan(&settled.plan)
+    is_entry_amount(settled.refund) && is_entry_amount(settled.within30) && is_plan(&settled.plan)
 }
 
 fn is_act(act: &Act) -> bool
     ensures { IsTrue result → IsAct act.now }
 {
     match act {
-        Act::Pay(cents, _) => is_sum(*cents),
-        Act::Curtail(cents) => is_sum(*cents),
-        Act::Payoff(cents) => is_sum(*cents),
-        Act::Deposit(cents) => is_sum(*cents),
-        Act::Disburse(cents, _) => is_sum(*cents),
-        Act::Refund(cents) => is_sum(*cents),
-        Act::Waive(cents) => is_sum(*cents),
+        Act::Pay(cents, _) => is_entry_amount(*cents),
+        Act::Curtail(cents) => is_entry_amount(*cents),
+        Act::Payoff(cents) => is_entry_amount(*cents),
+        Act::Deposit(cents) => is_entry_amount(*cents),
+        Act::Disburse(cents, _) => is_entry_amount(*cents),
+        Act::Refund(cents) => is_entry_amount(*cents),
+        Act::Waive(cents) => is_entry_amount(*cents),
         Act::Analyse(settled) => is_settled(settled),
     }
 }
@@ -424,6 +424,12 @@ fn one_paid_ahead(ahead: Cents) -> Row
     }
 }
 
+/// The first installment is still due, and 500.00 wait.
+const STILL_DUE: Row = Row {
+    suspense: 50_000,
+    ..BOARDED
+};
+
 #[test]
 fn what_a_payment_leaves_goes_where_it_is_designated(rt: HostRuntime) {
     let waiting = Row {
@@ -433,10 +439,6 @@ fn what_a_payment_leaves_goes_where_it_is_designated(rt: HostRuntime) {
     let in_escrow = Row {
         escrow: 50_000,
         ..ONE_PAID
-    };
-    let still_due = Row {
-        suspense: 50_000,
-        ..BOARDED
     };
     assert_eq!(rt;
         after_first(with_principal(169_910)),
@@ -453,8 +455,8 @@ fn what_a_payment_leaves_goes_where_it_is_designated(rt: HostRuntime) {
         after_first(with_principal(119_911)),
         Some(one_paid_ahead(1))
     );
-    assert_eq!(rt; after_first(with_principal(50_000)), Some(still_due));
-    assert_eq!(rt; after_first(with_escrow(50_000)), Some(still_due));
+    assert_eq!(rt; after_first(with_principal(50_000)), Some(STILL_DUE));
+    assert_eq!(rt; after_first(with_escrow(50_000)), Some(STILL_DUE));
 }
 
 #[test]

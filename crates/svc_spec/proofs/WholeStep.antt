@@ -11,7 +11,7 @@ use Rattle.svc_types.specs.declared.account.What.{What}
 use Rattle.svc_types.specs.Terms.{IsSound}
 use Rattle.svc_spec.specs.Settling.{marked, settled}
 use Rattle.svc_spec.specs.Step.{happened, step, brought_by, paid_out_by}
-use Rattle.svc_spec.specs.Books.{IsSum, IsPlan, HaveSigns, AreWithin, AreBooks, IsWhat, total, boarding_plan, start}
+use Rattle.svc_spec.specs.Books.{IsEntryAmount, IsPlan, HaveSigns, AreWithin, AreBooks, IsWhat, total, boarding_plan, start}
 use Rattle.svc_spec.proofs.StepLemmas.{marked_signs, marked_total}
 use Rattle.svc_spec.proofs.SettledLemmas.{stays_paid, marked_satisfied, settled_signs, settled_total, settled_satisfied}
 use Rattle.svc_spec.proofs.ActLemmas.{happened_signs, happened_total, happened_stays}
@@ -49,8 +49,8 @@ start_books t s =
     let low = s.principal_low in
     let high = s.principal_high in
     let term = s.term_low in
-    let none : IsSum (pos 0) = record { low = omega (arith, ints); high = omega (arith, ints) } in
-    let escrow : IsSum t.escrow = let a = s.escrow_low in let z = s.escrow_high in record { low = omega (arith, ints); high = omega (arith, ints) } in
+    let none : IsEntryAmount (pos 0) = record { low = omega (arith, ints); high = omega (arith, ints) } in
+    let escrow : IsEntryAmount t.escrow = let a = s.escrow_low in let z = s.escrow_high in record { low = omega (arith, ints); high = omega (arith, ints) } in
     let plan : IsPlan (boarding_plan t) = record { base = escrow; credit = none; short = none; short_months = omega arith; deficient = none; deficient_months = omega arith } in
     record {
       signs = record { upb_low = omega (arith, ints); upb_high = omega (arith, ints); next_low = λ owed. omega arith; next_high = λ owed. term; suspense = omega (arith, ints); late_owed = omega (arith, ints); interest = omega (arith, ints); fee = omega (arith, ints); principal = omega (arith, ints); curtailed = omega (arith, ints); late_paid = omega (arith, ints); plan = plan; earlier = plan };
