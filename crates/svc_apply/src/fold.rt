@@ -3,7 +3,8 @@
 ghost use Rattle.std.specs.Prelude.{◌≡◌, ◌+◌, ◌-◌, ◌≤◌, pos, ◌+ℤ◌};
 ghost use Rattle.svc_base.specs.Calendar.{IsReadDay};
 ghost use Rattle.svc_types.specs.Terms.{IsSound};
-ghost use Rattle.svc_spec.specs.Books.{AreBooks, AreWithin, IsWhat, boarding_plan as boarding_plan_of, total, start as start_of};
+ghost use Rattle.svc_spec.specs.Books.{AreBooks, AreWithin, IsWhat, total};
+ghost use Rattle.svc_spec.specs.Books.{boarding_plan as boarding_plan_of, start as start_of};
 ghost use Rattle.svc_spec.specs.Step as rule;
 
 use crate::acts::happen;
@@ -68,9 +69,15 @@ pub fn fold_step<L: Ledger>(books: &mut Books, terms: &Terms, event: &Event, ste
         ≡ total books.old +ℤ rule.brought_by event.now.what }
     ensures steps { steps.new + books.old.next ≡ steps.old + 1 + books.new.next }
 {
-    happen(books, terms, event.day, &event.what);
+    happen(books, terms, event.day, &event.what, steps);
     mark_satisfied(books, event.day);
-    settle(books, terms, event.day, steps);
+    settle(
+        books,
+        terms,
+        month_of(event.day).number() + 1,
+        event.day,
+        steps,
+    );
     books.day = event.day;
     steps.tick();
 }

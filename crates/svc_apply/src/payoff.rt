@@ -1,11 +1,11 @@
 //! What satisfies a loan, what may be refunded, and who is current.
 
-ghost use Rattle.std.specs.Prelude.{◌≡◌, ◌+◌, ◌≤◌, ◌<◌, ◌*◌, pos, ◌≤ℤ◌, ◌+ℤ◌};
+ghost use Rattle.std.specs.Prelude.{◌≡◌, ◌+◌, ◌≤◌, ◌<◌, ◌*◌, pos, ◌<ℤ◌, ◌≤ℤ◌, ◌+ℤ◌};
 ghost use Rattle.svc_base.specs.Calendar.{IsReadDay};
 ghost use Rattle.svc_types.specs.Terms.{IsSound};
 ghost use Rattle.svc_spec.specs.Books.{AreBooks, AreWithin, HaveSigns};
 ghost use Rattle.svc_spec.specs.Payoff as rule;
-ghost use Rattle.svc_apply.specs.Room.{AreNear};
+ghost use Rattle.svc_apply.specs.Conditions.{AreNear};
 
 use crate::installment::due_month;
 use svc_base::{Cents, Day, add_days, day_interest, days360, first_day};
@@ -60,6 +60,7 @@ pub(crate) fn payoff_days(books: &Books, terms: &Terms, day: Day) -> u32
     requires terms { IsSound terms.now }
     requires boarded { IsReadDay terms.now.boarded }
     requires signs { HaveSigns terms.now books.now }
+    requires owed { pos 0 <ℤ books.now.upb }
     ensures value { result ≡ rule.payoff_days terms.now day books.now }
     ensures bound { result ≤ 60_000 }
 {

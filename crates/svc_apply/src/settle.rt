@@ -1,29 +1,35 @@
-//! Settling: what suspense pays by itself, after every event.
+//! Settling: what suspense pays by itself, after every event and within a designated payment.
 
 ghost use Rattle.std.specs.Prelude.{◌≡◌, ◌+◌, ◌≤◌, pos, ◌≤ℤ◌, ◌+ℤ◌, is_some, IfSome};
-ghost use Rattle.svc_base.specs.Calendar.{IsReadDay, month_of};
+ghost use Rattle.svc_base.specs.Calendar.{IsReadDay};
 ghost use Rattle.svc_types.specs.Terms.{IsSound};
 ghost use Rattle.svc_spec.specs.Books.{HaveSigns};
 ghost use Rattle.svc_spec.specs.Installments as installments;
 ghost use Rattle.svc_spec.specs.Settling as rule;
-ghost use Rattle.svc_apply.specs.Room.{HasRoom, HasParts};
+ghost use Rattle.svc_apply.specs.Conditions.{MaySettle, HasParts};
 
 use crate::installment::{due_month, installment};
 use std::sync::ledger::Ledger;
 use svc_base::{Cents, Day, Steps, first_day};
 use svc_types::{Books, Installment, Terms};
 
-/// Pays installments due by the first day of the month after the day's month, then late charges
-/// where none is overdue, and marks a loan whose balance came to 0.
-pub(crate) fn settle<L: Ledger>(books: &mut Books, terms: &Terms, day: Day, steps: &mut Steps<L>)
+/// Pays the installments due by a month, then late charges where none is overdue on the day, and
+/// marks a loan whose balance came to 0. It counts one step for each installment.
+pub(crate) fn settle<L: Ledger>(
+    books: &mut Books,
+    terms: &Terms,
+    by: u32,
+    day: Day,
+    steps: &mut Steps<L>,
+)
     requires terms { IsSound terms.now }
     requires boarded { IsReadDay terms.now.boarded }
     requires signs { HaveSigns terms.now books.old }
-    requires room { HasRoom books.old }
-    ensures books { books.new ≡ rule.settled terms.now day books.old }
-    ensures steps { steps.new ≡ steps.old + rule.moves terms.now (month_of day + 1) books.old }
+    requires sums { MaySettle books.old }
+    ensures books { books.new ≡ rule.settled_by terms.now by day books.old }
+    ensures steps { steps.new + books.old.next ≡ steps.old + books.new.next }
 {
-    pay_installments(books, terms, day.in_month().number() + 1, steps);
+    pay_installments(books, terms, by, steps);
     take_late(books, terms, day);
     mark_satisfied(books, day);
 }
@@ -33,11 +39,11 @@ fn pay_installments<L: Ledger>(books: &mut Books, terms: &Terms, by: u32, steps:
     requires terms { IsSound terms.now }
     requires boarded { IsReadDay terms.now.boarded }
     requires signs { HaveSigns terms.now books.old }
-    requires room { HasRoom books.old }
+    requires sums { MaySettle books.old }
     ensures books { books.new ≡ rule.moved terms.now (rule.moves terms.now by books.old) books.old }
     ensures steps { steps.new ≡ steps.old + rule.moves terms.now by books.old }
     ensures signs { HaveSigns terms.now books.new }
-    ensures room { HasRoom books.new }
+    ensures sums { MaySettle books.new }
 {
     while let Some(open) = movable(books, terms, by) {
         pay_installment(books, &open);
@@ -53,9 +59,13 @@ fn movable(books: &Books, terms: &Terms, by: u32) -> Option<Installment>
     ensures movable { is_some result ≡ rule.is_movable terms.now by books.now }
     ensures value { IfSome result (λ found. found ≡ installments.installment terms.now books.now) }
     ensures parts { IfSome result (λ found. HasParts found books.now.upb) }
-    ensures covered { IfSome result (λ found. (found.interest +ℤ found.principal +ℤ found.escrow) ≤ℤ books.now.suspense) }
+    ensures covered { IfSome result (λ found.
+        (found.interest +ℤ found.principal +ℤ found.escrow) ≤ℤ books.now.suspense) }
 {
-    if due_month(terms, books.next).number() > by || books.upb <= 0 {
+    if books.upb <= 0 {
+        return None;
+    }
+    if due_month(terms, books.next).number() > by {
         return None;
     }
     let open = installment(books, terms);
@@ -76,7 +86,7 @@ fn sum_of(due: &Installment, upb: Cents) -> Cents
 
 /// Moves the parts of an installment out of suspense.
 fn pay_installment(books: &mut Books, due: &Installment)
-    requires room { HasRoom books.old }
+    requires sums { MaySettle books.old }
     requires covered { (due.now.interest +ℤ due.now.principal +ℤ due.now.escrow) ≤ℤ books.old.suspense }
     requires parts { HasParts due.now books.old.upb }
     requires next { due.now.k ≤ 480 }
@@ -96,7 +106,7 @@ fn take_late(books: &mut Books, terms: &Terms, day: Day)
     requires terms { IsSound terms.now }
     requires boarded { IsReadDay terms.now.boarded }
     requires signs { HaveSigns terms.now books.old }
-    requires room { HasRoom books.old }
+    requires sums { MaySettle books.old }
     ensures { books.new ≡ rule.late_taken terms.now day books.old }
 {
     if is_overdue(books, terms, day) {
@@ -105,7 +115,8 @@ fn take_late(books: &mut Books, terms: &Terms, day: Day)
     pay_late(books);
 }
 
-fn is_overdue(books: &Books, terms: &Terms, day: Day) -> bool
+/// Whether an open installment is due on or before a day.
+pub(crate) fn is_overdue(books: &Books, terms: &Terms, day: Day) -> bool
     requires terms { IsSound terms.now }
     requires boarded { IsReadDay terms.now.boarded }
     requires signs { HaveSigns terms.now books.now }
@@ -117,7 +128,7 @@ fn is_overdue(books: &Books, terms: &Terms, day: Day) -> bool
 fn pay_late(books: &mut Books)
     requires suspense { pos 0 ≤ℤ books.old.suspense }
     requires late_owed { pos 0 ≤ℤ books.old.late_owed }
-    requires room { HasRoom books.old }
+    requires sums { MaySettle books.old }
     ensures { books.new ≡ rule.late_paid books.old }
 {
     let paid = books.suspense.min(books.late_owed);

@@ -3,7 +3,7 @@ use Rattle.std.specs.Prelude.{ℕ, List, [], ◌∷◌, pos}
 use Rattle.svc_types.specs.declared.account.Act.{Act}
 use Rattle.svc_types.specs.declared.account.Act.TheVariants as act
 use Rattle.svc_types.specs.declared.account.Entry.{Entry}
-use Rattle.svc_apply.specs.Rows.{day_at, month_at, worked_loan, analysis_from}
+use Rattle.svc_apply.specs.Rows.{day_at, month_at, worked_loan, regular, analysis_from}
 use Rattle.svc_spec.specs.Accounts.{Account}
 
 abbrev pub entry_on : ℕ → ℕ → Act → Entry
@@ -14,11 +14,11 @@ account_with entries reversals = record { terms = worked_loan; entries = entries
 
 -- two payments of an installment, the later one on a day in March
 abbrev pub paid_twice : ℕ → List (ℕ × ℕ) → Account
-paid_twice d reversals = account_with (entry_on 3 (day_at 2024 2 1) (act.Pay (pos 119_910)) ∷ entry_on 4 d (act.Pay (pos 119_910)) ∷ []) reversals
+paid_twice d reversals = account_with (entry_on 3 (day_at 2024 2 1) (regular (pos 119_910)) ∷ entry_on 4 d (regular (pos 119_910)) ∷ []) reversals
 
 -- a payment, and the payoff that is asked on 2024-02-16
 abbrev pub paid_off : Account
-paid_off = account_with (entry_on 3 (day_at 2024 2 1) (act.Pay (pos 119_910)) ∷ entry_on 5 (day_at 2024 2 16) (act.Payoff (pos 20_030_040)) ∷ []) []
+paid_off = account_with (entry_on 3 (day_at 2024 2 1) (regular (pos 119_910)) ∷ entry_on 5 (day_at 2024 2 16) (act.Payoff (pos 20_030_040)) ∷ []) []
 
 -- a deposit, a bill, an analysis that refunds, and a refund
 abbrev pub escrowed : Account
