@@ -10,3 +10,4 @@ pub mod KeptLemmas
 pub mod StateLemmas
 pub mod WorkedLemmas
 pub mod SentLemmas
+pub mod ManyLemmas

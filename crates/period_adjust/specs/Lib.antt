@@ -6,3 +6,4 @@ pub mod Totals
 pub mod Conditions
 pub mod Kept
 pub mod Worked
+pub mod WorkedMany
