@@ -5,7 +5,6 @@ pub mod AddsUp
 pub mod ChangesLemmas
 pub mod MonthsLemmas
 pub mod SealedLemmas
-pub mod LineLemmas
 pub mod KeptLemmas
 pub mod StateLemmas
 pub mod WorkedLemmas

@@ -1,12 +1,11 @@
 -- Many loans whose dues of a closed month are changed one after the other.
-use Rattle.std.proofs.Common.{◌≡◌, ◌≢◌, ℕ, ◌+◌, ◌<◌, ◌≤◌, true, false, List, [], ◌∷◌, ◌++◌, length, get_or, set, ℤ, pos, refl, arith, ap, sym, ◌∙◌, subst}
+use Rattle.std.proofs.Common.{◌≡◌, ◌≢◌, ℕ, ◌+◌, ◌<◌, ◌≤◌, true, false, List, [], ◌∷◌, ◌++◌, length, get_or, set, pos, refl, arith, ap, sym, ◌∙◌, subst}
 use Rattle.std.specs.Prelude.{◌==◌, if◌then◌else◌}
 use Rattle.std.specs.List.{All, AllPairs}
 use Rattle.std.proofs.lemmas.Int.{ints}
 use Rattle.std.proofs.lemmas.Bool.Decides.{nat_tests}
 use Rattle.std.proofs.lemmas.List.{length-set, length-append, get_or-set_same, get_or-set_other}
 use Rattle.std.proofs.lemmas.List.Elements.{All-nil, All-cons, All-append, All-weaker}
-use Rattle.svc_base.specs.Sums.{total_by}
 use Rattle.svc_base.proofs.SumLemmas.{total_by-zero}
 use Rattle.remit_types.specs.declared.dues.MonthDue.{MonthDue}
 use Rattle.period_adjust.specs.declared.adjustment.Adjustment.{Adjustment}
@@ -15,7 +14,7 @@ use Rattle.period_adjust.specs.Sealed.{Sealed, Reporting, reporting}
 use Rattle.period_adjust.specs.Sums.{DuePart, Interest, Principal, report_of}
 use Rattle.period_adjust.specs.Changes.{adjustments_of}
 use Rattle.period_adjust.specs.Totals.{lined, part_of_due, total, Change, Close, after}
-use Rattle.period_adjust.specs.Conditions.{IsAmount, IsSmallDue, IsSmallLine, IsClosed, IsDueSoFar, HasNoSums, AreDues, MayChange, count_held}
+use Rattle.period_adjust.specs.Conditions.{IsAmount, IsSmallDue, IsSmallLine, IsClosed, IsDueSoFar, HasNoSums, AreDues, MayChange}
 use Rattle.period_adjust.specs.WorkedMany.{empty_line, AreEmptyLines, worked_due, AreZeros, AreGiven}
 use Rattle.period_adjust.proofs.BeforeLemmas.{by_loan, Rises-from_pairs, AreBefore-from_all}
 use Rattle.period_adjust.proofs.AddsUp.{lined-report, change_adds_up}

@@ -1,6 +1,7 @@
 pub mod Sealed
 pub mod Sums
 pub mod Pending
+pub mod Places
 pub mod Changes
 pub mod Totals
 pub mod Conditions

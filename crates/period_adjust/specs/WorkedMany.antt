@@ -1,5 +1,5 @@
 -- Many loans, of the numbers 0 to 2,999, whose dues of 2023-12 are changed one after the other.
-use Rattle.std.specs.Prelude.{◌≡◌, ℕ, ◌<◌, ◌≤◌, List, length, slice_index, slice_index_or, pos, Some}
+use Rattle.std.specs.Prelude.{◌≡◌, ℕ, ◌<◌, List, length, slice_index, slice_index_or, pos, Some}
 use Rattle.std.specs.List.{All}
 use Rattle.remit_types.specs.declared.dues.MonthDue.{MonthDue}
 use Rattle.period_adjust.specs.declared.report_line.ReportLine.{ReportLine}
