@@ -1,11 +1,12 @@
-pub mod SumsLemmas
+pub mod AmountLemmas
+pub mod RunningLemmas
 pub mod BeforeLemmas
 pub mod AddsUp
 pub mod ChangesLemmas
 pub mod MonthsLemmas
 pub mod SealedLemmas
-pub mod LineLemmas
 pub mod KeptLemmas
 pub mod StateLemmas
 pub mod WorkedLemmas
 pub mod SentLemmas
+pub mod ManyLemmas
