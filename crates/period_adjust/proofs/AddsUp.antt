@@ -3,27 +3,28 @@ use Rattle.std.proofs.Common.{◌≡◌, ℕ, ◌≤◌, true, false, List, [], 
 use Rattle.std.specs.Prelude.{if◌then◌else◌, ◌==◌}
 use Rattle.std.proofs.lemmas.Int.{ints}
 use Rattle.std.proofs.lemmas.Bool.Decides.{nat_tests}
+use Rattle.svc_base.specs.Sums.{total_by}
 use Rattle.remit_types.specs.declared.dues.MonthDue.{MonthDue}
-use Rattle.period_adjust.specs.declared.entries.Adjustment.{Adjustment}
-use Rattle.period_adjust.specs.declared.entries.ReportLine.{ReportLine}
-use Rattle.period_adjust.specs.Sealed.{Sealed, Books}
-use Rattle.period_adjust.specs.Sums.{Part, Interest, Principal, total_by, line_with, report_of}
+use Rattle.period_adjust.specs.declared.adjustment.Adjustment.{Adjustment}
+use Rattle.period_adjust.specs.declared.report_line.ReportLine.{ReportLine}
+use Rattle.period_adjust.specs.Sealed.{Sealed, Reporting}
+use Rattle.period_adjust.specs.Sums.{DuePart, Interest, Principal, line_with, report_of}
 use Rattle.period_adjust.specs.Changes.{is_unchanged, adjustment, change_of, adjustments_of}
-use Rattle.period_adjust.proofs.SumsLemmas.{total_by-append}
+use Rattle.svc_base.proofs.SumLemmas.{total_by-append}
 use Rattle.period_adjust.specs.Totals.{adjusted, lined, reported, Call, Change, Close, total, after, after_all, due_in, given, part_of_due}
 use Rattle.period_adjust.proofs.BeforeLemmas.{IsRising, AreBefore, Rises}
 
 -- the sums of adjustments change nothing in what a line reports
-lined-with : (p : Part) (loan : ℕ) (pending : List Adjustment) (l : ReportLine) → lined p loan (line_with pending l) ≡ lined p loan l
+lined-with : (p : DuePart) (loan : ℕ) (pending : List Adjustment) (l : ReportLine) → lined p loan (line_with pending l) ≡ lined p loan l
 lined-with Interest loan pending l = refl
 lined-with Principal loan pending l = refl
 
-pub lined-report : (p : Part) (loan : ℕ) (pending : List Adjustment) (ls : List ReportLine) → total_by (lined p loan) (map (line_with pending) ls) ≡ total_by (lined p loan) ls
+pub lined-report : (p : DuePart) (loan : ℕ) (pending : List Adjustment) (ls : List ReportLine) → total_by (lined p loan) (map (line_with pending) ls) ≡ total_by (lined p loan) ls
 lined-report p loan pending [] = refl
 lined-report p loan pending (l ∷ ls) = omega (arith, ints, lined-with p loan pending l, lined-report p loan pending ls)
 
 -- a month that is below all of the list: the list gives nothing for it
-pub due_in-above : (p : Part) (month low : ℕ) (was : ℤ) (ds : List MonthDue) → month ≤ low → IsRising low ds → due_in p month was ds ≡ was
+pub due_in-above : (p : DuePart) (month low : ℕ) (was : ℤ) (ds : List MonthDue) → month ≤ low → IsRising low ds → due_in p month was ds ≡ was
 due_in-above p month low was [] h r = refl
 due_in-above p month low was (d ∷ ds) h r =
     let apart : (d.month == month) ≡ false = grind (arith, nat_tests) in
@@ -35,17 +36,17 @@ rises-tail low [] r = tt
 rises-tail low (d ∷ ds) r = r.1
 
 -- what one month's change adds, for its own loan
-change_adds : (p : Part) (loan month number : ℕ) (b a : MonthDue) → total_by (adjusted p loan month) (change_of number loan b a) ≡ (if a.month == month then part_of_due p a -ℤ part_of_due p b else pos 0)
+change_adds : (p : DuePart) (loan month number : ℕ) (b a : MonthDue) → total_by (adjusted p loan month) (change_of number loan b a) ≡ (if a.month == month then part_of_due p a -ℤ part_of_due p b else pos 0)
 change_adds Interest loan month number b a = grind (arith, ints, nat_tests)
 change_adds Principal loan month number b a = grind (arith, ints, nat_tests)
 
-one_change : (p : Part) (loan month number : ℕ) (b a : MonthDue) (bs later : List MonthDue) → total_by (adjusted p loan month) (adjustments_of number loan (b ∷ bs) (a ∷ later)) ≡ (if a.month == month then part_of_due p a -ℤ part_of_due p b else pos 0) +ℤ total_by (adjusted p loan month) (adjustments_of number loan bs later)
+one_change : (p : DuePart) (loan month number : ℕ) (b a : MonthDue) (bs later : List MonthDue) → total_by (adjusted p loan month) (adjustments_of number loan (b ∷ bs) (a ∷ later)) ≡ (if a.month == month then part_of_due p a -ℤ part_of_due p b else pos 0) +ℤ total_by (adjusted p loan month) (adjustments_of number loan bs later)
 one_change p loan month number b a bs later =
     total_by-append (adjusted p loan month) (change_of number loan b a) (adjustments_of number loan bs later)
     ∙ ap (λ (z : ℤ). z +ℤ total_by (adjusted p loan month) (adjustments_of number loan bs later)) (change_adds p loan month number b a)
 
 -- changes of another loan add nothing
-other_loan : (p : Part) (loan month number l : ℕ) (bs later : List MonthDue) → (l == loan) ≡ false → total_by (adjusted p loan month) (adjustments_of number l bs later) ≡ pos 0
+other_loan : (p : DuePart) (loan month number l : ℕ) (bs later : List MonthDue) → (l == loan) ≡ false → total_by (adjusted p loan month) (adjustments_of number l bs later) ≡ pos 0
 other_loan p loan month number l [] later h = refl
 other_loan p loan month number l (b ∷ bs) [] h = refl
 other_loan p loan month number l (b ∷ bs) (a ∷ later) h =
@@ -55,7 +56,7 @@ other_loan p loan month number l (b ∷ bs) (a ∷ later) h =
     omega (arith, ints, total_by-append (adjusted p loan month) (change_of number l b a) (adjustments_of number l bs later))
 
 -- changes of later months add nothing
-later_months : (p : Part) (loan month number low : ℕ) (bs later : List MonthDue) → month ≤ low → IsRising low later → total_by (adjusted p loan month) (adjustments_of number loan bs later) ≡ pos 0
+later_months : (p : DuePart) (loan month number low : ℕ) (bs later : List MonthDue) → month ≤ low → IsRising low later → total_by (adjusted p loan month) (adjustments_of number loan bs later) ≡ pos 0
 later_months p loan month number low [] later h r = refl
 later_months p loan month number low (b ∷ bs) [] h r = refl
 later_months p loan month number low (b ∷ bs) (a ∷ later) h r =
@@ -64,13 +65,13 @@ later_months p loan month number low (b ∷ bs) (a ∷ later) h r =
     let rest = later_months p loan month number a.month bs later above r.1 in
     one_change p loan month number b a bs later ∙ rw apart (omega (arith, ints))
 
--- what the books say of a month before it changes
-pub before_is : (p : Part) (loan month : ℕ) (s : Books) (b : MonthDue) → b.month ≡ month → b.interest ≡ total Interest loan b.month s → b.principal ≡ total Principal loan b.month s → part_of_due p b ≡ total p loan month s
+-- what reports and adjustments say of a month before it changes
+pub before_is : (p : DuePart) (loan month : ℕ) (s : Reporting) (b : MonthDue) → b.month ≡ month → b.interest ≡ total Interest loan b.month s → b.principal ≡ total Principal loan b.month s → part_of_due p b ≡ total p loan month s
 before_is Interest loan month s b e i q = i ∙ ap (λ m. total Interest loan m s) e
 before_is Principal loan month s b e i q = q ∙ ap (λ m. total Principal loan m s) e
 
 -- the changes of a loan bring what is said of a month to what is given for it
-pub changes_add_up : (p : Part) (loan month number : ℕ) (s : Books) (bs later : List MonthDue) → AreBefore s loan bs later → Rises later → total p loan month s +ℤ total_by (adjusted p loan month) (adjustments_of number loan bs later) ≡ due_in p month (total p loan month s) later
+pub changes_add_up : (p : DuePart) (loan month number : ℕ) (s : Reporting) (bs later : List MonthDue) → AreBefore s loan bs later → Rises later → total p loan month s +ℤ total_by (adjusted p loan month) (adjustments_of number loan bs later) ≡ due_in p month (total p loan month s) later
 changes_add_up p loan month number s [] [] h r = omega (arith, ints)
 changes_add_up p loan month number s [] (a ∷ later) h r = absurd h
 changes_add_up p loan month number s (b ∷ bs) [] h r = absurd h
@@ -92,7 +93,7 @@ changes_add_up p loan month number s (b ∷ bs) (a ∷ later) h r =
     ] refl
 
 -- a change brings what is said of a month to what it gives for it
-pub change_adds_up : (p : Part) (loan month : ℕ) (s : Books) (number l : ℕ) (before later : List MonthDue) → AreBefore s l before later → Rises later → total p loan month (after s (Change number l before later)) ≡ given p loan month (total p loan month s) (Change number l before later)
+pub change_adds_up : (p : DuePart) (loan month : ℕ) (s : Reporting) (number l : ℕ) (before later : List MonthDue) → AreBefore s l before later → Rises later → total p loan month (after s (Change number l before later)) ≡ given p loan month (total p loan month s) (Change number l before later)
 change_adds_up p loan month s number l before later told rises =
     let appended = total_by-append (adjusted p loan month) s.pending (adjustments_of number l before later) in
     elim (l == loan) as (λ t. (l == loan) ≡ t → total p loan month (after s (Change number l before later)) ≡ (if t then due_in p month (total p loan month s) later else total p loan month s)) [
@@ -108,7 +109,7 @@ change_adds_up p loan month s number l before later told rises =
     ] refl
 
 -- and so does a closing, where nothing is there for its month yet
-pub close_adds_up : (p : Part) (loan month : ℕ) (s : Books) (m : ℕ) (dues : List ReportLine) → total p loan m s ≡ pos 0 → total p loan month (after s (Close m dues)) ≡ given p loan month (total p loan month s) (Close m dues)
+pub close_adds_up : (p : DuePart) (loan month : ℕ) (s : Reporting) (m : ℕ) (dues : List ReportLine) → total p loan m s ≡ pos 0 → total p loan month (after s (Close m dues)) ≡ given p loan month (total p loan month s) (Close m dues)
 close_adds_up p loan month s m dues empty =
     let appended = total_by-append (reported p loan month) s.reports (report_of m dues s.pending ∷ []) in
     let lines = lined-report p loan s.pending dues in
@@ -124,7 +125,7 @@ close_adds_up p loan month s m dues empty =
     ] refl
 
 -- reports only grow
-pub reports_grow : (s : Books) (cs : List Call) → (more : List Sealed) × ((after_all s cs).reports ≡ s.reports ++ more)
+pub reports_grow : (s : Reporting) (cs : List Call) → (more : List Sealed) × ((after_all s cs).reports ≡ s.reports ++ more)
 reports_grow s [] = ([], sym (append-nil s.reports))
 reports_grow s (Change number l before later ∷ cs) = reports_grow (after s (Change number l before later)) cs
 reports_grow s (Close m dues ∷ cs) =

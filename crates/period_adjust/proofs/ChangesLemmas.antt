@@ -2,7 +2,7 @@
 use Rattle.std.proofs.Common.{◌≡◌, ℕ, ◌+◌, ◌<◌, ◌≤◌, Bool, true, false, List, [], ◌∷◌, ◌++◌, length, get_or, drop, refl, arith, ap, ◌∙◌, add-one, drop-cons, sym, suc, ℤ, length-append}
 use Rattle.std.specs.Prelude.{if◌then◌else◌}
 use Rattle.remit_types.specs.declared.dues.MonthDue.{MonthDue}
-use Rattle.period_adjust.specs.declared.entries.Adjustment.{Adjustment}
+use Rattle.period_adjust.specs.declared.adjustment.Adjustment.{Adjustment}
 use Rattle.period_adjust.specs.Changes.{is_unchanged, adjustment, change_of, adjustments_of}
 
 -- from one month on

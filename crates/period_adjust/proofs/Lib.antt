@@ -1,4 +1,5 @@
-pub mod SumsLemmas
+pub mod AmountLemmas
+pub mod RunningLemmas
 pub mod BeforeLemmas
 pub mod AddsUp
 pub mod ChangesLemmas

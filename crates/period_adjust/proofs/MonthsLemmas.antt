@@ -6,38 +6,39 @@ use Rattle.std.specs.List.{All}
 use Rattle.std.proofs.lemmas.Int.{ints}
 use Rattle.std.proofs.lemmas.Bool.Decides.{nat_tests}
 use Rattle.std.proofs.lemmas.List.Elements.{All-head, All-tail}
-use Rattle.period_adjust.specs.declared.entries.Adjustment.{Adjustment}
-use Rattle.period_adjust.specs.Sums.{Part, part_of_adjustment, total_by, share}
+use Rattle.svc_base.specs.Sums.{total_by}
+use Rattle.period_adjust.specs.declared.adjustment.Adjustment.{Adjustment}
+use Rattle.period_adjust.specs.Sums.{DuePart, part_of_adjustment, share}
 use Rattle.period_adjust.specs.Totals.{adjusted}
 use Rattle.period_adjust.specs.Kept.{IsBefore}
 
--- the adjustments of a loan for so many months from 1990-01 on
-pub months_total : Part → ℕ → List Adjustment → ℕ → ℤ
+-- the adjustments of a loan for so many months from 1989-01 on
+unfoldable pub months_total : DuePart → ℕ → List Adjustment → ℕ → ℤ
 months_total p loan xs zero = pos 0
 months_total p loan xs (suc n) = months_total p loan xs n +ℤ total_by (adjusted p loan (23_868 + n)) xs
 
 -- an adjustment of another month
-pub adjusted_other : (p : Part) (loan month : ℕ) (a : Adjustment) → (a.month == month) ≡ false → adjusted p loan month a ≡ pos 0
+pub adjusted_other : (p : DuePart) (loan month : ℕ) (a : Adjustment) → (a.month == month) ≡ false → adjusted p loan month a ≡ pos 0
 adjusted_other p loan month a h =
     elim (a.loan == loan) as (λ t. (if t && (a.month == month) then part_of_adjustment p a else pos 0) ≡ pos 0) [ true ↦ rw h refl | false ↦ refl ]
 
 -- one of the month
-pub adjusted_own : (p : Part) (loan month : ℕ) (a : Adjustment) → (a.month == month) ≡ true → adjusted p loan month a ≡ share p loan a
+pub adjusted_own : (p : DuePart) (loan month : ℕ) (a : Adjustment) → (a.month == month) ≡ true → adjusted p loan month a ≡ share p loan a
 adjusted_own p loan month a h =
     elim (a.loan == loan) as (λ t. (if t && (a.month == month) then part_of_adjustment p a else pos 0) ≡ (if t then part_of_adjustment p a else pos 0)) [ true ↦ rw h refl | false ↦ refl ]
 
-pub months_total-nil : (p : Part) (loan n : ℕ) → months_total p loan [] n ≡ pos 0
+pub months_total-nil : (p : DuePart) (loan n : ℕ) → months_total p loan [] n ≡ pos 0
 unfolding months_total
 months_total-nil p loan zero = refl
 months_total-nil p loan (suc n) = omega (arith, ints, months_total-nil p loan n)
 
-pub months_total-cons : (p : Part) (loan : ℕ) (a : Adjustment) (xs : List Adjustment) (n : ℕ) → months_total p loan (a ∷ xs) n ≡ months_total p loan (a ∷ []) n +ℤ months_total p loan xs n
+pub months_total-cons : (p : DuePart) (loan : ℕ) (a : Adjustment) (xs : List Adjustment) (n : ℕ) → months_total p loan (a ∷ xs) n ≡ months_total p loan (a ∷ []) n +ℤ months_total p loan xs n
 unfolding months_total
 months_total-cons p loan a xs zero = refl
 months_total-cons p loan a xs (suc n) = omega (arith, ints, months_total-cons p loan a xs n)
 
 -- an adjustment of a later month
-months_total-above : (p : Part) (loan : ℕ) (a : Adjustment) (n : ℕ) → 23_868 + n ≤ a.month → months_total p loan (a ∷ []) n ≡ pos 0
+months_total-above : (p : DuePart) (loan : ℕ) (a : Adjustment) (n : ℕ) → 23_868 + n ≤ a.month → months_total p loan (a ∷ []) n ≡ pos 0
 unfolding months_total
 months_total-above p loan a zero h = refl
 months_total-above p loan a (suc n) h =
@@ -47,7 +48,7 @@ months_total-above p loan a (suc n) h =
     omega (arith, ints)
 
 -- one of these months
-months_total-one : (p : Part) (loan : ℕ) (a : Adjustment) (n : ℕ) → 23_868 ≤ a.month → a.month < 23_868 + n → months_total p loan (a ∷ []) n ≡ share p loan a
+months_total-one : (p : DuePart) (loan : ℕ) (a : Adjustment) (n : ℕ) → 23_868 ≤ a.month → a.month < 23_868 + n → months_total p loan (a ∷ []) n ≡ share p loan a
 unfolding months_total
 months_total-one p loan a zero low high = absurd (omega arith)
 months_total-one p loan a (suc n) low high =
@@ -65,7 +66,7 @@ months_total-one p loan a (suc n) low high =
     ] refl
 
 -- the months together are all adjustments of the loan
-pub months_total-all : (p : Part) (loan end n : ℕ) (xs : List Adjustment) → end ≤ 23_868 + n → All (λ a. IsBefore end a.month) xs → months_total p loan xs n ≡ total_by (share p loan) xs
+pub months_total-all : (p : DuePart) (loan end n : ℕ) (xs : List Adjustment) → end ≤ 23_868 + n → All (λ a. IsBefore end a.month) xs → months_total p loan xs n ≡ total_by (share p loan) xs
 months_total-all p loan end n [] h all = months_total-nil p loan n
 months_total-all p loan end n (a ∷ xs) h all =
     let here : IsBefore end a.month = All-head (λ (b : Adjustment). IsBefore end b.month) a xs all in
@@ -85,7 +86,7 @@ pub record IsWithinMonths (n : ℕ) (z : ℤ) : Type 0 where
   pub low : pos 0 ≤ℤ (z +ℤ pos (n * 2_000_000_000_000_000))
   pub high : z ≤ℤ pos (n * 2_000_000_000_000_000)
 
-pub months_total-bound : (p : Part) (loan n : ℕ) (xs : List Adjustment) → ((month : ℕ) → IsDifference (total_by (adjusted p loan month) xs)) → IsWithinMonths n (months_total p loan xs n)
+pub months_total-bound : (p : DuePart) (loan n : ℕ) (xs : List Adjustment) → ((month : ℕ) → IsDifference (total_by (adjusted p loan month) xs)) → IsWithinMonths n (months_total p loan xs n)
 unfolding months_total
 months_total-bound p loan zero xs h = record { low = omega (arith, ints); high = omega (arith, ints) }
 months_total-bound p loan (suc n) xs h =

@@ -1,5 +1,6 @@
 pub mod Sealed
 pub mod Sums
+pub mod Pending
 pub mod Changes
 pub mod Totals
 pub mod Conditions

@@ -1,7 +1,7 @@
 -- Reports as they are sent, and the state of all reports.
 use Rattle.std.specs.Prelude.{ℕ, List, Option}
-use Rattle.period_adjust.specs.declared.entries.Adjustment.{Adjustment}
-use Rattle.period_adjust.specs.declared.entries.ReportLine.{ReportLine}
+use Rattle.period_adjust.specs.declared.adjustment.Adjustment.{Adjustment}
+use Rattle.period_adjust.specs.declared.report_line.ReportLine.{ReportLine}
 
 -- a report: its month, its lines, and the adjustments that it sends
 pub record Sealed : Type 0 where
@@ -9,19 +9,19 @@ pub record Sealed : Type 0 where
   pub lines : List ReportLine
   pub adjustments : List Adjustment
 
--- all reports, in the order in which their months were closed, and the adjustments that no report
--- has sent
-pub record Books : Type 0 where
+-- what is kept of investor reporting: all reports, in the order in which their months were closed,
+-- and the adjustments that no report has sent
+pub record Reporting : Type 0 where
   pub reports : List Sealed
   pub pending : List Adjustment
 
-abbrev pub books : List Sealed → List Adjustment → Books
-books reports pending = record { reports = reports; pending = pending }
+abbrev pub reporting : List Sealed → List Adjustment → Reporting
+reporting reports pending = record { reports = reports; pending = pending }
 
--- the books, the last month remitted, and the room that is kept for reports, for the lines of one,
+-- the reporting, the month remitted last, and the room that is kept for reports, for the lines of one,
 -- and for adjustments
 pub record State : Type 0 where
-  pub books : Books
+  pub reporting : Reporting
   pub remitted : Option ℕ
   pub report_room : ℕ
   pub line_room : ℕ

@@ -2,14 +2,14 @@
 use Rattle.std.specs.Prelude.{◌≡◌, List, [], ◌∷◌, pos, map}
 use Rattle.std.specs.List.{All}
 use Rattle.remit_types.specs.declared.dues.MonthDue.{MonthDue}
-use Rattle.period_adjust.specs.declared.entries.ReportLine.{ReportLine}
-use Rattle.period_adjust.specs.Sealed.{Books, books}
+use Rattle.period_adjust.specs.declared.report_line.ReportLine.{ReportLine}
+use Rattle.period_adjust.specs.Sealed.{Reporting, reporting}
 use Rattle.period_adjust.specs.Totals.{Close, after_all}
 use Rattle.period_adjust.specs.Conditions.{IsSmallDue}
 
 -- the line of a loan whose balance is the investor's too
-abbrev pub line_of : MonthDue → ReportLine
-line_of d =
+abbrev pub worked_line : MonthDue → ReportLine
+worked_line d =
     record {
       loan = 1;
       interest = d.interest;
@@ -25,10 +25,14 @@ abbrev pub nothing_due : MonthDue
 nothing_due = record { month = 24_287; interest = pos 0; principal = pos 0; balance = pos 20_000_000 }
 
 -- the reports of 2023-12 to 2024-03
-abbrev pub four_reports : MonthDue → MonthDue → Books
-four_reports february march =
-    after_all (books [] [])
-    (Close 24_287 (line_of nothing_due ∷ []) ∷ Close 24_288 (line_of nothing_due ∷ []) ∷ Close 24_289 (line_of february ∷ []) ∷ Close 24_290 (line_of march ∷ []) ∷ [])
+abbrev pub worked_reports : MonthDue → MonthDue → Reporting
+worked_reports february march =
+    after_all (reporting [] [])
+    (Close 24_287 (worked_line nothing_due ∷ [])
+    ∷ Close 24_288 (worked_line nothing_due ∷ [])
+    ∷ Close 24_289 (worked_line february ∷ [])
+    ∷ Close 24_290 (worked_line march ∷ [])
+    ∷ [])
 
 -- what was and is due for 2024-02 and 2024-03
 pub record AreTwoMonths (was is : List MonthDue) : Type 0 where

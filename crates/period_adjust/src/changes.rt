@@ -1,12 +1,14 @@
 //! The adjustments of a command.
 
-ghost use Rattle.std.specs.Prelude.{◌≡◌, ◌+◌, ◌≤◌, ◌++◌, not, length, vec_len, vec_capacity};
+ghost use Rattle.std.specs.Prelude.{◌≡◌, ◌+◌, ◌≤◌, ◌++◌, not, length};
 ghost use Rattle.std.specs.List.{All};
 ghost use Rattle.period_adjust.specs.Changes as changes;
 ghost use Rattle.period_adjust.specs.Changes.{is_unchanged, adjustments_of};
 ghost use Rattle.period_adjust.specs.Conditions.{IsSmallDue};
+ghost use Rattle.period_adjust.specs.Sums.{SumsFit};
 
-use crate::entries::Adjustment;
+use crate::adjustment::Adjustment;
+use crate::pending::Pending;
 use remit_types::MonthDue;
 
 /// Whether interest or principal differs.
@@ -49,7 +51,7 @@ fn adjustment(number: u32, loan: u32, was: &MonthDue, is: &MonthDue) -> Adjustme
 
 /// Adds the adjustments of the months that differ.
 pub(crate) fn push_changes(
-    pending: &mut Vec<Adjustment>,
+    pending: &mut Pending,
     number: u32,
     loan: u32,
     before: &[MonthDue],
@@ -58,9 +60,12 @@ pub(crate) fn push_changes(
     requires months { length after.now ≡ length before.now }
     requires before { All IsSmallDue before.now }
     requires after { All IsSmallDue after.now }
-    requires room { vec_len pending.old + length (adjustments_of number loan before.now after.now) ≤ vec_capacity pending.old }
-    ensures items { pending.new.items ≡ pending.old.items ++ adjustments_of number loan before.now after.now }
-    ensures capacity { vec_capacity pending.new ≡ vec_capacity pending.old }
+    requires fits { SumsFit (pending.old.adjustments ++ adjustments_of number loan before.now after.now) }
+    requires room { length (adjustments_of number loan before.now after.now) ≤ pending.old.room }
+    ensures adjustments { pending.new.adjustments ≡
+        pending.old.adjustments ++ adjustments_of number loan before.now after.now }
+    ensures room { pending.old.room ≤
+        pending.new.room + length (adjustments_of number loan before.now after.now) }
 {
     for (i, was) in before.iter().enumerate() {
         push_change(pending, number, loan, was, &after[i]);
@@ -68,15 +73,17 @@ pub(crate) fn push_changes(
 }
 
 /// Adds the adjustment of a month if it differs.
-fn push_change(pending: &mut Vec<Adjustment>, number: u32, loan: u32, was: &MonthDue, is: &MonthDue)
+fn push_change(pending: &mut Pending, number: u32, loan: u32, was: &MonthDue, is: &MonthDue)
     requires before { IsSmallDue was.now }
     requires after { IsSmallDue is.now }
-    requires room { vec_len pending.old + length (changes.change_of number loan was.now is.now) ≤ vec_capacity pending.old }
-    ensures items { pending.new.items ≡ pending.old.items ++ changes.change_of number loan was.now is.now }
-    ensures len { vec_len pending.new ≡ vec_len pending.old + length (changes.change_of number loan was.now is.now) }
-    ensures capacity { vec_capacity pending.new ≡ vec_capacity pending.old }
+    requires fits { SumsFit (pending.old.adjustments ++ changes.change_of number loan was.now is.now) }
+    requires room { length (changes.change_of number loan was.now is.now) ≤ pending.old.room }
+    ensures adjustments { pending.new.adjustments ≡
+        pending.old.adjustments ++ changes.change_of number loan was.now is.now }
+    ensures room { pending.old.room ≤
+        pending.new.room + length (changes.change_of number loan was.now is.now) }
 {
     if differs(was, is) {
-        pending.push_reserved(adjustment(number, loan, was, is));
+        pending.push(adjustment(number, loan, was, is));
     }
 }

@@ -2,7 +2,8 @@
 
 ghost use Rattle.std.specs.Prelude.{◌≡◌, IfOk};
 
-use crate::entries::{Adjustment, ReportLine};
+use crate::adjustment::Adjustment;
+use crate::report_line::ReportLine;
 use std::marker::Model;
 use svc_base::OutOfMemory;
 
@@ -14,7 +15,7 @@ pub(crate) struct ReportLines {
 
 impl Model for ReportLines {
     ghost use Rattle.std.specs.Prelude.{List};
-    ghost use Rattle.period_adjust.specs.declared.entries.ReportLine.{ReportLine};
+    ghost use Rattle.period_adjust.specs.declared.report_line.ReportLine.{ReportLine};
 
     ghost Value = { List ReportLine };
 
@@ -40,9 +41,7 @@ impl ReportLines {
     pub(crate) fn copy(&self) -> Result<ReportLines, OutOfMemory>
         ensures { IfOk result (λ copy. copy ≡ self.now) }
     {
-        Ok(ReportLines {
-            items: self.items.clone()?,
-        })
+        Ok(ReportLines::from_vec(self.items.clone()?))
     }
 }
 
@@ -54,7 +53,7 @@ pub(crate) struct Adjustments {
 
 impl Model for Adjustments {
     ghost use Rattle.std.specs.Prelude.{List};
-    ghost use Rattle.period_adjust.specs.declared.entries.Adjustment.{Adjustment};
+    ghost use Rattle.period_adjust.specs.declared.adjustment.Adjustment.{Adjustment};
 
     ghost Value = { List Adjustment };
 
@@ -80,8 +79,6 @@ impl Adjustments {
     pub(crate) fn copy(&self) -> Result<Adjustments, OutOfMemory>
         ensures { IfOk result (λ copy. copy ≡ self.now) }
     {
-        Ok(Adjustments {
-            items: self.items.clone()?,
-        })
+        Ok(Adjustments::from_vec(self.items.clone()?))
     }
 }

@@ -2,8 +2,9 @@
 
 ghost use Rattle.std.specs.Prelude.{◌≡◌, IfOk};
 
-use crate::entries::{Adjustment, ReportLine};
+use crate::adjustment::Adjustment;
 use crate::lists::{Adjustments, ReportLines};
+use crate::report_line::ReportLine;
 use std::marker::Model;
 use svc_base::{Month, OutOfMemory};
 

@@ -1,20 +1,24 @@
 //! All reports that were sealed, and the adjustments that none has sent.
 
-ghost use Rattle.std.specs.Prelude.{◌≡◌, ◌≢◌, ◌+◌, ◌<◌, ◌≤◌, [], Some, None, Ok, Err, length, OnOk, OnErr, IfErr, IsOk};
+ghost use Rattle.std.specs.Prelude.{◌≡◌, ◌≢◌, ◌+◌, ◌<◌, ◌≤◌, [], Some, None, Ok, Err, length};
+ghost use Rattle.std.specs.Prelude.{OnOk, OnErr, IfErr, IfSome, IsOk};
 ghost use Rattle.svc_base.specs.Calendar as calendar;
-ghost use Rattle.period_adjust.specs.Sealed.{books};
+ghost use Rattle.period_adjust.specs.Sealed.{reporting};
 ghost use Rattle.period_adjust.specs.Changes.{adjustments_of};
 ghost use Rattle.period_adjust.specs.Totals as totals;
 ghost use Rattle.period_adjust.specs.Totals.{Change, Close};
-ghost use Rattle.period_adjust.specs.Conditions.{last_month, count_held, IsExpected, AreDues, MayChange};
+ghost use Rattle.period_adjust.specs.Conditions.{last_month, count_held, IsClosed};
+ghost use Rattle.period_adjust.specs.Conditions.{IsExpected, AreDues, MayChange};
 ghost use Rattle.period_adjust.specs.Kept.{AreSealed, remit_fault};
 ghost use Rattle.period_adjust.specs.declared.faults.SealFault.TheVariants as seal;
 
+use crate::adjustment::Adjustment;
 use crate::changes::{count_changes, push_changes};
-use crate::entries::{Adjustment, ReportLine};
 use crate::faults::{RemitFault, SealFault};
+use crate::pending::Pending;
 use crate::report::Report;
-use crate::sums::report_lines;
+use crate::report_line::ReportLine;
+use crate::report_lines::report_lines;
 use remit_types::MonthDue;
 use std::alloc::Global;
 use std::marker::Model;
@@ -27,7 +31,7 @@ use svc_base::{Day, Month, OutOfMemory, last_day};
 pub struct Seals {
     alloc: Global,
     reports: Vec<Report>,
-    pending: Vec<Adjustment>,
+    pending: Pending,
     /// Room for the lines of the next report.
     lines: Vec<ReportLine>,
     held: u32,
@@ -38,34 +42,35 @@ pub struct Seals {
 
 impl Model for Seals {
     ghost use Rattle.std.specs.Prelude.{◌-◌, vec_len, vec_capacity};
-    ghost use Rattle.period_adjust.specs.Sealed.{State, books};
+    ghost use Rattle.period_adjust.specs.Sealed.{State, reporting};
 
     ghost Value = { State };
 
     ghost view = { λ s. record {
-      books = books s.reports.items s.pending.items;
+      reporting = reporting s.reports.items s.pending.adjustments;
       remitted = s.remitted;
       report_room = vec_capacity s.reports - vec_len s.reports;
       line_room = vec_capacity s.lines - vec_len s.lines;
-      adjustment_room = vec_capacity s.pending - vec_len s.pending;
+      adjustment_room = s.pending.room;
     } };
 
     ghost use Rattle.period_adjust.specs.Kept.{AreKept};
 
-    ghost invariant = { λ s. AreKept (books s.reports.items s.pending.items) s.lines.items s.held s.first s.closed s.remitted };
+    ghost invariant = { λ s. AreKept (reporting s.reports.items s.pending.adjustments)
+        s.lines.items s.held s.first s.closed s.remitted };
 }
 
 impl Seals {
     /// No report yet.
     pub fn new(alloc: Global) -> Seals
-        ensures books { result.books ≡ books [] [] }
-        ensures sealed { AreSealed result.books }
+        ensures reporting { result.reporting ≡ reporting [] [] }
+        ensures sealed { AreSealed result.reporting }
         ensures remitted { result.remitted ≡ None }
     {
         Seals {
             alloc,
             reports: Vec::new(alloc),
-            pending: Vec::new(alloc),
+            pending: Pending::new(alloc),
             lines: Vec::new(alloc),
             held: 0,
             first: None,
@@ -76,36 +81,37 @@ impl Seals {
 
     /// The month that was closed last.
     pub fn closed(&self) -> Option<Month>
-        ensures { result ≡ last_month self.now.books.reports }
+        ensures { result ≡ last_month self.now.reporting.reports }
     {
         self.closed
     }
 
-    /// The month that was remitted last.
+    /// The month that was remitted last. Only closed months are remitted.
     pub fn remitted(&self) -> Option<Month>
-        ensures { result ≡ self.now.remitted }
+        ensures value { result ≡ self.now.remitted }
+        ensures closed { IfSome result (IsClosed self.now.reporting.reports) }
     {
         self.remitted
     }
 
     /// The reports, in the order in which their months were closed.
     pub fn reports(&self) -> &[Report]
-        ensures value { result.now ≡ self.now.books.reports }
-        ensures sealed { AreSealed self.now.books }
+        ensures value { result.now ≡ self.now.reporting.reports }
+        ensures sealed { AreSealed self.now.reporting }
     {
         self.reports.as_slice()
     }
 
     /// The adjustments that no report has sent.
     pub fn pending(&self) -> &[Adjustment]
-        ensures { result.now ≡ self.now.books.pending }
+        ensures { result.now ≡ self.now.reporting.pending }
     {
-        self.pending.as_slice()
+        self.pending.slice()
     }
 
     /// How many adjustments there are, sent or pending.
     pub fn held(&self) -> u32
-        ensures { result ≡ count_held self.now.books }
+        ensures { result ≡ count_held self.now.reporting }
     {
         self.held
     }
@@ -113,7 +119,7 @@ impl Seals {
     /// Makes room for a report of so many lines, and for so many adjustments; fails for want of
     /// memory alone.
     pub fn reserve(&mut self, lines: u32, adjustments: u32) -> Result<(), OutOfMemory>
-        ensures books { self.new.books ≡ self.old.books }
+        ensures reporting { self.new.reporting ≡ self.old.reporting }
         ensures remitted { self.new.remitted ≡ self.old.remitted }
         ensures report_room { OnOk result (1 ≤ self.new.report_room) }
         ensures line_room { OnOk result (lines ≤ self.new.line_room) }
@@ -121,7 +127,8 @@ impl Seals {
         ensures reports_never_less { self.old.report_room ≤ self.new.report_room }
         ensures lines_never_less { self.old.line_room ≤ self.new.line_room }
         ensures adjustments_never_less { self.old.adjustment_room ≤ self.new.adjustment_room }
-        ensures succeeds { 1 ≤ self.old.report_room → lines ≤ self.old.line_room → adjustments ≤ self.old.adjustment_room → IsOk result }
+        ensures succeeds { 1 ≤ self.old.report_room → lines ≤ self.old.line_room →
+            adjustments ≤ self.old.adjustment_room → IsOk result }
     {
         self.reports.reserve(1)?;
         self.lines.reserve(lines as usize)?;
@@ -131,8 +138,9 @@ impl Seals {
 
     /// Remits a month: the next of the closed ones.
     pub fn remit(&mut self, month: Month) -> Result<(), RemitFault>
-        ensures fault { IfErr result (λ f. remit_fault self.old.books.reports self.old.remitted month ≡ Some f) }
-        ensures ok { OnOk result (remit_fault self.old.books.reports self.old.remitted month ≡ None) }
+        ensures fault { IfErr result (λ f.
+            remit_fault self.old.reporting.reports self.old.remitted month ≡ Some f) }
+        ensures ok { OnOk result (remit_fault self.old.reporting.reports self.old.remitted month ≡ None) }
         ensures done { OnOk result (self.new ≡ record self.old { remitted = Some month }) }
         ensures err { OnErr result (self.new ≡ self.old) }
     {
@@ -162,8 +170,8 @@ impl Seals {
         expected: Month,
         dues: &[ReportLine],
     ) -> Result<(), SealFault>
-        requires expected { IsExpected self.old.books.reports expected }
-        requires dues { AreDues self.old.books.pending dues.now }
+        requires expected { IsExpected self.old.reporting.reports expected }
+        requires dues { AreDues self.old.reporting.pending dues.now }
         ensures wrong_period { month ≢ expected → result ≡ Err (seal.WrongPeriod expected) }
         ensures not_ended { month ≡ expected → today ≤ calendar.last_day month →
             result ≡ Err (seal.NotEnded (calendar.last_day month)) }
@@ -173,9 +181,10 @@ impl Seals {
             1 ≤ self.old.report_room → length dues.now ≤ self.old.line_room → IsOk result }
         ensures month { OnOk result (month ≡ expected) }
         ensures ended { OnOk result (calendar.last_day month < today) }
-        ensures done { OnOk result (self.new.books ≡ totals.after self.old.books (Close month dues.now)) }
+        ensures done { OnOk result (self.new.reporting ≡
+            totals.after self.old.reporting (Close month dues.now)) }
         ensures remitted { self.new.remitted ≡ self.old.remitted }
-        ensures err { OnErr result (self.new.books ≡ self.old.books) }
+        ensures err { OnErr result (self.new.reporting ≡ self.old.reporting) }
         ensures err_reports { OnErr result (self.old.report_room ≤ self.new.report_room) }
         ensures err_lines { OnErr result (self.old.line_room ≤ self.new.line_room) }
         ensures err_adjustments { OnErr result (self.old.adjustment_room ≤ self.new.adjustment_room) }
@@ -194,7 +203,7 @@ impl Seals {
 
     /// Makes room for a report of so many lines.
     fn make_room(&mut self, lines: usize) -> Result<(), OutOfMemory>
-        ensures books { self.new.books ≡ self.old.books }
+        ensures reporting { self.new.reporting ≡ self.old.reporting }
         ensures remitted { self.new.remitted ≡ self.old.remitted }
         ensures report_room { OnOk result (1 ≤ self.new.report_room) }
         ensures line_room { OnOk result (lines ≤ self.new.line_room) }
@@ -211,16 +220,16 @@ impl Seals {
     /// Adds the report of a month.
     fn seal(&mut self, month: Month, dues: &[ReportLine])
         requires month { calendar.IsMonth month }
-        requires expected { IsExpected self.old.books.reports month }
-        requires dues { AreDues self.old.books.pending dues.now }
+        requires expected { IsExpected self.old.reporting.reports month }
+        requires dues { AreDues self.old.reporting.pending dues.now }
         requires report_room { 1 ≤ self.old.report_room }
         requires line_room { length dues.now ≤ self.old.line_room }
-        ensures done { self.new.books ≡ totals.after self.old.books (Close month dues.now) }
+        ensures done { self.new.reporting ≡ totals.after self.old.reporting (Close month dues.now) }
         ensures remitted { self.new.remitted ≡ self.old.remitted }
     {
         let room = mem::replace(&mut self.lines, Vec::new(self.alloc));
-        let lines = report_lines(room, dues, self.pending.as_slice());
-        let adjustments = mem::replace(&mut self.pending, Vec::new(self.alloc));
+        let lines = report_lines(room, dues, &self.pending);
+        let adjustments = self.pending.take(self.alloc);
         self.reports
             .push_reserved(Report::new(month, lines, adjustments));
         self.first = Some(self.first.unwrap_or(month));
@@ -237,12 +246,13 @@ impl Seals {
         before: &[MonthDue],
         after: &[MonthDue],
     ) -> Result<(), OutOfMemory>
-        requires { MayChange self.old.books number loan before.now after.now }
-        ensures done { OnOk result (self.new.books ≡
-            totals.after self.old.books (Change number loan before.now after.now)) }
+        requires { MayChange self.old.reporting number loan before.now after.now }
+        ensures done { OnOk result (self.new.reporting ≡
+            totals.after self.old.reporting (Change number loan before.now after.now)) }
         ensures remitted { self.new.remitted ≡ self.old.remitted }
-        ensures err { OnErr result (self.new.books ≡ self.old.books) }
-        ensures room { length (adjustments_of number loan before.now after.now) ≤ self.old.adjustment_room → IsOk result }
+        ensures err { OnErr result (self.new.reporting ≡ self.old.reporting) }
+        ensures room { length (adjustments_of number loan before.now after.now) ≤ self.old.adjustment_room →
+            IsOk result }
         ensures adjustment_room { self.old.adjustment_room ≤
             self.new.adjustment_room + length (adjustments_of number loan before.now after.now) }
         ensures err_room { OnErr result (self.old.adjustment_room ≤ self.new.adjustment_room) }

@@ -28,7 +28,12 @@ fn due(later: u32, interest: Cents, principal: Cents, balance: Cents) -> MonthDu
     requires interest { IsAmount interest }
     requires principal { IsAmount principal }
     requires balance { IsAmount balance }
-    ensures value { result ≡ record { month = 24_287 + later; interest = interest; principal = principal; balance = balance } }
+    ensures value { result ≡ record {
+      month = 24_287 + later;
+      interest = interest;
+      principal = principal;
+      balance = balance;
+    } }
     ensures small { IsSmallDue result }
 {
     MonthDue {
@@ -40,8 +45,8 @@ fn due(later: u32, interest: Cents, principal: Cents, balance: Cents) -> MonthDu
 }
 
 /// The line of a loan whose balance is the investor's too.
-fn line_of(due: &MonthDue) -> ReportLine
-    ensures { result ≡ worked.line_of due.now }
+fn worked_line(due: &MonthDue) -> ReportLine
+    ensures { result ≡ worked.worked_line due.now }
 {
     ReportLine {
         loan: 1,
@@ -56,26 +61,27 @@ fn line_of(due: &MonthDue) -> ReportLine
 
 /// Closes the month of that due on the first day after it.
 fn close(seals: &mut Seals, due: &MonthDue) -> Result<(), SealFault>
-    requires expected { IsExpected seals.old.books.reports due.now.month }
+    requires expected { IsExpected seals.old.reporting.reports due.now.month }
     requires small { IsSmallDue due.now }
-    requires own { All (λ a. a.loan ≡ 1) seals.old.books.pending }
-    ensures { OnOk result (seals.new.books ≡ totals.after seals.old.books (Close due.now.month (worked.line_of due.now ∷ []))) }
+    requires own { All (λ a. a.loan ≡ 1) seals.old.reporting.pending }
+    ensures { OnOk result (seals.new.reporting ≡
+        totals.after seals.old.reporting (Close due.now.month (worked.worked_line due.now ∷ []))) }
 {
     seals.close(
         due.month,
         first_day(due.month.plus(1)),
         due.month,
-        &[line_of(due)],
+        &[worked_line(due)],
     )
 }
 
 /// The reports of 2023-12 to 2024-03.
-fn four_reports(alloc: Global, february: &MonthDue, march: &MonthDue) -> Result<Seals, SealFault>
+fn worked_reports(alloc: Global, february: &MonthDue, march: &MonthDue) -> Result<Seals, SealFault>
     requires february { february.now.month ≡ 24_289 }
     requires march { march.now.month ≡ 24_290 }
     requires february_small { IsSmallDue february.now }
     requires march_small { IsSmallDue march.now }
-    ensures { IfOk result (λ s. s.books ≡ worked.four_reports february.now march.now) }
+    ensures { IfOk result (λ s. s.reporting ≡ worked.worked_reports february.now march.now) }
 {
     let mut seals = Seals::new(alloc);
     close(&mut seals, &due(0, 0, 0, 20_000_000))?;
@@ -98,7 +104,7 @@ fn check_change(
 ) -> Result<(), Fail>
     requires { AreTwoMonths was.now is.now }
 {
-    let mut seals = four_reports(alloc, &was[0], &was[1])?;
+    let mut seals = worked_reports(alloc, &was[0], &was[1])?;
     seals.reserve(1, 2)?;
     seals.record_change(number, 1, was, is)?;
     assert_eq!(rt; seals.pending(), wanted);
@@ -107,14 +113,14 @@ fn check_change(
     close(&mut seals, &april)?;
     let reports = seals.reports();
     assert_eq!(rt; reports.len(), 5);
-    assert_eq!(rt; reports[3].lines(), [line_of(&was[1])].as_slice());
+    assert_eq!(rt; reports[3].lines(), [worked_line(&was[1])].as_slice());
     assert_eq!(rt; reports[3].adjustments().len(), 0);
 
     let report = reports[4].copy()?;
     let line = ReportLine {
         adj_interest: sums.0,
         adj_principal: sums.1,
-        ..line_of(&april)
+        ..worked_line(&april)
     };
     assert_eq!(rt; report.month(), month(4));
     assert_eq!(rt; report.lines(), [line].as_slice());
@@ -181,7 +187,7 @@ fn first_close(alloc: Global, closed: u32, today: Day) -> Result<(), SealFault>
     requires { closed ≤ 12 }
 {
     let mut seals = Seals::new(alloc);
-    let dues = [line_of(&due(0, 0, 0, 20_000_000))];
+    let dues = [worked_line(&due(0, 0, 0, 20_000_000))];
     seals.close(month(closed), today, month(0), &dues)
 }
 
@@ -206,7 +212,7 @@ fn months_are_remitted_in_order_once_closed(rt: HostRuntime) -> Result<(), Fail>
 
     let february = due(2, 95_833, 19_910, 19_980_090);
     let march = due(3, 95_737, 20_010, 19_960_080);
-    let mut seals = four_reports(rt.alloc(), &february, &march)?;
+    let mut seals = worked_reports(rt.alloc(), &february, &march)?;
     let last = Some(month(3));
     assert_eq!(rt; seals.closed(), last);
     assert_eq!(rt; seals.remit(month(4)), Err(RemitFault::NotClosed(last)));

@@ -1,23 +1,8 @@
--- Sums over lists.
+-- Amounts between -10^15 and 10^15, and sums that stay there.
 use Rattle.std.proofs.Common.{◌≡◌, ℕ, zero, suc, List, [], ◌∷◌, ◌++◌, ℤ, pos, ◌+ℤ◌, take, refl, arith}
 use Rattle.std.proofs.lemmas.Int.{ints}
-use Rattle.std.specs.List.{All}
-use Rattle.std.proofs.lemmas.List.Elements.{All-head, All-tail}
-use Rattle.period_adjust.specs.Sums.{total_by}
+use Rattle.svc_base.specs.Sums.{total_by}
 use Rattle.period_adjust.specs.Conditions.{IsAmount}
-
--- a sum over two lists
-pub total_by-append : {A : Type 0} (f : A → ℤ) (xs ys : List A) → total_by f (xs ++ ys) ≡ total_by f xs +ℤ total_by f ys
-total_by-append f [] ys = omega (arith, ints)
-total_by-append f (x ∷ xs) ys = omega (arith, ints, total_by-append f xs ys)
-
--- a sum of zeros
-pub total_by-zero : {A : Type 0} (f : A → ℤ) (xs : List A) → All (λ x. f x ≡ pos 0) xs → total_by f xs ≡ pos 0
-total_by-zero f [] a = refl
-total_by-zero f (x ∷ xs) a =
-    let here : f x ≡ pos 0 = All-head (λ y. f y ≡ pos 0) x xs a in
-    let rest : total_by f xs ≡ pos 0 = total_by-zero f xs (All-tail (λ y. f y ≡ pos 0) x xs a) in
-    omega (arith, ints)
 
 -- an equal number
 pub amount_same : (a b : ℤ) → a ≡ b → IsAmount b → IsAmount a
