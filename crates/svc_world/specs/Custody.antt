@@ -112,15 +112,15 @@ rows_between n before later (l ∷ ls) =
     rows_of n l.id (totals_before before (find_loan l.id before.loans)) (totals_of later l)
     ++ rows_between n before later ls
 
--- the rows of command n
-abbrev pub rows_of_command : ℕ → World → World → List Row
-rows_of_command n before later = rows_between n before later later.loans
+-- the rows of command n for all loans, by rising number
+abbrev pub rows_made : ℕ → World → World → List Row
+rows_made n before later = rows_between n before later later.loans
 
 -- the rows of some commands, of which the first has number n + 1
 unfoldable pub rows_from : ℕ → World → List Accepted → List Row
 rows_from n w [] = []
 rows_from n w (a ∷ more) =
-    rows_of_command (n + 1) w (after (n + 1) w a.command) ++ rows_from (n + 1) (after (n + 1) w a.command) more
+    rows_made (n + 1) w (after (n + 1) w a.command) ++ rows_from (n + 1) (after (n + 1) w a.command) more
 
 -- all rows of a history
 abbrev pub rows_in : List Accepted → List Row

@@ -5,3 +5,6 @@ pub mod Analysing
 pub mod World
 pub mod Refusals
 pub mod Custody
+pub mod Judging
+pub mod Answers
+pub mod WorkedLoans

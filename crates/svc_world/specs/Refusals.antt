@@ -47,7 +47,7 @@ first_of cases = option_map (λ (c : Case). c.why) (find (λ (c : Case). c.holds
 
 -- the rules on a loan; where it is not there, that is the cause
 abbrev pub on_loan : World → ℕ → (Held → List Case) → List Case
-on_loan w id rules = option_map_or rules (case true NoSuchLoan ∷ []) (find_loan id w.loans)
+on_loan w id rules = option_map_or rules (find_loan id w.loans) (case true NoSuchLoan ∷ [])
 
 -- ---- rules that several requests have
 
@@ -85,7 +85,7 @@ is_closed_by (Some last) month = nat_le month last
 -- what is refused with the last closed month as its value
 abbrev pub with_last : (ℕ → Refusal) → World → ℕ → List Case
 with_last why w month =
-    option_map_or (λ last. case (nat_le month last) (why last) ∷ []) [] (last_month w.seals.reports)
+    option_map_or (λ last. case (nat_le month last) (why last) ∷ []) (last_month w.seals.reports) []
 
 -- the month is after the last closed one, or none is closed
 abbrev pub not_closed : World → ℕ → Case
@@ -184,7 +184,7 @@ first_expected month (l ∷ ls) = least_boarded (boarded_month l) ls
 -- the business day's
 abbrev pub expected_close : World → ℕ
 expected_close w =
-    option_map_or (λ last. last + 1) (first_expected (month_of w.today) w.loans) (last_month w.seals.reports)
+    option_map_or (λ last. last + 1) (last_month w.seals.reports) (first_expected (month_of w.today) w.loans)
 
 abbrev pub close_cases : World → ℕ → List Case
 close_cases w p =

@@ -18,7 +18,11 @@ pub enum Answer {
         pay: Cents,
     },
     /// What pays a loan off on a day.
-    Payoff { loan: u32, day: Day, cents: Cents },
+    Payoff {
+        loan: u32,
+        day: Day,
+        cents: Cents,
+    },
     /// What an escrow analysis on the business day would find.
     Escrow {
         loan: u32,
@@ -32,5 +36,8 @@ pub enum Answer {
     /// What both custodial accounts hold.
     Custodial(Custody),
     /// The custodial rows of a command.
-    Rows { number: u32, rows: RowList },
+    Rows {
+        number: u32,
+        rows: RowList,
+    },
 }
