@@ -8,3 +8,5 @@ pub mod Custody
 pub mod Judging
 pub mod Answers
 pub mod WorkedLoans
+pub mod Worlds
+pub mod Laws

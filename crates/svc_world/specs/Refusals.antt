@@ -24,6 +24,7 @@ use Rattle.escrow_lines.specs.Bills.{line_fault}
 use Rattle.escrow_lines.specs.BillLists.{has_id}
 use Rattle.period_adjust.specs.Sealed.{Sealed, Reporting}
 use Rattle.period_adjust.specs.Conditions.{first_month, last_month, count_held}
+use Rattle.period_adjust.specs.Kept.{next_remit}
 use Rattle.svc_world.specs.Held.{Held, find_loan, boarded_month, books_now}
 use Rattle.svc_world.specs.Analysing.{loan_plan_fault}
 use Rattle.svc_world.specs.World.{World}
@@ -193,13 +194,8 @@ close_cases w p =
     ∷ case (nat_le w.today (last_day p)) (NotEnded (last_day p)) ∷ []
 
 -- the month that is to be remitted next: the one after the last remitted, else the first closed
-abbrev pub next_remit : Option ℕ → Option ℕ → ℕ
-next_remit None None = 0
-next_remit None (Some first) = first
-next_remit (Some last) first = last + 1
-
 abbrev pub expected_remit : World → ℕ
-expected_remit w = next_remit w.remitted (first_month w.seals.reports)
+expected_remit w = next_remit w.remitted w.seals.reports
 
 abbrev pub remit_cases : World → ℕ → List Case
 remit_cases w p =
