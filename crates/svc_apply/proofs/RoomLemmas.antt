@@ -1,29 +1,87 @@
--- The books behind an event leave room for settling.
-use Rattle.std.proofs.Common.{◌≡◌, ℕ, true, false, arith, refl}
+-- The books after an event leave room for settling.
+use Rattle.std.proofs.Common.{◌≡◌, ℕ, true, false, arith, refl, ◌∙◌}
+use Rattle.std.specs.Int.{int_min}
 use Rattle.std.specs.Prelude.{ℤ, pos, ◌+ℤ◌, ◌-ℤ◌, ◌≤ℤ◌, ◌&&◌, int_lt, int_le, nat_le, is_none, Some, if◌then◌else◌}
 use Rattle.std.proofs.lemmas.Int.{ints, clamps}
+use Rattle.svc_base.specs.Calendar.{month_of}
 use Rattle.svc_base.specs.Money.{share_bp}
-use Rattle.svc_base.proofs.MoneyLemmas.{day_interest_low, day_interest_rises}
+use Rattle.svc_base.proofs.MoneyLemmas.{month_interest_low, month_interest_rises, day_interest_low, day_interest_rises}
 use Rattle.svc_base.proofs.CentsRules.{from_int_le}
 use Rattle.svc_types.specs.declared.terms.Terms.{Terms}
 use Rattle.svc_types.specs.declared.escrow.Settled.{Settled}
 use Rattle.svc_types.specs.declared.books.Books.{Books}
+use Rattle.svc_types.specs.declared.account.Designation.{Designation}
+use Rattle.svc_types.specs.declared.account.Designation.TheVariants.{Regular, Principal, Escrow}
 use Rattle.svc_types.specs.declared.account.Act.TheVariants.{Pay, Curtail, Payoff, Deposit, Disburse, Refund, Waive, Analyse}
 use Rattle.svc_types.specs.declared.account.What.{What}
 use Rattle.svc_types.specs.declared.account.What.TheVariants as what
 use Rattle.svc_types.specs.Terms.{IsSound}
-use Rattle.svc_spec.specs.Settling.{marked}
+use Rattle.svc_spec.specs.Installments.{due_month}
+use Rattle.svc_spec.specs.Settling.{moved_one, late_paid, late_taken, is_overdue, marked, settled_by}
 use Rattle.svc_spec.specs.Payoff.{payoff_sum, payoff_days}
-use Rattle.svc_spec.specs.Step.{paid_in, charged, curtailed, paid_off, payoff_tried, deposited, refunded, waived, analysed, happened}
+use Rattle.svc_spec.specs.Step.{paid_in, charged, to_principal, to_escrow, applied, paid, curtailed, paid_off, payoff_tried, deposited, refunded, waived, analysed, happened}
 use Rattle.svc_spec.specs.Books.{IsSum, HaveSigns, AreBooks, IsWhat}
+use Rattle.svc_spec.proofs.InstallmentLemmas.{IsBalance, principal_part_bounds, escrow_part_bounds}
 use Rattle.svc_spec.proofs.SettlingLemmas.{both}
-use Rattle.svc_spec.proofs.ActLemmas.{from_suspense_bounds, owed_principal, paid_in_signs}
-use Rattle.svc_apply.specs.Room.{HasRoom, HasParts, AreSums, AreNear}
-use Rattle.svc_spec.specs.Settling.{paid_installment}
-use Rattle.svc_types.specs.declared.books.Installment.{Installment}
+use Rattle.svc_spec.proofs.StepLemmas.{CanPay}
+use Rattle.svc_spec.proofs.SettledLemmas.{settled_keeps}
+use Rattle.svc_spec.proofs.ActLemmas.{from_suspense_bounds, owed_principal, paid_in_signs, paid_keeps}
+use Rattle.svc_apply.specs.Room.{HasRoom, AreSums, AreNear, MayApply}
 
-pub paid_installment_room : (i : Installment) (b : Books) → HasParts i b.upb → HasRoom b → HasRoom (paid_installment i b)
-paid_installment_room i b p h = record { upb_low = omega (arith, ints); suspense = omega (arith, ints); interest_low = omega (arith, ints); fee_low = omega (arith, ints); principal_low = omega (arith, ints); late_paid_low = omega (arith, ints); interest = omega (arith, ints); fee = omega (arith, ints); principal = omega (arith, ints); late_paid = omega (arith, ints); escrow = omega (arith, ints); escrow_low = omega (arith, ints) }
+-- ---- what settling leaves
+
+pub moved_one_room : (t : Terms) (b : Books) → IsSound t → HaveSigns t b → CanPay t b → HasRoom b → HasRoom (moved_one t b)
+unfolding moved_one
+moved_one_room t b s signs c h =
+    let balance : IsBalance t b.upb = record { low = signs.upb_low; high = signs.upb_high } in
+    let principal = principal_part_bounds t b.upb b.next s balance in
+    let part = escrow_part_bounds b.plan b.earlier (due_month t b.next) signs.plan signs.earlier in
+    let interest = month_interest_low b.upb t.rate in
+    let fee = month_interest_low b.upb t.fee in
+    let less = month_interest_rises b.upb b.upb t.fee t.rate signs.upb_low (omega (arith, ints)) s.fee in
+    let covered = c.covered in
+    record { upb_low = omega (arith, ints); suspense = omega (arith, ints); interest_low = omega (arith, ints); fee_low = omega (arith, ints); principal_low = omega (arith, ints); late_paid_low = omega (arith, ints); interest = omega (arith, ints); fee = omega (arith, ints); principal = omega (arith, ints); late_paid = omega (arith, ints); escrow = omega (arith, ints); escrow_low = omega (arith, ints) }
+
+late_taken_room : (t : Terms) (d : ℕ) (b : Books) → HaveSigns t b → HasRoom b → HasRoom (late_taken t d b)
+unfolding late_taken
+late_taken_room t d b signs h =
+    elim (is_overdue t d b) as (λ v. HasRoom (if v then b else late_paid b)) [
+      | true ↦ h
+      | false ↦
+          let suspense = signs.suspense in
+          let owed = signs.late_owed in
+          record { upb_low = h.upb_low; suspense = omega (arith, ints, clamps); interest_low = h.interest_low; fee_low = h.fee_low; principal_low = h.principal_low; late_paid_low = omega (arith, ints, clamps); interest = omega (arith, ints, clamps); fee = omega (arith, ints, clamps); principal = omega (arith, ints, clamps); late_paid = omega (arith, ints, clamps); escrow = omega (arith, ints, clamps); escrow_low = h.escrow_low }
+    ]
+
+-- and so does the mark of a satisfied loan
+marked_room : (d : ℕ) (b : Books) → HasRoom b → HasRoom (marked d b)
+unfolding marked
+marked_room d b h =
+    elim (int_le b.upb (pos 0) && is_none b.satisfied) as (λ v. HasRoom (if v then record b { satisfied = Some d } else b)) [
+      | true ↦ record { upb_low = h.upb_low; suspense = h.suspense; interest_low = h.interest_low; fee_low = h.fee_low; principal_low = h.principal_low; late_paid_low = h.late_paid_low; interest = h.interest; fee = h.fee; principal = h.principal; late_paid = h.late_paid; escrow = h.escrow; escrow_low = h.escrow_low }
+      | false ↦ h
+    ]
+
+pub settled_room : (t : Terms) (by d : ℕ) (b : Books) → IsSound t → HaveSigns t b → HasRoom b → HasRoom (settled_by t by d b)
+settled_room t by d b s signs h = settled_keeps t by d HasRoom s (λ x hx c r. moved_one_room t x s hx c r) (λ x hx r. late_taken_room t d x hx r) (λ x r. marked_room d x r) b signs h
+
+moved_one_curtailed : (t : Terms) (b : Books) → (moved_one t b).curtailed ≡ b.curtailed
+unfolding moved_one
+moved_one_curtailed t b = refl
+
+late_taken_curtailed : (t : Terms) (d : ℕ) (b : Books) → (late_taken t d b).curtailed ≡ b.curtailed
+unfolding late_taken
+late_taken_curtailed t d b = elim (is_overdue t d b) as (λ v. (let x : Books = if v then b else late_paid b in x.curtailed ≡ b.curtailed)) [ true ↦ refl | false ↦ refl ]
+
+marked_curtailed : (d : ℕ) (b : Books) → (marked d b).curtailed ≡ b.curtailed
+unfolding marked
+marked_curtailed d b = elim (int_le b.upb (pos 0) && is_none b.satisfied) as (λ v. (let x : Books = if v then record b { satisfied = Some d } else b in x.curtailed ≡ b.curtailed)) [ true ↦ refl | false ↦ refl ]
+
+-- settling curtails nothing
+pub settled_curtailed : (t : Terms) (by d : ℕ) (b : Books) → IsSound t → HaveSigns t b → (settled_by t by d b).curtailed ≡ b.curtailed
+settled_curtailed t by d b s signs = settled_keeps t by d (λ x. x.curtailed ≡ b.curtailed) s (λ x hx c e. moved_one_curtailed t x ∙ e) (λ x hx e. late_taken_curtailed t d x ∙ e) (λ x e. marked_curtailed d x ∙ e) b signs refl
+
+-- ---- what an event leaves
 
 -- the sums of books
 pub books_sums : (t : Terms) (b : Books) → IsSound t → AreBooks t b → AreSums b
@@ -39,7 +97,7 @@ books_room t b h =
     let within = h.within in
     record { upb_low = omega (arith, ints); suspense = omega (arith, ints); interest_low = omega (arith, ints); fee_low = omega (arith, ints); principal_low = omega (arith, ints); late_paid_low = omega (arith, ints); interest = omega (arith, ints); fee = omega (arith, ints); principal = omega (arith, ints); late_paid = omega (arith, ints); escrow = omega (arith, ints); escrow_low = omega (arith, ints) }
 
-paid_in_room : (t : Terms) (c : ℤ) (b : Books) → IsSum c → AreBooks t b → HasRoom (paid_in c b)
+pub paid_in_room : (t : Terms) (c : ℤ) (b : Books) → IsSum c → AreBooks t b → HasRoom (paid_in c b)
 paid_in_room t c b a h =
     let signs = h.signs in
     let within = h.within in
@@ -56,12 +114,18 @@ charged_room t k b h =
     with_late : HasRoom b → HasRoom (record b { late_owed = b.late_owed +ℤ share_bp t.pi t.late })
     with_late h = record { upb_low = h.upb_low; suspense = h.suspense; interest_low = h.interest_low; fee_low = h.fee_low; principal_low = h.principal_low; late_paid_low = h.late_paid_low; interest = h.interest; fee = h.fee; principal = h.principal; late_paid = h.late_paid; escrow = h.escrow; escrow_low = h.escrow_low }
 
-curtailed_room : (t : Terms) (c : ℤ) (b : Books) → IsSum c → AreBooks t b → HasRoom (curtailed c b)
-unfolding curtailed
-curtailed_room t c b a h =
-    let signs = h.signs in
-    let within = h.within in
-    record { upb_low = omega (arith, ints, clamps); suspense = omega (arith, ints, clamps); interest_low = omega (arith, ints, clamps); fee_low = omega (arith, ints, clamps); principal_low = omega (arith, ints, clamps); late_paid_low = omega (arith, ints, clamps); interest = omega (arith, ints, clamps); fee = omega (arith, ints, clamps); principal = omega (arith, ints, clamps); late_paid = omega (arith, ints, clamps); escrow = omega (arith, ints, clamps); escrow_low = omega (arith, ints, clamps) }
+to_principal_room : (x : ℤ) (b : Books) → pos 0 ≤ℤ x → HasRoom b → HasRoom (to_principal x b)
+unfolding to_principal
+to_principal_room x b low h = record { upb_low = omega (arith, ints, clamps); suspense = omega (arith, ints, clamps); interest_low = h.interest_low; fee_low = h.fee_low; principal_low = omega (arith, ints, clamps); late_paid_low = h.late_paid_low; interest = omega (arith, ints, clamps); fee = omega (arith, ints, clamps); principal = omega (arith, ints, clamps); late_paid = omega (arith, ints, clamps); escrow = omega (arith, ints, clamps); escrow_low = h.escrow_low }
+
+applied_room : (to : Designation) (x : ℤ) (b : Books) → pos 0 ≤ℤ x → HasRoom b → HasRoom (applied to x b)
+unfolding to_escrow
+applied_room Regular x b low h = h
+applied_room Principal x b low h = to_principal_room x b low h
+applied_room Escrow x b low h = record { upb_low = h.upb_low; suspense = omega (arith, ints); interest_low = h.interest_low; fee_low = h.fee_low; principal_low = h.principal_low; late_paid_low = h.late_paid_low; interest = omega (arith, ints); fee = omega (arith, ints); principal = omega (arith, ints); late_paid = omega (arith, ints); escrow = omega (arith, ints); escrow_low = omega (arith, ints) }
+
+paid_room : (t : Terms) (d : ℕ) (c : ℤ) (to : Designation) (b : Books) → IsSound t → IsSum c → AreBooks t b → HasRoom (paid t d c to b)
+paid_room t d c to b s a h = paid_keeps t d c to b HasRoom s a h.signs (paid_in_room t c b a h) (λ x hx r. settled_room t (month_of d) d x s hx r) (λ to x y low within hy r. applied_room to x y low r)
 
 paid_off_room : (t : Terms) (d : ℕ) (b : Books) → IsSound t → HaveSigns t b → AreNear b → int_lt (pos 0) b.upb ≡ true → payoff_sum t d b ≤ℤ b.suspense → HasRoom (paid_off t d b)
 unfolding paid_off payoff_sum
@@ -127,8 +191,8 @@ analysed_room t s b a h =
 happened_room : (t : Terms) (d : ℕ) (w : What) (b : Books) → IsSound t → IsWhat w → AreBooks t b → HasRoom (happened t d w b)
 happened_room t d what.MonthMark b s a h = books_room t b h
 happened_room t d (what.LateMark k) b s a h = charged_room t k b h
-happened_room t d (what.Act (Pay c)) b s a h = paid_in_room t c b a h
-happened_room t d (what.Act (Curtail c)) b s a h = curtailed_room t c b a h
+happened_room t d (what.Act (Pay c to)) b s a h = paid_room t d c to b s a h
+happened_room t d (what.Act (Curtail c)) b s a h = to_principal_room c (paid_in c b) a.low (paid_in_room t c b a h)
 happened_room t d (what.Act (Payoff c)) b s a h = payoff_tried_room t d (paid_in c b) s (paid_in_signs t c b a h.signs) (paid_in_near t c b a h)
 happened_room t d (what.Act (Deposit c)) b s a h = deposited_room t c b a h
 happened_room t d (what.Act (Disburse c line)) b s a h = disbursed_room t c b a h
@@ -136,14 +200,22 @@ happened_room t d (what.Act (Refund c)) b s a h = refunded_room t c b a h
 happened_room t d (what.Act (Waive c)) b s a h = waived_room t c b h
 happened_room t d (what.Act (Analyse x)) b s a h = analysed_room t x b a.0 h
 
--- and so does the mark of a satisfied loan
-marked_room : (d : ℕ) (b : Books) → HasRoom b → HasRoom (marked d b)
-unfolding marked
-marked_room d b h =
-    elim (int_le b.upb (pos 0) && is_none b.satisfied) as (λ v. HasRoom (if v then record b { satisfied = Some d } else b)) [
-      | true ↦ record { upb_low = h.upb_low; suspense = h.suspense; interest_low = h.interest_low; fee_low = h.fee_low; principal_low = h.principal_low; late_paid_low = h.late_paid_low; interest = h.interest; fee = h.fee; principal = h.principal; late_paid = h.late_paid; escrow = h.escrow; escrow_low = h.escrow_low }
-      | false ↦ h
-    ]
-
 pub event_room : (t : Terms) (d : ℕ) (w : What) (b : Books) → IsSound t → IsWhat w → AreBooks t b → HasRoom (marked d (happened t d w b))
 event_room t d w b s a h = marked_room d (happened t d w b) (happened_room t d w b s a h)
+
+-- what is left of a payment may be applied
+pub rest_may_apply : (t : Terms) (c : ℤ) (b : Books) → IsSound t → IsSum c → HaveSigns t b → HasRoom b → b.curtailed ≤ℤ pos 1_000_000_000_000_000_000 → MayApply (int_min c b.suspense) b
+rest_may_apply t c b s a signs h curtailed =
+    let c_low = a.low in
+    let suspense = signs.suspense in
+    let high = signs.upb_high in
+    let most = s.principal_high in
+    record { low = omega (arith, ints, clamps); within = omega (arith, ints, clamps); upb_low = signs.upb_low; upb_high = omega (arith, ints); principal = omega (arith, ints); curtailed = curtailed; escrow = omega (arith, ints, clamps) }
+
+-- and so may all of a curtailment
+pub curtailment_may_apply : (c : ℤ) (b : Books) → IsSum c → AreSums b → MayApply c (paid_in c b)
+curtailment_may_apply c b a h =
+    let c_low = a.low in
+    let c_high = a.high in
+    let within = h.within in
+    record { low = c_low; within = omega (arith, ints); upb_low = h.upb_low; upb_high = h.upb_high; principal = omega (arith, ints); curtailed = within.curtailed; escrow = omega (arith, ints) }

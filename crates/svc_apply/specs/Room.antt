@@ -51,3 +51,13 @@ pub record AreNear (b : Books) : Type 0 where
   pub fee : b.fee ≤ℤ pos 1_000_000_000_000_000_000
   pub principal : b.principal ≤ℤ pos 1_000_000_000_000_000_000
   pub late_paid : b.late_paid ≤ℤ pos 1_000_000_000_000_000_000
+
+-- so much of suspense may be applied to principal or to escrow
+pub record MayApply (x : ℤ) (b : Books) : Type 0 where
+  pub low : pos 0 ≤ℤ x
+  pub within : x ≤ℤ b.suspense
+  pub upb_low : pos 0 ≤ℤ b.upb
+  pub upb_high : b.upb ≤ℤ pos 10_000_000_000
+  pub principal : b.principal ≤ℤ pos 4_000_000_000_000_000_000
+  pub curtailed : b.curtailed ≤ℤ pos 1_000_000_000_000_000_000
+  pub escrow : (b.escrow +ℤ x) ≤ℤ pos 4_000_000_000_000_000_000

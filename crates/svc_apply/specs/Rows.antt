@@ -3,6 +3,7 @@ use Rattle.std.specs.Prelude.{ℕ, ◌+◌, ◌-◌, ◌*◌, List, [], ◌∷�
 use Rattle.svc_types.specs.declared.terms.Terms.{Terms}
 use Rattle.svc_types.specs.declared.terms.RemitType.TheVariants as remit
 use Rattle.svc_types.specs.declared.books.Books.{Books}
+use Rattle.svc_types.specs.declared.account.Designation.TheVariants as designation
 use Rattle.svc_types.specs.declared.account.Act.{Act}
 use Rattle.svc_types.specs.declared.account.Act.TheVariants as act
 use Rattle.svc_types.specs.declared.account.Event.{Event}
@@ -42,6 +43,10 @@ on d a = record { day = d; what = what.Act a }
 abbrev pub late_on : ℕ → ℕ → Event
 late_on d k = record { day = d; what = what.LateMark k }
 
+-- a regular payment
+abbrev pub regular : ℤ → Act
+regular c = act.Pay c designation.Regular
+
 -- the books of the worked loan after some events
 abbrev pub after : List Event → Books
 after es = folded worked_loan (start worked_loan) es
@@ -63,11 +68,11 @@ row_of b = record { upb = b.upb; next = b.next; escrow = b.escrow; suspense = b.
 
 -- the worked loan's first payment
 abbrev pub paid_first : List Event
-paid_first = on (day_at 2024 2 1) (act.Pay (pos 119_910)) ∷ []
+paid_first = on (day_at 2024 2 1) (regular (pos 119_910)) ∷ []
 
 -- the same, and a payoff of 200,300.40 fifteen days later
 abbrev pub paid_off_early : List Event
-paid_off_early = on (day_at 2024 2 1) (act.Pay (pos 119_910)) ∷ on (day_at 2024 2 16) (act.Payoff (pos 20_030_040)) ∷ []
+paid_off_early = on (day_at 2024 2 1) (regular (pos 119_910)) ∷ on (day_at 2024 2 16) (act.Payoff (pos 20_030_040)) ∷ []
 
 -- a loan of one installment
 abbrev pub short_loan : Terms

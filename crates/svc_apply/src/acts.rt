@@ -1,42 +1,53 @@
 //! What entries and late marks do to a loan's books, before settling.
 
-ghost use Rattle.std.specs.Prelude.{◌≡◌, pos, ◌≤ℤ◌, ◌+ℤ◌, ◌-ℤ◌};
+ghost use Rattle.std.specs.Prelude.{◌≡◌, ◌+◌, pos, ◌<ℤ◌, ◌≤ℤ◌, ◌+ℤ◌, ◌-ℤ◌};
 ghost use Rattle.svc_base.specs.Calendar.{IsReadDay};
 ghost use Rattle.svc_types.specs.Terms.{IsSound};
 ghost use Rattle.svc_spec.specs.Books.{AreBooks, HaveSigns, IsAct, IsSum, IsPlan, IsWhat};
 ghost use Rattle.svc_spec.specs.Payoff.{payoff_sum as payoff_sum_of};
 ghost use Rattle.svc_spec.specs.Step as rule;
-ghost use Rattle.svc_apply.specs.Room.{AreNear, AreSums};
+ghost use Rattle.svc_apply.specs.Room.{AreNear, AreSums, HasRoom, MayApply};
 
 use crate::payoff::{escrow_advanced, payoff_days, payoff_sum};
-use svc_base::{Cents, Day, day_interest, share_bp};
-use svc_types::{Act, Books, EscrowPlan, Settled, Terms, What};
+use crate::settle::{is_overdue, settle};
+use std::sync::ledger::Ledger;
+use svc_base::{Cents, Day, Steps, day_interest, share_bp};
+use svc_types::{Act, Books, Designation, EscrowPlan, Settled, Terms, What};
 
-/// What happens on a day, but for the settling that follows.
-pub(crate) fn happen(books: &mut Books, terms: &Terms, day: Day, what: &What)
+/// What happens on a day, but for the settling that follows. It counts one step for each installment
+/// that a designated payment satisfies.
+pub(crate) fn happen<L: Ledger>(
+    books: &mut Books,
+    terms: &Terms,
+    day: Day,
+    what: &What,
+    steps: &mut Steps<L>,
+)
     requires terms { IsSound terms.now }
     requires boarded { IsReadDay terms.now.boarded }
     requires books { AreBooks terms.now books.old }
     requires what { IsWhat what.now }
-    ensures { books.new ≡ rule.happened terms.now day what.now books.old }
+    ensures books { books.new ≡ rule.happened terms.now day what.now books.old }
+    ensures steps { steps.new + books.old.next ≡ steps.old + books.new.next }
 {
     match what {
         What::MonthMark => {}
         What::LateMark(k) => charge_late(books, terms, *k),
-        What::Act(act) => post(books, terms, day, act),
+        What::Act(act) => post(books, terms, day, act, steps),
     }
 }
 
 /// What an entry's act does.
-fn post(books: &mut Books, terms: &Terms, day: Day, act: &Act)
+fn post<L: Ledger>(books: &mut Books, terms: &Terms, day: Day, act: &Act, steps: &mut Steps<L>)
     requires terms { IsSound terms.now }
     requires boarded { IsReadDay terms.now.boarded }
     requires books { AreBooks terms.now books.old }
     requires act { IsAct act.now }
-    ensures { books.new ≡ rule.acted terms.now day act.now books.old }
+    ensures books { books.new ≡ rule.acted terms.now day act.now books.old }
+    ensures steps { steps.new + books.old.next ≡ steps.old + books.new.next }
 {
     match act {
-        Act::Pay(cents) => pay_in(books, *cents),
+        Act::Pay(cents, to) => pay(books, terms, day, *cents, *to, steps),
         Act::Curtail(cents) => curtail(books, *cents),
         Act::Payoff(cents) => {
             pay_in(books, *cents);
@@ -48,6 +59,86 @@ fn post(books: &mut Books, terms: &Terms, day: Day, act: &Act)
         Act::Waive(cents) => waive(books, *cents),
         Act::Analyse(settled) => analyse(books, settled),
     }
+}
+
+/// A payment: a regular one waits; after a designated one what is due on or before the day is
+/// settled, and then the rest of it goes where it is designated.
+fn pay<L: Ledger>(
+    books: &mut Books,
+    terms: &Terms,
+    day: Day,
+    cents: Cents,
+    to: Designation,
+    steps: &mut Steps<L>,
+)
+    requires terms { IsSound terms.now }
+    requires boarded { IsReadDay terms.now.boarded }
+    requires books { AreBooks terms.now books.old }
+    requires amount { IsSum cents }
+    ensures books { books.new ≡ rule.paid terms.now day cents to books.old }
+    ensures steps { steps.new + books.old.next ≡ steps.old + books.new.next }
+{
+    pay_in(books, cents);
+    match to {
+        Designation::Regular => {}
+        Designation::Principal | Designation::Escrow => {
+            settle(books, terms, day.in_month().number(), day, steps);
+            apply_rest(books, terms, day, cents, to);
+        }
+    }
+}
+
+/// Applies what is left of a payment as it is designated, where no open installment is due on or
+/// before the day and the loan is not satisfied.
+fn apply_rest(books: &mut Books, terms: &Terms, day: Day, cents: Cents, to: Designation)
+    requires terms { IsSound terms.now }
+    requires boarded { IsReadDay terms.now.boarded }
+    requires signs { HaveSigns terms.now books.old }
+    requires room { HasRoom books.old }
+    requires curtailed { books.old.curtailed ≤ℤ pos 1_000_000_000_000_000_000 }
+    requires amount { IsSum cents }
+    ensures { books.new ≡ rule.rest_applied terms.now day cents to books.old }
+{
+    if books.upb <= 0 {
+        return;
+    }
+    if is_overdue(books, terms, day) {
+        return;
+    }
+    apply(books, cents.min(books.suspense), to);
+}
+
+/// Applies so much of suspense as a payment designates it.
+fn apply(books: &mut Books, cents: Cents, to: Designation)
+    requires { MayApply cents books.old }
+    ensures { books.new ≡ rule.applied to cents books.old }
+{
+    match to {
+        Designation::Regular => {}
+        Designation::Principal => to_principal(books, cents),
+        Designation::Escrow => to_escrow(books, cents),
+    }
+}
+
+/// Applies so much of suspense to principal ahead of its time, as far as the balance goes.
+fn to_principal(books: &mut Books, cents: Cents)
+    requires { MayApply cents books.old }
+    ensures { books.new ≡ rule.to_principal cents books.old }
+{
+    let paid = books.upb.min(cents);
+    books.suspense -= paid;
+    books.upb -= paid;
+    books.principal += paid;
+    books.curtailed += paid;
+}
+
+/// Applies so much of suspense to escrow.
+fn to_escrow(books: &mut Books, cents: Cents)
+    requires { MayApply cents books.old }
+    ensures { books.new ≡ rule.to_escrow cents books.old }
+{
+    books.suspense -= cents;
+    books.escrow += cents;
 }
 
 /// A late charge for installment k, where it is still open.
@@ -74,7 +165,7 @@ fn add_late(books: &mut Books, cents: Cents)
     books.late_owed += cents;
 }
 
-/// A payment: it waits in suspense until settling applies it.
+/// Money that waits in suspense until it is applied.
 fn pay_in(books: &mut Books, cents: Cents)
     requires sums { AreSums books.old }
     requires amount { IsSum cents }
@@ -90,11 +181,8 @@ fn curtail(books: &mut Books, cents: Cents)
     requires amount { IsSum cents }
     ensures { books.new ≡ rule.curtailed cents books.old }
 {
-    let paid = books.upb.min(cents);
-    books.upb -= paid;
-    books.principal += paid;
-    books.curtailed += paid;
-    books.suspense += cents - paid;
+    pay_in(books, cents);
+    to_principal(books, cents);
 }
 
 /// A payoff, where suspense covers it.
@@ -124,6 +212,7 @@ fn pay_off(books: &mut Books, terms: &Terms, day: Day, asked: Cents)
     requires asked { asked ≡ payoff_sum_of terms.now day books.old }
     requires asked_low { pos 0 ≤ℤ asked }
     requires covered { asked ≤ℤ books.old.suspense }
+    requires owed { pos 0 <ℤ books.old.upb }
     ensures { books.new ≡ rule.paid_off terms.now day books.old }
 {
     let days = payoff_days(books, terms, day);

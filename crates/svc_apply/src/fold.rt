@@ -68,9 +68,15 @@ pub fn fold_step<L: Ledger>(books: &mut Books, terms: &Terms, event: &Event, ste
         ≡ total books.old +ℤ rule.brought_by event.now.what }
     ensures steps { steps.new + books.old.next ≡ steps.old + 1 + books.new.next }
 {
-    happen(books, terms, event.day, &event.what);
+    happen(books, terms, event.day, &event.what, steps);
     mark_satisfied(books, event.day);
-    settle(books, terms, event.day, steps);
+    settle(
+        books,
+        terms,
+        event.day.in_month().number() + 1,
+        event.day,
+        steps,
+    );
     books.day = event.day;
     steps.tick();
 }

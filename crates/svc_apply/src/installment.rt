@@ -1,6 +1,6 @@
 //! The open installment of a loan.
 
-ghost use Rattle.std.specs.Prelude.{◌≡◌, ◌+◌, ◌≤◌};
+ghost use Rattle.std.specs.Prelude.{◌≡◌, ◌+◌, ◌≤◌, pos, ◌<ℤ◌};
 ghost use Rattle.svc_base.specs.Calendar.{IsReadDay};
 ghost use Rattle.svc_base.specs.Money.{IsAmount};
 ghost use Rattle.svc_types.specs.Terms.{IsSound};
@@ -30,6 +30,7 @@ pub(crate) fn installment(books: &Books, terms: &Terms) -> Installment
     requires terms { IsSound terms.now }
     requires boarded { IsReadDay terms.now.boarded }
     requires signs { HaveSigns terms.now books.now }
+    requires owed { pos 0 <ℤ books.now.upb }
     ensures value { result ≡ rule.installment terms.now books.now }
     ensures parts { HasParts result books.now.upb }
 {
@@ -49,7 +50,7 @@ pub(crate) fn due_month(terms: &Terms, k: u32) -> Month
     requires terms { IsSound terms.now }
     requires boarded { IsReadDay terms.now.boarded }
     requires first { 1 ≤ k }
-    requires last { k ≤ terms.now.term + 1 }
+    requires last { k ≤ terms.now.term }
     ensures { result ≡ rule.due_month terms.now k }
 {
     add_months(terms.first, k - 1)

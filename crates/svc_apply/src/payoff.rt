@@ -1,6 +1,6 @@
 //! What satisfies a loan, what may be refunded, and who is current.
 
-ghost use Rattle.std.specs.Prelude.{◌≡◌, ◌+◌, ◌≤◌, ◌<◌, ◌*◌, pos, ◌≤ℤ◌, ◌+ℤ◌};
+ghost use Rattle.std.specs.Prelude.{◌≡◌, ◌+◌, ◌≤◌, ◌<◌, ◌*◌, pos, ◌<ℤ◌, ◌≤ℤ◌, ◌+ℤ◌};
 ghost use Rattle.svc_base.specs.Calendar.{IsReadDay};
 ghost use Rattle.svc_types.specs.Terms.{IsSound};
 ghost use Rattle.svc_spec.specs.Books.{AreBooks, AreWithin, HaveSigns};
@@ -60,6 +60,7 @@ pub(crate) fn payoff_days(books: &Books, terms: &Terms, day: Day) -> u32
     requires terms { IsSound terms.now }
     requires boarded { IsReadDay terms.now.boarded }
     requires signs { HaveSigns terms.now books.now }
+    requires owed { pos 0 <ℤ books.now.upb }
     ensures value { result ≡ rule.payoff_days terms.now day books.now }
     ensures bound { result ≤ 60_000 }
 {

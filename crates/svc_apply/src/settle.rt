@@ -1,7 +1,7 @@
-//! Settling: what suspense pays by itself, after every event.
+//! Settling: what suspense pays by itself, after every event and within a designated payment.
 
 ghost use Rattle.std.specs.Prelude.{◌≡◌, ◌+◌, ◌≤◌, pos, ◌≤ℤ◌, ◌+ℤ◌, is_some, IfSome};
-ghost use Rattle.svc_base.specs.Calendar.{IsReadDay, month_of};
+ghost use Rattle.svc_base.specs.Calendar.{IsReadDay};
 ghost use Rattle.svc_types.specs.Terms.{IsSound};
 ghost use Rattle.svc_spec.specs.Books.{HaveSigns};
 ghost use Rattle.svc_spec.specs.Installments as installments;
@@ -13,17 +13,23 @@ use std::sync::ledger::Ledger;
 use svc_base::{Cents, Day, Steps, first_day};
 use svc_types::{Books, Installment, Terms};
 
-/// Pays installments due by the first day of the month after the day's month, then late charges
-/// where none is overdue, and marks a loan whose balance came to 0.
-pub(crate) fn settle<L: Ledger>(books: &mut Books, terms: &Terms, day: Day, steps: &mut Steps<L>)
+/// Pays the installments due by a month, then late charges where none is overdue on the day, and
+/// marks a loan whose balance came to 0. It counts one step for each installment.
+pub(crate) fn settle<L: Ledger>(
+    books: &mut Books,
+    terms: &Terms,
+    by: u32,
+    day: Day,
+    steps: &mut Steps<L>,
+)
     requires terms { IsSound terms.now }
     requires boarded { IsReadDay terms.now.boarded }
     requires signs { HaveSigns terms.now books.old }
     requires room { HasRoom books.old }
-    ensures books { books.new ≡ rule.settled terms.now day books.old }
-    ensures steps { steps.new ≡ steps.old + rule.moves terms.now (month_of day + 1) books.old }
+    ensures books { books.new ≡ rule.settled_by terms.now by day books.old }
+    ensures steps { steps.new + books.old.next ≡ steps.old + books.new.next }
 {
-    pay_installments(books, terms, day.in_month().number() + 1, steps);
+    pay_installments(books, terms, by, steps);
     take_late(books, terms, day);
     mark_satisfied(books, day);
 }
@@ -55,7 +61,10 @@ fn movable(books: &Books, terms: &Terms, by: u32) -> Option<Installment>
     ensures parts { IfSome result (λ found. HasParts found books.now.upb) }
     ensures covered { IfSome result (λ found. (found.interest +ℤ found.principal +ℤ found.escrow) ≤ℤ books.now.suspense) }
 {
-    if due_month(terms, books.next).number() > by || books.upb <= 0 {
+    if books.upb <= 0 {
+        return None;
+    }
+    if due_month(terms, books.next).number() > by {
         return None;
     }
     let open = installment(books, terms);
@@ -105,7 +114,8 @@ fn take_late(books: &mut Books, terms: &Terms, day: Day)
     pay_late(books);
 }
 
-fn is_overdue(books: &Books, terms: &Terms, day: Day) -> bool
+/// Whether an open installment is due on or before a day.
+pub(crate) fn is_overdue(books: &Books, terms: &Terms, day: Day) -> bool
     requires terms { IsSound terms.now }
     requires boarded { IsReadDay terms.now.boarded }
     requires signs { HaveSigns terms.now books.now }

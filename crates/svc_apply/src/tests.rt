@@ -9,7 +9,7 @@ use crate::{available, fold_step, is_current, open_installment, payoff_due, star
 use std::marker::Brand;
 use std::sync::ledger::{Blank, Ledger};
 use svc_base::{Cents, Day, Month, Steps};
-use svc_types::{Act, Books, EscrowPlan, Event, RemitType, Settled, Terms, What};
+use svc_types::{Act, Books, Designation, EscrowPlan, Event, RemitType, Settled, Terms, What};
 
 /// A day of the first four weeks of a month.
 #[tactic(auto, using(svc_base::specs::DayLemmas::month_length_least))]
@@ -97,7 +97,7 @@ fn is_act(act: &Act) -> bool
     ensures { IsTrue result → IsAct act.now }
 {
     match act {
-        Act::Pay(cents) => is_sum(*cents),
+        Act::Pay(cents, _) => is_sum(*cents),
         Act::Curtail(cents) => is_sum(*cents),
         Act::Payoff(cents) => is_sum(*cents),
         Act::Deposit(cents) => is_sum(*cents),
@@ -289,17 +289,20 @@ fn installments_wait_until_they_are_whole(rt: HostRuntime) {
         suspense: 119_909,
         ..BOARDED
     };
-    let short = [on(2, 1, Act::Pay(119_909))];
+    let short = [on(2, 1, Act::Pay(119_909, Designation::Regular))];
     assert_eq!(rt; after(&short), Some(waiting));
-    let whole = [on(2, 1, Act::Pay(119_909)), on(2, 1, Act::Pay(1))];
+    let whole = [
+        on(2, 1, Act::Pay(119_909, Designation::Regular)),
+        on(2, 1, Act::Pay(1, Designation::Regular)),
+    ];
     assert_eq!(rt; after(&whole), Some(ONE_PAID));
-    let both = [on(2, 1, Act::Pay(239_820))];
+    let both = [on(2, 1, Act::Pay(239_820, Designation::Regular))];
     assert_eq!(rt; after(&both), Some(TWO_PAID));
     let ahead = Row {
         suspense: 119_910,
         ..TWO_PAID
     };
-    let three = [on(2, 1, Act::Pay(359_730))];
+    let three = [on(2, 1, Act::Pay(359_730, Designation::Regular))];
     assert_eq!(rt; after(&three), Some(ahead));
     let third_paid = Row {
         upb: 19_939_970,
@@ -309,7 +312,10 @@ fn installments_wait_until_they_are_whole(rt: HostRuntime) {
         principal: 60_030,
         ..BOARDED
     };
-    let marked = [on(2, 1, Act::Pay(359_730)), month_mark(3)];
+    let marked = [
+        on(2, 1, Act::Pay(359_730, Designation::Regular)),
+        month_mark(3),
+    ];
     assert_eq!(rt; after(&marked), Some(third_paid));
 }
 
@@ -319,12 +325,16 @@ fn late_charges(rt: HostRuntime) {
         late_owed: 5_996,
         ..ONE_PAID
     };
-    let charged = [on(2, 1, Act::Pay(119_910)), late(2, 17, 1), late(3, 17, 2)];
+    let charged = [
+        on(2, 1, Act::Pay(119_910, Designation::Regular)),
+        late(2, 17, 1),
+        late(3, 17, 2),
+    ];
     assert_eq!(rt; after(&charged), Some(owing));
     let paid = [
-        on(2, 1, Act::Pay(119_910)),
+        on(2, 1, Act::Pay(119_910, Designation::Regular)),
         late(3, 17, 2),
-        on(3, 20, Act::Pay(125_906)),
+        on(3, 20, Act::Pay(125_906, Designation::Regular)),
     ];
     let all_paid = Row {
         late_paid: 5_996,
@@ -332,7 +342,7 @@ fn late_charges(rt: HostRuntime) {
     };
     assert_eq!(rt; after(&paid), Some(all_paid));
     let waived = [
-        on(2, 1, Act::Pay(119_910)),
+        on(2, 1, Act::Pay(119_910, Designation::Regular)),
         late(3, 17, 2),
         on(3, 20, Act::Waive(5_996)),
     ];
@@ -354,10 +364,10 @@ fn satisfied_with(suspense: Cents) -> Row {
 
 #[test]
 fn a_payoff(rt: HostRuntime) {
-    let paid = [on(2, 1, Act::Pay(119_910))];
+    let paid = [on(2, 1, Act::Pay(119_910, Designation::Regular))];
     assert_eq!(rt; payoff_after(&paid, day(2024, 2, 16)), Some(20_030_040));
     let paid_off = [
-        on(2, 1, Act::Pay(119_910)),
+        on(2, 1, Act::Pay(119_910, Designation::Regular)),
         on(2, 16, Act::Payoff(20_030_040)),
     ];
     assert_eq!(rt; after(&paid_off), Some(satisfied_with(0)));
@@ -367,12 +377,12 @@ fn a_payoff(rt: HostRuntime) {
         ..TWO_PAID
     };
     let short = [
-        on(2, 1, Act::Pay(119_910)),
+        on(2, 1, Act::Pay(119_910, Designation::Regular)),
         on(2, 16, Act::Payoff(20_030_039)),
     ];
     assert_eq!(rt; after(&short), Some(waiting));
     let deposited = [
-        on(2, 1, Act::Pay(119_910)),
+        on(2, 1, Act::Pay(119_910, Designation::Regular)),
         on(2, 16, Act::Payoff(20_030_040)),
         late(3, 17, 2),
         on(3, 20, Act::Deposit(500)),
@@ -384,7 +394,7 @@ fn a_payoff(rt: HostRuntime) {
 #[test]
 fn a_curtailment(rt: HostRuntime) {
     let curtailed = [
-        on(2, 1, Act::Pay(119_910)),
+        on(2, 1, Act::Pay(119_910, Designation::Regular)),
         on(2, 10, Act::Curtail(100_000)),
     ];
     let lower = Row {
@@ -415,13 +425,13 @@ fn the_last_installment_takes_all_of_the_balance(rt: HostRuntime) {
         satisfied: Some(day(2024, 2, 1)),
         ..BOARDED
     };
-    let paid = [on(2, 1, Act::Pay(20_100_000))];
+    let paid = [on(2, 1, Act::Pay(20_100_000, Designation::Regular))];
     assert_eq!(rt; after_of_term(1, &paid), Some(one));
     let waiting = Row {
         suspense: 20_099_999,
         ..BOARDED
     };
-    let short = [on(2, 1, Act::Pay(20_099_999))];
+    let short = [on(2, 1, Act::Pay(20_099_999, Designation::Regular))];
     assert_eq!(rt; after_of_term(1, &short), Some(waiting));
     let two = Row {
         upb: 0,
@@ -432,7 +442,10 @@ fn the_last_installment_takes_all_of_the_balance(rt: HostRuntime) {
         satisfied: Some(day(2024, 3, 1)),
         ..BOARDED
     };
-    let both = [on(2, 1, Act::Pay(119_910)), on(3, 1, Act::Pay(20_079_990))];
+    let both = [
+        on(2, 1, Act::Pay(119_910, Designation::Regular)),
+        on(3, 1, Act::Pay(20_079_990, Designation::Regular)),
+    ];
     assert_eq!(rt; after_of_term(2, &both), Some(two));
 }
 
@@ -468,7 +481,7 @@ fn escrow_balances(rt: HostRuntime) {
         on(6, 15, Act::Refund(5_000)),
     ];
     assert_eq!(rt; escrow_balance(&refund), Some(104_000));
-    let payment = [on(6, 20, Act::Pay(132_910))];
+    let payment = [on(6, 20, Act::Pay(132_910, Designation::Regular))];
     assert_eq!(rt; escrow_balance(&payment), Some(13_000));
     let payoff = [
         on(6, 10, Act::Deposit(150_000)),
@@ -569,12 +582,12 @@ fn refundable_after(events: &[Event]) -> Option<Cents>
 
 #[test]
 fn what_may_be_refunded(rt: HostRuntime) {
-    let paid = [on(2, 1, Act::Pay(119_910))];
+    let paid = [on(2, 1, Act::Pay(119_910, Designation::Regular))];
     assert_eq!(rt; refundable_after(&paid), Some(0));
     let deposited = [on(2, 1, Act::Deposit(109_000))];
     assert_eq!(rt; refundable_after(&deposited), Some(109_000));
     let satisfied = [
-        on(2, 1, Act::Pay(119_910)),
+        on(2, 1, Act::Pay(119_910, Designation::Regular)),
         on(2, 16, Act::Payoff(20_030_040)),
         on(2, 20, Act::Deposit(500)),
     ];
@@ -594,7 +607,7 @@ fn thirty_days_past_due_are_current(rt: HostRuntime) {
     assert_eq!(rt; is_current_after(&[], day(2024, 3, 2)), Some(true));
     assert_eq!(rt; is_current_after(&[], day(2024, 3, 3)), Some(false));
     let paid_off = [
-        on(2, 1, Act::Pay(119_910)),
+        on(2, 1, Act::Pay(119_910, Designation::Regular)),
         on(2, 16, Act::Payoff(20_030_040)),
     ];
     assert_eq!(rt; is_current_after(&paid_off, day(2025, 2, 1)), Some(true));

@@ -19,10 +19,10 @@ use Rattle.svc_spec.specs.Events.{month_mark, month_marks_from, month_marks, lat
 use Rattle.svc_spec.specs.Accounts.{Account, live_of, books_of, IsAccount}
 use Rattle.svc_spec.specs.Months.{books_at_end, entries_from, cost_of_month}
 use Rattle.svc_spec.proofs.SettlingLemmas.{nat_le-true, from_nat_le}
-use Rattle.svc_spec.proofs.WholeStep.{step_next, marked_next, happened_next}
 use Rattle.svc_spec.proofs.EventLemmas.{events_all, start_next}
 use Rattle.svc_spec.proofs.MonthLemmas.{boarded_some, before_boarded}
-use Rattle.svc_spec.proofs.AccountLemmas.{filter_length, account_books}
+use Rattle.svc_spec.proofs.AccountLemmas.{filter_length}
+use Rattle.svc_spec.proofs.NextLemmas.{step_advances, books_last}
 
 -- ---- how many events there are
 
@@ -67,27 +67,15 @@ events_length t live d =
 
 -- ---- how many installments can be satisfied
 
-greatest_most : (p : ℕ → Bool) (n : ℕ) → greatest p n ≤ n
-greatest_most p zero = omega arith
-greatest_most p (suc n) = elim (p (suc n)) as (λ v. (if v then suc n else greatest p n) ≤ suc n) [ true ↦ omega arith | false ↦ omega (arith, greatest_most p n) ]
-
-moves_most : (t : Terms) (by : ℕ) (b : Books) → moves t by b ≤ due_count t by b.next
-unfolding moves
-moves_most t by b = greatest_most (can_move t b) (due_count t by b.next)
-
 -- the number of the open installment, where those up to a month are satisfied
 abbrev pub reached : Terms → ℕ → ℕ
 reached t d = 1 + (month_of d + 2 - t.first)
 
 step_reaches : (t : Terms) (e : Event) (d : ℕ) (b : Books) → 1 ≤ b.next → e.day ≤ d → b.next ≤ reached t d → (step t e b).next ≤ reached t d
-step_reaches t e d b low le h =
-    let by = month_of e.day + 1 in
-    let before = marked e.day (happened t e.day e.what b) in
-    let same : before.next ≡ b.next = marked_next e.day (happened t e.day e.what b) ∙ happened_next t e.day e.what b in
-    omega (arith, step_next t e b, moves_most t by before, same)
+step_reaches t e d b low le h = let all = step_advances t e b in let high = all.high in omega arith
 
 step_rises : (t : Terms) (e : Event) (b : Books) → 1 ≤ b.next → 1 ≤ (step t e b).next
-step_rises t e b low = omega (arith, step_next t e b)
+step_rises t e b low = let all = step_advances t e b in let rises = all.low in omega arith
 
 folded_reaches : (t : Terms) (d : ℕ) (b : Books) (es : List Event) → 1 ≤ b.next → All (λ e. e.day ≤ d) es → b.next ≤ reached t d → (folded t b es).next ≤ reached t d
 folded_reaches t d b [] low all h = h
@@ -142,7 +130,6 @@ refold_within a d h after until =
     let cost = boarded_cost a h in
     let events = events_length a.terms (live_of a) d in
     let reach = books_reach a.terms (live_of a) d after in
-    let books = account_books a d h in
-    let term = books.signs.next_high in
+    let term = books_last a d h in
     let first = h.terms.first_low in
     omega arith

@@ -1,12 +1,14 @@
 pub mod InstallmentLemmas
 pub mod SettlingLemmas
 pub mod StepLemmas
+pub mod SettledLemmas
 pub mod ActLemmas
 pub mod WholeStep
 pub mod BooksLemmas
 pub mod LimitLemmas
 pub mod EventLemmas
 pub mod AccountLemmas
+pub mod NextLemmas
 pub mod MonthLemmas
 pub mod CostLemmas
 pub mod TotalLemmas

@@ -11,6 +11,8 @@ use Rattle.svc_types.specs.declared.terms.Terms.{Terms}
 use Rattle.svc_types.specs.declared.escrow.EscrowPlan.{EscrowPlan}
 use Rattle.svc_types.specs.declared.escrow.Settled.{Settled}
 use Rattle.svc_types.specs.declared.books.Books.{Books}
+use Rattle.svc_types.specs.declared.account.Designation.{Designation}
+use Rattle.svc_types.specs.declared.account.Designation.TheVariants.{Regular, Principal, Escrow}
 use Rattle.svc_types.specs.declared.account.Act.{Act}
 use Rattle.svc_types.specs.declared.account.Act.TheVariants.{Pay, Curtail, Payoff, Deposit, Disburse, Refund, Waive, Analyse}
 use Rattle.svc_types.specs.declared.account.Event.{Event}
@@ -18,14 +20,14 @@ use Rattle.svc_types.specs.declared.account.What.{What}
 use Rattle.svc_types.specs.declared.account.What.TheVariants as what
 use Rattle.svc_types.specs.Terms.{IsSound}
 use Rattle.svc_spec.specs.Installments.{principal_part, escrow_part, due_month}
-use Rattle.svc_spec.specs.Settling.{moves, moved_one, moved, late_paid, late_taken, is_overdue, marked, settled}
+use Rattle.svc_spec.specs.Settling.{moved_one, late_paid, late_taken, is_overdue, marked, settled_by, settled, due_settled}
 use Rattle.svc_spec.specs.Payoff.{payoff_sum, payoff_days, escrow_advanced}
-use Rattle.svc_spec.specs.Step.{paid_in, charged, curtailed, paid_off, payoff_tried, deposited, from_suspense, refunded, waived, analysed, acted, happened, step, brought, paid_out, brought_by, paid_out_by}
+use Rattle.svc_spec.specs.Step.{paid_in, charged, to_principal, to_escrow, applied, paid, curtailed, paid_off, payoff_tried, deposited, from_suspense, refunded, waived, analysed, acted, happened, step, brought, paid_out, brought_by, paid_out_by}
 use Rattle.svc_spec.specs.Books.{IsSum, IsPlan, HaveSigns, AreWithin, AreBooks, IsAct, IsWhat, total, start}
 use Rattle.svc_spec.proofs.InstallmentLemmas.{IsBalance, principal_part_bounds, escrow_part_bounds}
-use Rattle.svc_spec.proofs.StepLemmas.{CanPay, moved_keeps}
-use Rattle.svc_spec.proofs.ActLemmas.{from_suspense_bounds, happened_signs}
-use Rattle.svc_spec.proofs.WholeStep.{with_day, step_total, settled_signs, happened_marked_signs}
+use Rattle.svc_spec.proofs.SettledLemmas.{settled_keeps, settled_signs}
+use Rattle.svc_spec.proofs.ActLemmas.{from_suspense_bounds, paid_in_signs, paid_keeps}
+use Rattle.svc_spec.proofs.WholeStep.{with_day, step_total, happened_marked_signs}
 
 -- how much an event can add to a sum, in units of the greatest amount: a month mark adds nothing
 abbrev pub weight : What → ℕ
@@ -49,7 +51,61 @@ pub record AreBounded (n : ℕ) (b : Books) : Type 0 where
   pub backed : AreBacked n b
   pub total : total b ≤ℤ units n
 
+-- ---- what settling does
+
+moved_one_backed : (t : Terms) (n : ℕ) (b : Books) → IsSound t → HaveSigns t b → AreBacked n b → AreBacked n (moved_one t b)
+unfolding moved_one
+moved_one_backed t n b s signs h =
+    let balance : IsBalance t b.upb = record { low = signs.upb_low; high = signs.upb_high } in
+    let principal = principal_part_bounds t b.upb b.next s balance in
+    let part = escrow_part_bounds b.plan b.earlier (due_month t b.next) signs.plan signs.earlier in
+    let low = signs.upb_low in
+    let rises = month_interest_rises b.upb b.upb t.fee t.rate low (omega (arith, ints)) s.fee in
+    let escrow = h.escrow in
+    let fee = h.fee in
+    let before = h.curtailed in
+    record { escrow = omega (arith, ints); fee = omega (arith, ints); curtailed = omega (arith, ints); late_owed = h.late_owed }
+
+late_taken_backed : (t : Terms) (d n : ℕ) (b : Books) → HaveSigns t b → AreBacked n b → AreBacked n (late_taken t d b)
+unfolding late_taken
+late_taken_backed t d n b signs h =
+    elim (is_overdue t d b) as (λ v. AreBacked n (if v then b else late_paid b)) [
+      | true ↦ h
+      | false ↦
+          let suspense = signs.suspense in
+          let before = signs.late_owed in
+          let owed = h.late_owed in
+          record { escrow = h.escrow; fee = h.fee; curtailed = h.curtailed; late_owed = omega (arith, ints, clamps) }
+    ]
+
+marked_backed : (d n : ℕ) (b : Books) → AreBacked n b → AreBacked n (marked d b)
+unfolding marked
+marked_backed d n b h =
+    elim (int_le b.upb (pos 0) && is_none b.satisfied) as (λ v. AreBacked n (if v then record b { satisfied = Some d } else b)) [
+      | true ↦ record { escrow = h.escrow; fee = h.fee; curtailed = h.curtailed; late_owed = h.late_owed }
+      | false ↦ h
+    ]
+
+settled_backed : (t : Terms) (by d n : ℕ) (b : Books) → IsSound t → HaveSigns t b → AreBacked n b → AreBacked n (settled_by t by d b)
+settled_backed t by d n b s signs h = settled_keeps t by d (AreBacked n) s (λ x hx c k. moved_one_backed t n x s hx k) (λ x hx k. late_taken_backed t d n x hx k) (λ x k. marked_backed d n x k) b signs h
+
 -- ---- what an act does
+
+paid_in_keeps : (c : ℤ) (n : ℕ) (b : Books) → AreBacked n b → AreBacked n (paid_in c b)
+paid_in_keeps c n b h = record { escrow = h.escrow; fee = h.fee; curtailed = h.curtailed; late_owed = h.late_owed }
+
+to_principal_backed : (x : ℤ) (n : ℕ) (b : Books) → AreBacked n b → AreBacked n (to_principal x b)
+unfolding to_principal
+to_principal_backed x n b h = let part = h.curtailed in record { escrow = h.escrow; fee = h.fee; curtailed = omega (arith, ints); late_owed = h.late_owed }
+
+to_escrow_backed : (x : ℤ) (n : ℕ) (b : Books) → pos 0 ≤ℤ x → AreBacked n b → AreBacked n (to_escrow x b)
+unfolding to_escrow
+to_escrow_backed x n b low h = let escrow = h.escrow in record { escrow = omega (arith, ints); fee = h.fee; curtailed = h.curtailed; late_owed = h.late_owed }
+
+applied_backed : (to : Designation) (x : ℤ) (n : ℕ) (b : Books) → pos 0 ≤ℤ x → AreBacked n b → AreBacked n (applied to x b)
+applied_backed Regular x n b low h = h
+applied_backed Principal x n b low h = to_principal_backed x n b h
+applied_backed Escrow x n b low h = to_escrow_backed x n b low h
 
 charged_backed : (t : Terms) (k n : ℕ) (b : Books) → IsSound t → AreBacked n b → AreBacked (n + 1) (charged t k b)
 unfolding charged
@@ -63,10 +119,6 @@ charged_backed t k n b s h =
       | true ↦ record { escrow = omega (arith, ints); fee = h.fee; curtailed = h.curtailed; late_owed = omega (arith, ints) }
       | false ↦ record { escrow = omega (arith, ints); fee = h.fee; curtailed = h.curtailed; late_owed = omega (arith, ints) }
     ]
-
-curtailed_backed : (c : ℤ) (n : ℕ) (b : Books) → AreBacked n b → AreBacked (n + 1) (curtailed c b)
-unfolding curtailed
-curtailed_backed c n b h = let escrow = h.escrow in let owed = h.late_owed in let part = h.curtailed in record { escrow = omega (arith, ints); fee = h.fee; curtailed = omega (arith, ints); late_owed = omega (arith, ints) }
 
 paid_off_backed : (t : Terms) (d n : ℕ) (b : Books) → IsSound t → HaveSigns t b → AreBacked n b → AreBacked (n + 1) (paid_off t d b)
 unfolding paid_off
@@ -131,71 +183,26 @@ disbursed_backed c n b a h =
     let owed = h.late_owed in
     record { escrow = omega (arith, ints); fee = h.fee; curtailed = h.curtailed; late_owed = omega (arith, ints) }
 
-paid_in_signs' : (t : Terms) (d : ℕ) (c : ℤ) (b : Books) → IsSum c → HaveSigns t b → HaveSigns t (paid_in c b)
-paid_in_signs' t d c b a h = happened_signs t d (what.Act (Pay c)) b a h
+paid_backed : (t : Terms) (d : ℕ) (c : ℤ) (to : Designation) (n : ℕ) (b : Books) → IsSound t → IsSum c → HaveSigns t b → AreBacked n b → AreBacked n (paid t d c to b)
+paid_backed t d c to n b s a signs h = paid_keeps t d c to b (AreBacked n) s a signs (paid_in_keeps c n b h) (λ x hx k. settled_backed t (month_of d) d n x s hx k) (λ to x y low within hy k. applied_backed to x n y low k)
 
-paid_in_backed : (c : ℤ) (n : ℕ) (b : Books) → AreBacked n b → AreBacked (n + 1) (paid_in c b)
-paid_in_backed c n b h =
+backed_more : (n : ℕ) (b : Books) → AreBacked n b → AreBacked (n + 1) b
+backed_more n b h =
     let escrow = h.escrow in
     let owed = h.late_owed in
     record { escrow = omega (arith, ints); fee = h.fee; curtailed = h.curtailed; late_owed = omega (arith, ints) }
 
-paid_in_keeps : (c : ℤ) (n : ℕ) (b : Books) → AreBacked n b → AreBacked n (paid_in c b)
-paid_in_keeps c n b h = record { escrow = h.escrow; fee = h.fee; curtailed = h.curtailed; late_owed = h.late_owed }
-
 pub happened_backed : (t : Terms) (d : ℕ) (w : What) (n : ℕ) (b : Books) → IsSound t → IsWhat w → HaveSigns t b → AreBacked n b → AreBacked (n + weight w) (happened t d w b)
 happened_backed t d what.MonthMark n b s a signs h = let escrow = h.escrow in let owed = h.late_owed in record { escrow = omega (arith, ints); fee = h.fee; curtailed = h.curtailed; late_owed = omega (arith, ints) }
 happened_backed t d (what.LateMark k) n b s a signs h = charged_backed t k n b s h
-happened_backed t d (what.Act (Pay c)) n b s a signs h = paid_in_backed c n b h
-happened_backed t d (what.Act (Curtail c)) n b s a signs h = curtailed_backed c n b h
-happened_backed t d (what.Act (Payoff c)) n b s a signs h = payoff_tried_backed t d n (paid_in c b) s (paid_in_signs' t d c b a signs) (paid_in_keeps c n b h)
+happened_backed t d (what.Act (Pay c to)) n b s a signs h = backed_more n (paid t d c to b) (paid_backed t d c to n b s a signs h)
+happened_backed t d (what.Act (Curtail c)) n b s a signs h = backed_more n (curtailed c b) (to_principal_backed c n (paid_in c b) (paid_in_keeps c n b h))
+happened_backed t d (what.Act (Payoff c)) n b s a signs h = payoff_tried_backed t d n (paid_in c b) s (paid_in_signs t c b a signs) (paid_in_keeps c n b h)
 happened_backed t d (what.Act (Deposit c)) n b s a signs h = deposited_backed c n b a h
 happened_backed t d (what.Act (Disburse c line)) n b s a signs h = disbursed_backed c n b a h
 happened_backed t d (what.Act (Refund c)) n b s a signs h = refunded_backed t c n b a signs h
 happened_backed t d (what.Act (Waive c)) n b s a signs h = waived_backed t c n b a signs h
 happened_backed t d (what.Act (Analyse s')) n b s a signs h = analysed_backed s' n b a.0 h
-
--- ---- what settling does
-
-moved_one_backed : (t : Terms) (n : ℕ) (b : Books) → IsSound t → HaveSigns t b → AreBacked n b → AreBacked n (moved_one t b)
-unfolding moved_one
-moved_one_backed t n b s signs h =
-    let balance : IsBalance t b.upb = record { low = signs.upb_low; high = signs.upb_high } in
-    let principal = principal_part_bounds t b.upb b.next s balance in
-    let part = escrow_part_bounds b.plan b.earlier (due_month t b.next) signs.plan signs.earlier in
-    let low = signs.upb_low in
-    let rises = month_interest_rises b.upb b.upb t.fee t.rate low (omega (arith, ints)) s.fee in
-    let escrow = h.escrow in
-    let fee = h.fee in
-    let before = h.curtailed in
-    record { escrow = omega (arith, ints); fee = omega (arith, ints); curtailed = omega (arith, ints); late_owed = h.late_owed }
-
-late_taken_backed : (t : Terms) (d n : ℕ) (b : Books) → HaveSigns t b → AreBacked n b → AreBacked n (late_taken t d b)
-unfolding late_taken
-late_taken_backed t d n b signs h =
-    elim (is_overdue t d b) as (λ v. AreBacked n (if v then b else late_paid b)) [
-      | true ↦ h
-      | false ↦
-          let suspense = signs.suspense in
-          let before = signs.late_owed in
-          let owed = h.late_owed in
-          record { escrow = h.escrow; fee = h.fee; curtailed = h.curtailed; late_owed = omega (arith, ints, clamps) }
-    ]
-
-marked_backed : (d n : ℕ) (b : Books) → AreBacked n b → AreBacked n (marked d b)
-unfolding marked
-marked_backed d n b h =
-    elim (int_le b.upb (pos 0) && is_none b.satisfied) as (λ v. AreBacked n (if v then record b { satisfied = Some d } else b)) [
-      | true ↦ record { escrow = h.escrow; fee = h.fee; curtailed = h.curtailed; late_owed = h.late_owed }
-      | false ↦ h
-    ]
-
-settled_backed : (t : Terms) (d n : ℕ) (b : Books) → IsSound t → HaveSigns t b → AreBacked n b → AreBacked n (settled t d b)
-unfolding settled
-settled_backed t d n b s signs h =
-    let by = month_of d + 1 in
-    let all = moved_keeps t by (AreBacked n) s (λ x hx c k. moved_one_backed t n x s hx k) (moves t by b) b refl signs h in
-    marked_backed d n (late_taken t d (moved t (moves t by b) b)) (late_taken_backed t d n (moved t (moves t by b) b) all.0 all.1)
 
 -- ---- a whole step
 
@@ -207,12 +214,12 @@ unfolding step
 step_backed t e n b s a signs h =
     let first = happened_backed t e.day e.what n b s a signs h in
     let mark = marked_backed e.day (n + weight e.what) (happened t e.day e.what b) first in
-    let last = settled_backed t e.day (n + weight e.what) (marked e.day (happened t e.day e.what b)) s (happened_marked_signs t e.day e.what b a signs) mark in
+    let last = settled_backed t (month_of e.day + 1) e.day (n + weight e.what) (marked e.day (happened t e.day e.what b)) s (happened_marked_signs t e.day e.what b s a signs) mark in
     dated_backed e.day (n + weight e.what) (settled t e.day (marked e.day (happened t e.day e.what b))) last
 
 pub step_signs : (t : Terms) (e : Event) (b : Books) → IsSound t → IsWhat e.what → HaveSigns t b → HaveSigns t (step t e b)
 unfolding step
-step_signs t e b s a h = with_day t e.day (settled t e.day (marked e.day (happened t e.day e.what b))) (settled_signs t e.day (marked e.day (happened t e.day e.what b)) s (happened_marked_signs t e.day e.what b a h))
+step_signs t e b s a h = with_day t e.day (settled t e.day (marked e.day (happened t e.day e.what b))) (settled_signs t (month_of e.day + 1) e.day (marked e.day (happened t e.day e.what b)) s (happened_marked_signs t e.day e.what b s a h))
 
 -- what an event brings in is at most its units, and what it pays out is not below 0
 pub record IsWeighed (w : What) : Type 0 where
@@ -220,7 +227,7 @@ pub record IsWeighed (w : What) : Type 0 where
   pub paid_out : pos 0 ≤ℤ paid_out_by w
 
 act_weighed : (a : Act) → IsAct a → IsWeighed (what.Act a)
-act_weighed (Pay c) h = let high = h.high in record { brought = omega (arith, ints); paid_out = omega (arith, ints) }
+act_weighed (Pay c to) h = let high = h.high in record { brought = omega (arith, ints); paid_out = omega (arith, ints) }
 act_weighed (Curtail c) h = let high = h.high in record { brought = omega (arith, ints); paid_out = omega (arith, ints) }
 act_weighed (Payoff c) h = let high = h.high in record { brought = omega (arith, ints); paid_out = omega (arith, ints) }
 act_weighed (Deposit c) h = let high = h.high in record { brought = omega (arith, ints); paid_out = omega (arith, ints) }

@@ -10,19 +10,22 @@ use Rattle.svc_base.specs.Money.{share_bp}
 use Rattle.svc_base.proofs.MoneyLemmas.{month_interest_low, day_interest_low}
 use Rattle.svc_types.specs.declared.terms.Terms.{Terms}
 use Rattle.svc_types.specs.declared.books.Books.{Books}
+use Rattle.svc_types.specs.declared.account.Designation.{Designation}
+use Rattle.svc_types.specs.declared.account.Designation.TheVariants.{Regular, Principal, Escrow}
 use Rattle.svc_types.specs.declared.account.Act.TheVariants.{Pay, Curtail, Payoff, Deposit, Disburse, Refund, Waive, Analyse}
 use Rattle.svc_types.specs.declared.account.Event.{Event}
 use Rattle.svc_types.specs.declared.account.What.{What}
 use Rattle.svc_types.specs.declared.account.What.TheVariants as what
 use Rattle.svc_types.specs.Terms.{IsSound}
-use Rattle.svc_spec.specs.Settling.{moves, moved_one, moved, late_paid, late_taken, is_overdue, marked, settled}
+use Rattle.svc_spec.specs.Settling.{moved_one, late_paid, late_taken, is_overdue, marked, settled_by, settled, due_settled}
 use Rattle.svc_spec.specs.Payoff.{payoff_sum, payoff_days}
-use Rattle.svc_spec.specs.Step.{paid_in, charged, curtailed, paid_off, payoff_tried, deposited, refunded, analysed, happened, step}
-use Rattle.svc_spec.specs.Books.{HaveSigns, AreBooks, IsWhat, start}
+use Rattle.svc_spec.specs.Step.{paid_in, charged, to_principal, to_escrow, applied, paid, curtailed, paid_off, payoff_tried, deposited, refunded, analysed, happened, step}
+use Rattle.svc_spec.specs.Books.{IsSum, HaveSigns, AreBooks, IsWhat, start}
 use Rattle.svc_spec.specs.Events.{events_to, folded, books_at}
 use Rattle.svc_spec.specs.Accounts.{Account, live_of, books_of, IsAccount}
 use Rattle.svc_spec.specs.Months.{end_day, books_at_end, month_facts, AreFacts}
-use Rattle.svc_spec.proofs.StepLemmas.{moved_keeps}
+use Rattle.svc_spec.proofs.SettledLemmas.{settled_keeps}
+use Rattle.svc_spec.proofs.ActLemmas.{paid_keeps}
 use Rattle.svc_spec.proofs.WholeStep.{happened_marked_signs, start_books}
 use Rattle.svc_spec.proofs.EventLemmas.{CanFold, can_fold_step, can_fold_events}
 use Rattle.svc_spec.proofs.AccountLemmas.{live_few, live_entries_fold, account_books}
@@ -43,53 +46,6 @@ rose_on a b c h g =
     let h1 = h.curtailed in let h2 = h.interest in let h3 = h.fee in
     let g1 = g.curtailed in let g2 = g.interest in let g3 = g.fee in
     record { curtailed = omega (arith, ints); interest = omega (arith, ints); fee = omega (arith, ints) }
-
--- ---- what an event does
-
-charged_rose : (t : Terms) (k : ℕ) (b : Books) → Rose b (charged t k b)
-unfolding charged
-charged_rose t k b = elim (int_lt (pos 0) b.upb && nat_le b.next k) as (λ v. Rose b (if v then record b { late_owed = b.late_owed +ℤ share_bp t.pi t.late } else b)) [
-  | true ↦ record { curtailed = omega (arith, ints); interest = omega (arith, ints); fee = omega (arith, ints) }
-  | false ↦ stays b
-]
-
-curtailed_rose : (t : Terms) (c : ℤ) (b : Books) → pos 0 ≤ℤ c → pos 0 ≤ℤ b.upb → Rose b (curtailed c b)
-unfolding curtailed
-curtailed_rose t c b low upb = record { curtailed = omega (arith, ints, clamps); interest = omega (arith, ints); fee = omega (arith, ints) }
-
-paid_off_rose : (t : Terms) (d : ℕ) (b : Books) → Rose b (paid_off t d b)
-unfolding paid_off
-paid_off_rose t d b =
-    let interest = day_interest_low b.upb t.rate (payoff_days t d b) in
-    let fee = day_interest_low b.upb t.fee (payoff_days t d b) in
-    record { curtailed = omega (arith, ints); interest = omega (arith, ints); fee = omega (arith, ints) }
-
-payoff_tried_rose : (t : Terms) (d : ℕ) (b : Books) → Rose b (payoff_tried t d b)
-unfolding payoff_tried
-payoff_tried_rose t d b = elim (int_lt (pos 0) b.upb && int_le (payoff_sum t d b) b.suspense) as (λ v. Rose b (if v then paid_off t d b else b)) [ true ↦ paid_off_rose t d b | false ↦ stays b ]
-
-deposited_rose : (c : ℤ) (b : Books) → Rose b (deposited c b)
-unfolding deposited
-deposited_rose c b = elim (int_lt (pos 0) b.upb) as (λ v. Rose b (if v then record b { escrow = b.escrow +ℤ c } else record b { suspense = b.suspense +ℤ c })) [
-  | true ↦ record { curtailed = omega (arith, ints); interest = omega (arith, ints); fee = omega (arith, ints) }
-  | false ↦ record { curtailed = omega (arith, ints); interest = omega (arith, ints); fee = omega (arith, ints) }
-]
-
-paid_in_rose : (c : ℤ) (b : Books) → Rose b (paid_in c b)
-paid_in_rose c b = record { curtailed = omega (arith, ints); interest = omega (arith, ints); fee = omega (arith, ints) }
-
-happened_rose : (t : Terms) (d : ℕ) (w : What) (b : Books) → IsWhat w → HaveSigns t b → Rose b (happened t d w b)
-unfolding refunded analysed
-happened_rose t d what.MonthMark b a h = stays b
-happened_rose t d (what.LateMark k) b a h = charged_rose t k b
-happened_rose t d (what.Act (Pay c)) b a h = paid_in_rose c b
-happened_rose t d (what.Act (Curtail c)) b a h = curtailed_rose t c b a.low h.upb_low
-happened_rose t d (what.Act (Payoff c)) b a h = rose_on b (paid_in c b) (payoff_tried t d (paid_in c b)) (paid_in_rose c b) (payoff_tried_rose t d (paid_in c b))
-happened_rose t d (what.Act (Deposit c)) b a h = deposited_rose c b
-happened_rose t d (what.Act (Disburse c line)) b a h = record { curtailed = omega (arith, ints); interest = omega (arith, ints); fee = omega (arith, ints) }
-happened_rose t d (what.Act (Refund c)) b a h = record { curtailed = omega (arith, ints); interest = omega (arith, ints); fee = omega (arith, ints) }
-happened_rose t d (what.Act (Waive c)) b a h = record { curtailed = omega (arith, ints); interest = omega (arith, ints); fee = omega (arith, ints) }
-happened_rose t d (what.Act (Analyse s)) b a h = record { curtailed = omega (arith, ints); interest = omega (arith, ints); fee = omega (arith, ints) }
 
 -- ---- what settling does
 
@@ -114,20 +70,71 @@ moved_one_rose t b =
     let fee = month_interest_low b.upb t.fee in
     record { curtailed = omega (arith, ints); interest = omega (arith, ints); fee = omega (arith, ints) }
 
-settled_rose : (t : Terms) (d : ℕ) (b : Books) → IsSound t → HaveSigns t b → Rose b (settled t d b)
-unfolding settled
-settled_rose t d b s signs =
-    let by = month_of d + 1 in
-    let all = moved_keeps t by (Rose b) s (λ x hx c k. rose_on b x (moved_one t x) k (moved_one_rose t x)) (moves t by b) b refl signs (stays b) in
-    let last = moved t (moves t by b) b in
-    rose_on b (late_taken t d last) (marked d (late_taken t d last)) (rose_on b last (late_taken t d last) all.1 (late_taken_rose t d last)) (marked_rose d (late_taken t d last))
+settled_rose : (t : Terms) (by d : ℕ) (a b : Books) → IsSound t → HaveSigns t b → Rose a b → Rose a (settled_by t by d b)
+settled_rose t by d a b s signs h = settled_keeps t by d (Rose a) s (λ x hx c k. rose_on a x (moved_one t x) k (moved_one_rose t x)) (λ x hx k. rose_on a x (late_taken t d x) k (late_taken_rose t d x)) (λ x k. rose_on a x (marked d x) k (marked_rose d x)) b signs h
+
+-- ---- what an event does
+
+charged_rose : (t : Terms) (k : ℕ) (b : Books) → Rose b (charged t k b)
+unfolding charged
+charged_rose t k b = elim (int_lt (pos 0) b.upb && nat_le b.next k) as (λ v. Rose b (if v then record b { late_owed = b.late_owed +ℤ share_bp t.pi t.late } else b)) [
+  | true ↦ record { curtailed = omega (arith, ints); interest = omega (arith, ints); fee = omega (arith, ints) }
+  | false ↦ stays b
+]
+
+to_principal_rose : (x : ℤ) (b : Books) → pos 0 ≤ℤ x → pos 0 ≤ℤ b.upb → Rose b (to_principal x b)
+unfolding to_principal
+to_principal_rose x b low upb = record { curtailed = omega (arith, ints, clamps); interest = omega (arith, ints); fee = omega (arith, ints) }
+
+applied_rose : (to : Designation) (x : ℤ) (b : Books) → pos 0 ≤ℤ x → pos 0 ≤ℤ b.upb → Rose b (applied to x b)
+unfolding to_escrow
+applied_rose Regular x b low upb = stays b
+applied_rose Principal x b low upb = to_principal_rose x b low upb
+applied_rose Escrow x b low upb = record { curtailed = omega (arith, ints); interest = omega (arith, ints); fee = omega (arith, ints) }
+
+paid_off_rose : (t : Terms) (d : ℕ) (b : Books) → Rose b (paid_off t d b)
+unfolding paid_off
+paid_off_rose t d b =
+    let interest = day_interest_low b.upb t.rate (payoff_days t d b) in
+    let fee = day_interest_low b.upb t.fee (payoff_days t d b) in
+    record { curtailed = omega (arith, ints); interest = omega (arith, ints); fee = omega (arith, ints) }
+
+payoff_tried_rose : (t : Terms) (d : ℕ) (b : Books) → Rose b (payoff_tried t d b)
+unfolding payoff_tried
+payoff_tried_rose t d b = elim (int_lt (pos 0) b.upb && int_le (payoff_sum t d b) b.suspense) as (λ v. Rose b (if v then paid_off t d b else b)) [ true ↦ paid_off_rose t d b | false ↦ stays b ]
+
+deposited_rose : (c : ℤ) (b : Books) → Rose b (deposited c b)
+unfolding deposited
+deposited_rose c b = elim (int_lt (pos 0) b.upb) as (λ v. Rose b (if v then record b { escrow = b.escrow +ℤ c } else record b { suspense = b.suspense +ℤ c })) [
+  | true ↦ record { curtailed = omega (arith, ints); interest = omega (arith, ints); fee = omega (arith, ints) }
+  | false ↦ record { curtailed = omega (arith, ints); interest = omega (arith, ints); fee = omega (arith, ints) }
+]
+
+paid_in_rose : (c : ℤ) (b : Books) → Rose b (paid_in c b)
+paid_in_rose c b = record { curtailed = omega (arith, ints); interest = omega (arith, ints); fee = omega (arith, ints) }
+
+paid_rose : (t : Terms) (d : ℕ) (c : ℤ) (to : Designation) (b : Books) → IsSound t → IsSum c → HaveSigns t b → Rose b (paid t d c to b)
+paid_rose t d c to b s a h = paid_keeps t d c to b (Rose b) s a h (paid_in_rose c b) (λ x hx k. settled_rose t (month_of d) d b x s hx k) (λ to x y low within hy k. rose_on b y (applied to x y) k (applied_rose to x y low hy.upb_low))
+
+happened_rose : (t : Terms) (d : ℕ) (w : What) (b : Books) → IsSound t → IsWhat w → HaveSigns t b → Rose b (happened t d w b)
+unfolding refunded analysed
+happened_rose t d what.MonthMark b s a h = stays b
+happened_rose t d (what.LateMark k) b s a h = charged_rose t k b
+happened_rose t d (what.Act (Pay c to)) b s a h = paid_rose t d c to b s a h
+happened_rose t d (what.Act (Curtail c)) b s a h = rose_on b (paid_in c b) (curtailed c b) (paid_in_rose c b) (to_principal_rose c (paid_in c b) a.low h.upb_low)
+happened_rose t d (what.Act (Payoff c)) b s a h = rose_on b (paid_in c b) (payoff_tried t d (paid_in c b)) (paid_in_rose c b) (payoff_tried_rose t d (paid_in c b))
+happened_rose t d (what.Act (Deposit c)) b s a h = deposited_rose c b
+happened_rose t d (what.Act (Disburse c line)) b s a h = record { curtailed = omega (arith, ints); interest = omega (arith, ints); fee = omega (arith, ints) }
+happened_rose t d (what.Act (Refund c)) b s a h = record { curtailed = omega (arith, ints); interest = omega (arith, ints); fee = omega (arith, ints) }
+happened_rose t d (what.Act (Waive c)) b s a h = record { curtailed = omega (arith, ints); interest = omega (arith, ints); fee = omega (arith, ints) }
+happened_rose t d (what.Act (Analyse x)) b s a h = record { curtailed = omega (arith, ints); interest = omega (arith, ints); fee = omega (arith, ints) }
 
 step_rose : (t : Terms) (e : Event) (b : Books) → IsSound t → IsWhat e.what → HaveSigns t b → Rose b (step t e b)
 unfolding step
 step_rose t e b s a h =
     let first = happened t e.day e.what b in
     let mark = marked e.day first in
-    let all = rose_on b mark (settled t e.day mark) (rose_on b first mark (happened_rose t e.day e.what b a h) (marked_rose e.day first)) (settled_rose t e.day mark s (happened_marked_signs t e.day e.what b a h)) in
+    let all = settled_rose t (month_of e.day + 1) e.day b mark s (happened_marked_signs t e.day e.what b s a h) (rose_on b first mark (happened_rose t e.day e.what b s a h) (marked_rose e.day first)) in
     record { curtailed = all.curtailed; interest = all.interest; fee = all.fee }
 
 folded_rose : (t : Terms) (b : Books) (es : List Event) → IsSound t → CanFold t b es → Rose b (folded t b es)

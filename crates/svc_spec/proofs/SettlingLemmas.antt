@@ -1,8 +1,8 @@
--- The greatest number of installments is one more than what is left behind the first of them.
+-- The greatest number of installments is one more than what is left after the first of them.
 use Rattle.std.proofs.Common.{◌≡◌, ℕ, zero, suc, ◌+◌, ◌-◌, ◌<◌, ◌≤◌, Bool, true, false, cond, arith, refl, sym, ap, subst, ◌∙◌, ⊎_elim}
 use Rattle.std.specs.Prelude.{ℤ, pos, ◌+ℤ◌, ◌-ℤ◌, ◌≤ℤ◌, ◌<ℤ◌, ◌&&◌, ◌==◌, ◌≢◌, int_lt, int_le, nat_le, if◌then◌else◌}
 use Rattle.std.proofs.lemmas.Int.{ints, clamps}
-use Rattle.svc_base.proofs.CentsRules.{int_le-true, int_le-false, int_lt-true, from_int_le, from_not_int_le}
+use Rattle.svc_base.proofs.CentsRules.{int_le-true, int_le-false, int_lt-true, int_lt-false, from_int_le, from_not_int_le}
 use Rattle.svc_types.specs.declared.terms.Terms.{Terms}
 use Rattle.svc_types.specs.declared.escrow.EscrowPlan.{EscrowPlan}
 use Rattle.svc_types.specs.declared.books.Books.{Books}
@@ -74,21 +74,30 @@ le_zero a s = elim (int_le a s) as (λ v. int_le a s ≡ v → int_le (a +ℤ po
   | false ↦ λ e. let h = from_not_int_le a s e in int_le-false (a +ℤ pos 0) s (omega (arith, ints))
 ] refl
 
-can_move_one : (t : Terms) (b : Books) → int_lt (pos 0) b.upb ≡ true → int_le (whole_part t b.plan b.earlier b.upb b.next) b.suspense ≡ true → can_move t b 1 ≡ true
+and_all : (a : Bool) → (a && true) ≡ a
+and_all true = refl
+and_all false = refl
+
+-- whether the open installment can be paid: there is a balance, and suspense covers what it asks
+can_move-one : (t : Terms) (b : Books) → can_move t b 1 ≡ (int_lt (pos 0) b.upb && int_le (whole_part t b.plan b.earlier b.upb b.next) b.suspense)
 unfolding they_exist need
-can_move_one t b owed covers = rw (owed, le_zero (whole_part t b.plan b.earlier b.upb b.next) b.suspense) covers
+can_move-one t b = rw (and_all (int_lt (pos 0) b.upb), le_zero (whole_part t b.plan b.earlier b.upb b.next) b.suspense)
+
+-- the parts of the test of the open installment
+pub is_movable-is : (t : Terms) (by : ℕ) (b : Books) → is_movable t by b ≡ (nat_le (due_month t b.next) by && (int_lt (pos 0) b.upb && int_le (whole_part t b.plan b.earlier b.upb b.next) b.suspense))
+is_movable-is t by b = ap (λ x. nat_le (due_month t b.next) by && x) (can_move-one t b)
 
 -- one installment is moved: the others are those that it leaves
 pub moves_more : (t : Terms) (by : ℕ) (b : Books) → 1 ≤ b.next → is_movable t by b ≡ true → moves t by b ≡ suc (moves t by (moved_one t b))
 unfolding moves moved_one
 moves_more t by b low h =
-    let parts = both (nat_le (due_month t b.next) by) (int_lt (pos 0) b.upb && int_le (whole_part t b.plan b.earlier b.upb b.next) b.suspense) h in
-    let inner = both (int_lt (pos 0) b.upb) (int_le (whole_part t b.plan b.earlier b.upb b.next) b.suspense) parts.1 in
+    let parts = both (nat_le (due_month t b.next) by) (can_move t b 1) h in
+    let inner = both (int_lt (pos 0) b.upb) (int_le (whole_part t b.plan b.earlier b.upb b.next) b.suspense) (sym (can_move-one t b) ∙ parts.1) in
     let due : due_month t b.next ≤ by = from_nat_le (due_month t b.next) by parts.0 in
     let n = by - due_month t b.next in
     let count : due_count t by b.next ≡ suc n = omega arith in
     let less : due_count t by (suc b.next) ≡ n = omega arith in
-    rw (count, less) (greatest_shift (can_move t b) (can_move t (moved_one t b)) n (λ k. can_shift t b k inner.0) (can_move_one t b inner.0 inner.1))
+    rw (count, less) (greatest_shift (can_move t b) (can_move t (moved_one t b)) n (λ k. can_shift t b k inner.0) parts.1)
 
 -- none is moved: the greatest number is 0
 cannot_move : (t : Terms) (b : Books) (k : ℕ) → IsSound t → HaveSigns t b → (int_lt (pos 0) b.upb && int_le (whole_part t b.plan b.earlier b.upb b.next) b.suspense) ≡ false → can_move t b (suc k) ≡ false
@@ -110,7 +119,7 @@ unfolding moves
 moves_none t by b s h e =
     elim (nat_le (due_month t b.next) by) as (λ v. nat_le (due_month t b.next) by ≡ v → greatest (can_move t b) (due_count t by b.next) ≡ 0) [
       | true ↦ λ due.
-          let lacks : (int_lt (pos 0) b.upb && int_le (whole_part t b.plan b.earlier b.upb b.next) b.suspense) ≡ false = rw due at e in
+          let lacks : (int_lt (pos 0) b.upb && int_le (whole_part t b.plan b.earlier b.upb b.next) b.suspense) ≡ false = rw due at (sym (is_movable-is t by b) ∙ e) in
           greatest_none (can_move t b) (due_count t by b.next) (λ k. cannot_move t b k s h lacks)
       | false ↦ λ late.
           let past : by < due_month t b.next = from_not_nat_le (due_month t b.next) by late in
@@ -135,10 +144,27 @@ third_false true false c h = refl
 third_false false b c h = refl
 
 pub is_movable-true : (t : Terms) (by : ℕ) (b : Books) → due_month t b.next ≤ by → pos 0 <ℤ b.upb → whole_part t b.plan b.earlier b.upb b.next ≤ℤ b.suspense → is_movable t by b ≡ true
-is_movable-true t by b due owed covered = and_true _ _ _ (nat_le-true (due_month t b.next) by due) (int_lt-true (pos 0) b.upb owed) (int_le-true (whole_part t b.plan b.earlier b.upb b.next) b.suspense covered)
+is_movable-true t by b due owed covered = is_movable-is t by b ∙ and_true _ _ _ (nat_le-true (due_month t b.next) by due) (int_lt-true (pos 0) b.upb owed) (int_le-true (whole_part t b.plan b.earlier b.upb b.next) b.suspense covered)
 
 pub is_movable-short : (t : Terms) (by : ℕ) (b : Books) → b.suspense <ℤ whole_part t b.plan b.earlier b.upb b.next → is_movable t by b ≡ false
-is_movable-short t by b short = third_false (nat_le (due_month t b.next) by) (int_lt (pos 0) b.upb) (int_le (whole_part t b.plan b.earlier b.upb b.next) b.suspense) (int_le-false (whole_part t b.plan b.earlier b.upb b.next) b.suspense short)
+is_movable-short t by b short = is_movable-is t by b ∙ third_false (nat_le (due_month t b.next) by) (int_lt (pos 0) b.upb) (int_le (whole_part t b.plan b.earlier b.upb b.next) b.suspense) (int_le-false (whole_part t b.plan b.earlier b.upb b.next) b.suspense short)
+
+pub is_movable-later : (t : Terms) (by : ℕ) (b : Books) → by < due_month t b.next → is_movable t by b ≡ false
+is_movable-later t by b later = rw (nat_le-false (due_month t b.next) by later)
+
+pub is_movable-paid : (t : Terms) (by : ℕ) (b : Books) → b.upb ≤ℤ pos 0 → is_movable t by b ≡ false
+is_movable-paid t by b paid = is_movable-is t by b ∙ rw (int_lt-false (pos 0) b.upb paid) (and_false (nat_le (due_month t b.next) by))
+
+-- ---- how many installments are moved
+
+greatest_most : (p : ℕ → Bool) (n : ℕ) → greatest p n ≤ n
+greatest_most p zero = omega arith
+greatest_most p (suc n) = elim (p (suc n)) as (λ v. (if v then suc n else greatest p n) ≤ suc n) [ true ↦ omega arith | false ↦ omega (arith, greatest_most p n) ]
+
+-- no more than are due by the month
+pub moves_most : (t : Terms) (by : ℕ) (b : Books) → moves t by b ≤ due_count t by b.next
+unfolding moves
+moves_most t by b = greatest_most (can_move t b) (due_count t by b.next)
 
 -- ---- the books that moving leaves
 

@@ -6,6 +6,8 @@ use Rattle.std.specs.List.{All, filter}
 use Rattle.std.proofs.lemmas.List.Elements.{All-head, All-tail}
 use Rattle.std.proofs.lemmas.Int.{ints}
 use Rattle.svc_base.specs.Calendar.{month_of}
+use Rattle.svc_base.specs.Sums.{total_by}
+use Rattle.svc_base.proofs.SumLemmas.{total_by-append, total_by-parts}
 use Rattle.svc_types.specs.declared.terms.Terms.{Terms}
 use Rattle.svc_types.specs.declared.books.Books.{Books}
 use Rattle.svc_types.specs.declared.account.Act.{Act}
@@ -31,8 +33,7 @@ use Rattle.svc_spec.proofs.AccountLemmas.{live_few, live_entries_fold}
 
 -- an amount of each of some events, summed
 abbrev tally : (What → ℤ) → List Event → ℤ
-tally f [] = pos 0
-tally f (e ∷ es) = f e.what +ℤ tally f es
+tally f es = total_by (λ e. f e.what) es
 
 -- each event moves the total by what it brings in less what it pays out, and so do all of them
 folded_total : (t : Terms) (b : Books) (es : List Event) → IsSound t → CanFold t b es → total (folded t b es) +ℤ tally paid_out_by es ≡ total b +ℤ tally brought_by es
@@ -41,10 +42,6 @@ folded_total t b (e ∷ es) s h =
     let one = step_total t e b s (All-head (λ x. IsWhat x.what) e es h.whats) h.books.signs in
     let rest = folded_total t (step t e b) es s (can_fold_step t b e es s h) in
     omega (arith, ints, one, rest)
-
-tally_append : (f : What → ℤ) (xs ys : List Event) → tally f (xs ++ ys) ≡ tally f xs +ℤ tally f ys
-tally_append f [] ys = omega (arith, ints)
-tally_append f (x ∷ xs) ys = omega (arith, ints, tally_append f xs ys)
 
 tally_insert : (f : What → ℤ) (e : Event) (xs : List Event) → tally f (insert_event e xs) ≡ f e.what +ℤ tally f xs
 tally_insert f e [] = refl
@@ -85,7 +82,7 @@ tally_events f none none' t live d h =
     let months = month_marks t d in
     let lates = late_marks t d in
     let entries = entry_events live d in
-    omega (arith, ints, tally_by_day f (months ++ lates ++ entries), tally_append f (months ++ lates) entries, tally_append f months lates, tally_months f none (month_of t.boarded + 1) (month_of d - month_of t.boarded), tally_lates f none' t d 1 t.term, tally_entries f d live h)
+    omega (arith, ints, tally_by_day f (months ++ lates ++ entries), total_by-append (λ (e : Event). f e.what) (months ++ lates) entries, total_by-append (λ (e : Event). f e.what) months lates, tally_months f none (month_of t.boarded + 1) (month_of d - month_of t.boarded), tally_lates f none' t d 1 t.term, tally_entries f d live h)
 
 -- ---- sums over entries
 
@@ -101,21 +98,13 @@ sum_placed_onto : (f : Act → ℤ) (xs es : List Entry) → sum_over f (placed_
 sum_placed_onto f xs [] = omega (arith, ints)
 sum_placed_onto f xs (e ∷ es) = omega (arith, ints, sum_placed_onto f (placed e xs) es, sum_placed f e xs)
 
-sum_parts : (f : Act → ℤ) (p : Entry → Bool) (es : List Entry) → sum_over f es ≡ sum_over f (filter (λ e. not (p e)) es) +ℤ sum_over f (filter p es)
-sum_parts f p [] = refl
-sum_parts f p (e ∷ es) =
-    elim (p e) as (λ v. f e.act +ℤ sum_over f es ≡ sum_over f (cond (not v) (e ∷ filter (λ x. not (p x)) es) (filter (λ x. not (p x)) es)) +ℤ sum_over f (cond v (e ∷ filter p es) (filter p es))) [
-      | true ↦ omega (arith, ints, sum_parts f p es)
-      | false ↦ omega (arith, ints, sum_parts f p es)
-    ]
-
 -- the entries are the live and the reversed ones
 sum_live : (f : Act → ℤ) (a : Account) → sum_over f a.entries ≡ sum_over f (live_of a) +ℤ sum_over f (reversed_of a)
 unfolding live_entries
-sum_live f a = omega (arith, ints, sum_placed_onto f [] (filter (is_live a.reversals) a.entries), sum_parts f (λ e. is_reversed a.reversals e.number) a.entries)
+sum_live f a = omega (arith, ints, sum_placed_onto f [] (filter (is_live a.reversals) a.entries), total_by-parts (λ (e : Entry). f e.act) (λ e. is_reversed a.reversals e.number) a.entries)
 
 paid_out_parts : (x : Act) → paid_out x ≡ refunded_by x +ℤ disbursed_by x
-paid_out_parts (Pay c) = refl
+paid_out_parts (Pay c to) = refl
 paid_out_parts (Curtail c) = refl
 paid_out_parts (Payoff c) = refl
 paid_out_parts (Deposit c) = refl

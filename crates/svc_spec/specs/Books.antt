@@ -29,9 +29,8 @@ pub record IsPlan (p : EscrowPlan) : Type 0 where
 pub record HaveSigns (t : Terms) (b : Books) : Type 0 where
   pub upb_low : pos 0 ≤ℤ b.upb
   pub upb_high : b.upb ≤ℤ t.principal
-  pub next_low : 1 ≤ b.next
-  pub next_high : b.next ≤ t.term + 1
-  pub next_open : pos 0 <ℤ b.upb → b.next ≤ t.term
+  pub next_low : pos 0 <ℤ b.upb → 1 ≤ b.next
+  pub next_high : pos 0 <ℤ b.upb → b.next ≤ t.term
   pub suspense : pos 0 ≤ℤ b.suspense
   pub late_owed : pos 0 ≤ℤ b.late_owed
   pub interest : pos 0 ≤ℤ b.interest
@@ -93,7 +92,7 @@ start t = record {
 
 -- an act whose amounts a step takes
 abbrev pub IsAct : Act → Type 0
-IsAct (Pay c) = IsSum c
+IsAct (Pay c to) = IsSum c
 IsAct (Curtail c) = IsSum c
 IsAct (Payoff c) = IsSum c
 IsAct (Deposit c) = IsSum c

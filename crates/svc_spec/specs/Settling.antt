@@ -16,7 +16,8 @@ greatest p (suc n) = if p (suc n) then suc n else greatest p n
 -- what the next j installments from k on ask, each on the balance that those before it leave
 unfoldable pub need : Terms → EscrowPlan → EscrowPlan → ℤ → ℕ → ℕ → ℤ
 need t plan earlier upb k zero = pos 0
-need t plan earlier upb k (suc j) = whole_part t plan earlier upb k +ℤ need t plan earlier (upb -ℤ principal_part t upb k) (suc k) j
+need t plan earlier upb k (suc j) =
+  whole_part t plan earlier upb k +ℤ need t plan earlier (upb -ℤ principal_part t upb k) (suc k) j
 
 -- whether the next j installments from k on exist: each has a balance to pay
 unfoldable pub they_exist : Terms → ℤ → ℕ → ℕ → Bool
@@ -51,9 +52,9 @@ paid_installment i b = record b {
 unfoldable pub moved_one : Terms → Books → Books
 moved_one t b = paid_installment (installment t b) b
 
--- whether the open installment is due by a month, and suspense covers it
+-- whether the open installment is there and due by a month, and suspense covers it
 abbrev pub is_movable : Terms → ℕ → Books → Bool
-is_movable t by b = nat_le (due_month t b.next) by && (int_lt (pos 0) b.upb && int_le (whole_part t b.plan b.earlier b.upb b.next) b.suspense)
+is_movable t by b = nat_le (due_month t b.next) by && can_move t b 1
 
 -- the books after the next j installments are paid from suspense
 unfoldable pub moved : Terms → ℕ → Books → Books
@@ -80,6 +81,15 @@ late_taken t day b = if is_overdue t day b then b else late_paid b
 unfoldable pub marked : ℕ → Books → Books
 marked day b = if int_le b.upb (pos 0) && is_none b.satisfied then record b { satisfied = Some day } else b
 
--- the installments due by the first day of the next month, then late charges
-unfoldable pub settled : Terms → ℕ → Books → Books
-settled t day b = marked day (late_taken t day (moved t (moves t (month_of day + 1) b) b))
+-- the installments due by a month, as far as suspense covers them, then late charges where none is
+-- overdue, and the mark of a loan whose balance came to 0
+unfoldable pub settled_by : Terms → ℕ → ℕ → Books → Books
+settled_by t by day b = marked day (late_taken t day (moved t (moves t by b) b))
+
+-- the settling that follows each event: its limit is the first day of the next month
+abbrev pub settled : Terms → ℕ → Books → Books
+settled t day b = settled_by t (month_of day + 1) day b
+
+-- the settling of what is due on or before the day: installments are due on first days of months
+abbrev pub due_settled : Terms → ℕ → Books → Books
+due_settled t day b = settled_by t (month_of day) day b

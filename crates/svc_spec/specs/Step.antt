@@ -1,17 +1,19 @@
 -- One step of the books: what an event does, and the settling that follows it.
-use Rattle.std.specs.Prelude.{ℕ, ◌==◌, ◌&&◌, nat_le, ℤ, pos, ◌+ℤ◌, ◌-ℤ◌, int_lt, int_le, if◌then◌else◌}
+use Rattle.std.specs.Prelude.{ℕ, ◌==◌, ◌&&◌, not, nat_le, ℤ, pos, ◌+ℤ◌, ◌-ℤ◌, int_lt, int_le, if◌then◌else◌}
 use Rattle.std.specs.Int.{int_min, int_max}
 use Rattle.svc_base.specs.Money.{share_bp, day_interest}
 use Rattle.svc_types.specs.declared.terms.Terms.{Terms}
 use Rattle.svc_types.specs.declared.escrow.EscrowPlan.{EscrowPlan}
 use Rattle.svc_types.specs.declared.escrow.Settled.{Settled}
 use Rattle.svc_types.specs.declared.books.Books.{Books}
+use Rattle.svc_types.specs.declared.account.Designation.{Designation}
+use Rattle.svc_types.specs.declared.account.Designation.TheVariants.{Regular, Principal, Escrow}
 use Rattle.svc_types.specs.declared.account.Act.{Act}
 use Rattle.svc_types.specs.declared.account.Act.TheVariants.{Pay, Curtail, Payoff, Deposit, Disburse, Refund, Waive, Analyse}
 use Rattle.svc_types.specs.declared.account.Event.{Event}
 use Rattle.svc_types.specs.declared.account.What.{What}
 use Rattle.svc_types.specs.declared.account.What.TheVariants as what
-use Rattle.svc_spec.specs.Settling.{marked, settled}
+use Rattle.svc_spec.specs.Settling.{is_overdue, marked, settled, due_settled}
 use Rattle.svc_spec.specs.Payoff.{payoff_days, payoff_sum, escrow_advanced}
 
 -- money that waits to be applied
@@ -22,14 +24,44 @@ paid_in c b = record b { suspense = b.suspense +ℤ c }
 unfoldable pub charged : Terms → ℕ → Books → Books
 charged t k b = if int_lt (pos 0) b.upb && nat_le b.next k then record b { late_owed = b.late_owed +ℤ share_bp t.pi t.late } else b
 
--- a payment on the principal alone; what exceeds the balance waits
-unfoldable pub curtailed : ℤ → Books → Books
-curtailed c b = record b {
-  upb = b.upb -ℤ int_min b.upb c;
-  principal = b.principal +ℤ int_min b.upb c;
-  curtailed = b.curtailed +ℤ int_min b.upb c;
-  suspense = b.suspense +ℤ (c -ℤ int_min b.upb c);
+-- so much of suspense applied to principal ahead of its time, as far as the balance goes
+unfoldable pub to_principal : ℤ → Books → Books
+to_principal x b = record b {
+  suspense = b.suspense -ℤ int_min b.upb x;
+  upb = b.upb -ℤ int_min b.upb x;
+  principal = b.principal +ℤ int_min b.upb x;
+  curtailed = b.curtailed +ℤ int_min b.upb x;
 }
+
+-- so much of suspense applied to escrow
+unfoldable pub to_escrow : ℤ → Books → Books
+to_escrow x b = record b {
+  suspense = b.suspense -ℤ x;
+  escrow = b.escrow +ℤ x;
+}
+
+-- so much of suspense applied as a payment designates it
+abbrev pub applied : Designation → ℤ → Books → Books
+applied Regular x b = b
+applied Principal x b = to_principal x b
+applied Escrow x b = to_escrow x b
+
+-- what is left of a designated payment of c is applied where no open installment is due on or
+-- before the day and the loan is not satisfied
+unfoldable pub rest_applied : Terms → ℕ → ℤ → Designation → Books → Books
+rest_applied t day c to b =
+  if int_lt (pos 0) b.upb && not (is_overdue t day b) then applied to (int_min c b.suspense) b else b
+
+-- a payment: a regular one waits; after a designated one what is due on or before the day is
+-- settled, and then the rest is applied
+abbrev pub paid : Terms → ℕ → ℤ → Designation → Books → Books
+paid t day c Regular b = paid_in c b
+paid t day c Principal b = rest_applied t day c Principal (due_settled t day (paid_in c b))
+paid t day c Escrow b = rest_applied t day c Escrow (due_settled t day (paid_in c b))
+
+-- a payment on the principal alone; what exceeds the balance waits
+abbrev pub curtailed : ℤ → Books → Books
+curtailed c b = to_principal c (paid_in c b)
 
 -- a loan that is paid off from suspense: balance, day interest, late charges and escrow advanced
 unfoldable pub paid_off : Terms → ℕ → Books → Books
@@ -82,7 +114,7 @@ analysed s b = record b {
 
 -- what an act does on a day
 abbrev pub acted : Terms → ℕ → Act → Books → Books
-acted t day (Pay c) b = paid_in c b
+acted t day (Pay c to) b = paid t day c to b
 acted t day (Curtail c) b = curtailed c b
 acted t day (Payoff c) b = payoff_tried t day (paid_in c b)
 acted t day (Deposit c) b = deposited c b
@@ -103,7 +135,7 @@ step t e b = record (settled t e.day (marked e.day (happened t e.day e.what b)))
 
 -- what an act brings in
 abbrev pub brought : Act → ℤ
-brought (Pay c) = c
+brought (Pay c to) = c
 brought (Curtail c) = c
 brought (Payoff c) = c
 brought (Deposit c) = c
@@ -114,7 +146,7 @@ brought (Analyse s) = pos 0
 
 -- what an act pays out
 abbrev pub paid_out : Act → ℤ
-paid_out (Pay c) = pos 0
+paid_out (Pay c to) = pos 0
 paid_out (Curtail c) = pos 0
 paid_out (Payoff c) = pos 0
 paid_out (Deposit c) = pos 0

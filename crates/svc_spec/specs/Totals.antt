@@ -1,6 +1,7 @@
 -- What the entries of a loan brought in and paid out: the totals that custody is told of.
-use Rattle.std.specs.Prelude.{List, [], ◌∷◌, ℤ, pos, ◌+ℤ◌}
+use Rattle.std.specs.Prelude.{List, ℤ, pos}
 use Rattle.std.specs.List.{filter}
+use Rattle.svc_base.specs.Sums.{total_by}
 use Rattle.svc_types.specs.declared.account.Act.{Act}
 use Rattle.svc_types.specs.declared.account.Act.TheVariants.{Pay, Curtail, Payoff, Deposit, Disburse, Refund, Waive, Analyse}
 use Rattle.svc_types.specs.declared.account.Entry.{Entry}
@@ -8,14 +9,13 @@ use Rattle.svc_types.specs.Live.{is_reversed}
 use Rattle.svc_spec.specs.Step.{brought}
 use Rattle.svc_spec.specs.Accounts.{Account, live_of}
 
--- an amount of each of some entries, summed
+-- an amount of the act of each of some entries, summed
 abbrev pub sum_over : (Act → ℤ) → List Entry → ℤ
-sum_over f [] = pos 0
-sum_over f (e ∷ es) = f e.act +ℤ sum_over f es
+sum_over f es = total_by (λ e. f e.act) es
 
 -- what an act pays back to the borrower: a refund, and that of an analysis
 abbrev pub refunded_by : Act → ℤ
-refunded_by (Pay c) = pos 0
+refunded_by (Pay c to) = pos 0
 refunded_by (Curtail c) = pos 0
 refunded_by (Payoff c) = pos 0
 refunded_by (Deposit c) = pos 0
@@ -26,7 +26,7 @@ refunded_by (Analyse s) = s.refund
 
 -- what an act pays to others
 abbrev pub disbursed_by : Act → ℤ
-disbursed_by (Pay c) = pos 0
+disbursed_by (Pay c to) = pos 0
 disbursed_by (Curtail c) = pos 0
 disbursed_by (Payoff c) = pos 0
 disbursed_by (Deposit c) = pos 0

@@ -1,12 +1,13 @@
-use Rattle.std.proofs.Common.{refl, arith}
-use Rattle.std.proofs.lemmas.Int.{ints, clamps}
-use Rattle.svc_spec.proofs.BooksLemmas.{same_books}
-use Rattle.svc_spec.specs.Step.{curtailed}
+use Rattle.std.proofs.Common.{◌≡◌, sym, subst, refl, arith, FitsSigned, w64}
+use Rattle.std.proofs.lemmas.Int.{ints, to_z-of_z}
+use Rattle.svc_types.specs.declared.books.Books.{Books}
+use Rattle.svc_spec.specs.Step.{paid_in}
+use Rattle.svc_apply.specs.Room.{MayApply}
+use Rattle.svc_apply.proofs.RoomLemmas.{curtailment_may_apply}
 use Rattle.svc_apply.proofs.acts.curtail.Goals as goal
 
-pub overflow_add-books-3 : goal.overflow_add-books-3
-overflow_add-books-3 c = omega (arith, ints, clamps, c.min-paid.ensures.value)
-
-pub returns : goal.returns
-unfolding curtailed
-returns c = same_books _ _ refl (omega (arith, ints, clamps, c.min-paid.ensures.value)) refl refl (omega (arith, ints, clamps, c.min-paid.ensures.value)) refl refl refl (omega (arith, ints, clamps, c.min-paid.ensures.value)) (omega (arith, ints, clamps, c.min-paid.ensures.value)) refl refl refl refl
+pub to_principal-requires : goal.to_principal-requires
+to_principal-requires c =
+    let fits : FitsSigned w64 c.args.cents = c.ranges.cents in
+    let first : c.pay_in.new.books ≡ paid_in c.args.cents c.args.books.now = simp to_z-of_z at c.pay_in.ensures.books in
+    rw first (simp to_z-of_z (curtailment_may_apply c.args.cents c.args.books.now c.requires.amount c.requires.sums))

@@ -3,9 +3,10 @@ use Rattle.std.specs.Prelude.{◌+◌, ◌+ℤ◌}
 use Rattle.svc_types.specs.declared.books.Books.{Books}
 use Rattle.svc_base.specs.Calendar.{month_of}
 use Rattle.svc_spec.specs.Books.{total}
-use Rattle.svc_spec.specs.Settling.{marked, settled, moves}
+use Rattle.svc_spec.specs.Settling.{marked, settled}
 use Rattle.svc_spec.specs.Step.{step, happened, paid_out_by}
-use Rattle.svc_spec.proofs.WholeStep.{step_books, step_total, step_next, happened_marked_signs}
+use Rattle.svc_spec.proofs.WholeStep.{step_books, step_total, happened_marked_signs}
+use Rattle.svc_spec.proofs.SettledLemmas.{marked_next}
 use Rattle.svc_apply.proofs.RoomLemmas.{event_room}
 use Rattle.svc_apply.proofs.fold.fold_step.Goals as goal
 
@@ -14,7 +15,7 @@ settle-requires-clause-signs g c =
     let e = c.args.event.now in
     let b = c.args.books.now in
     let mark : c.mark_satisfied.new.books ≡ marked e.day (happened c.args.terms.now e.day e.what b) = cc in
-    rw mark (happened_marked_signs c.args.terms.now e.day e.what b c.requires.amounts c.requires.books.signs)
+    rw mark (happened_marked_signs c.args.terms.now e.day e.what b c.requires.terms c.requires.amounts c.requires.books.signs)
 
 pub settle-requires-clause-room : goal.settle-requires-clause-room
 settle-requires-clause-room g c =
@@ -44,9 +45,5 @@ returns-clause-money g c =
 
 pub returns-clause-steps : goal.returns-clause-steps
 returns-clause-steps g c =
-    let e = c.args.event.now in
-    let b = c.args.books.now in
-    let mark : c.mark_satisfied.new.books ≡ marked e.day (happened c.args.terms.now e.day e.what b) = cc in
-    let count : c.settle.new.steps ≡ c.args.steps.now + moves c.args.terms.now (month_of e.day + 1) (marked e.day (happened c.args.terms.now e.day e.what b)) = cc in
-    let next = ap (λ (x : Books). x.next) (returns-clause-step g c) in
-    omega (arith, step_next c.args.terms.now e b)
+    let marks = ap (λ (x : Books). x.next) c.mark_satisfied.ensures in
+    omega (arith, marked_next c.args.event.now.day c.happen.new.books)

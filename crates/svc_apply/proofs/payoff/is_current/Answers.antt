@@ -9,7 +9,9 @@ use Rattle.svc_spec.specs.Payoff.{is_current}
 use Rattle.svc_apply.proofs.payoff.is_current.Goals as goal
 
 pub add_days-requires : goal.add_days-requires
-add_days-requires c = omega (arith, day_after_most c.first_day.result 30)
+add_days-requires c =
+    let last = c.requires.books.signs.next_high (omega (arith, ints)) in
+    omega (arith, day_after_most c.first_day.result 30)
 
 pub returns-then-books-le0 : goal.returns-then-books-le0
 unfolding is_current

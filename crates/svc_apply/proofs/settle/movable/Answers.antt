@@ -4,7 +4,7 @@ use Rattle.std.proofs.lemmas.Int.{ints}
 use Rattle.svc_base.proofs.CentsRules.{from_int_lt, from_not_int_lt, from_not_int_le}
 use Rattle.svc_types.specs.declared.books.Installment.{Installment}
 use Rattle.svc_spec.specs.Installments.{whole_part}
-use Rattle.svc_spec.proofs.SettlingLemmas.{is_movable-true, is_movable-short}
+use Rattle.svc_spec.proofs.SettlingLemmas.{is_movable-true, is_movable-short, is_movable-later, is_movable-paid}
 use Rattle.svc_apply.proofs.settle.movable.Goals as goal
 
 pub returns-then-sum_of-books-clause-movable : goal.returns-then-sum_of-books-clause-movable
@@ -23,3 +23,6 @@ returns-clause-movable c =
     let within = from_not_int_lt (to_z w64 (of_z w64 b.suspense)) (to_z w64 (of_z w64 c.sum_of.result)) c.if-sum_of-books.false in
     let owed = from_not_int_le (to_z w64 (of_z w64 b.upb)) (pos 0) c.if-books-le0.false in
     sym (is_movable-true t c.args.by b (omega arith) (omega (arith, ints)) (omega (arith, ints)))
+
+pub returns-then-books-le0-clause-movable : goal.returns-then-books-le0-clause-movable
+returns-then-books-le0-clause-movable c = sym (is_movable-paid c.args.terms.now c.args.by c.args.books.now (omega (arith, ints)))
