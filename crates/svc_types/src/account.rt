@@ -17,8 +17,8 @@ pub enum Designation {
 /// What an entry does.
 #[derive(Clone, Copy, Debug, PartialEq, Eq)]
 pub enum Act {
-    /// A payment.
-    Pay(Cents),
+    /// A payment, and where what it leaves goes.
+    Pay(Cents, Designation),
     /// A payment on the principal alone.
     Curtail(Cents),
     /// A payment that is to satisfy the loan.

@@ -1,6 +1,6 @@
 //! The order of entries, and which of them are live.
 
-use crate::{Act, Entry, before, live, place_of};
+use crate::{Act, Designation, Entry, before, live, place_of};
 use std::test::Fail;
 use svc_base::{DayFault, read_day};
 
@@ -8,7 +8,7 @@ fn paid(number: u32, day: &[u8]) -> Result<Entry, DayFault> {
     Ok(Entry {
         number,
         day: read_day(day)?,
-        act: Act::Pay(119_910),
+        act: Act::Pay(119_910, Designation::Regular),
     })
 }
 

@@ -11,6 +11,7 @@ use Rattle.svc_types.specs.declared.escrow.PartPlan.TheVariants as part_plan
 use Rattle.svc_types.specs.declared.escrow.Plan.{Plan}
 use Rattle.svc_types.specs.declared.requests.Command.{Command}
 use Rattle.svc_types.specs.declared.requests.Command.TheVariants as command
+use Rattle.svc_types.specs.declared.account.Designation.{Designation}
 use Rattle.svc_types.specs.declared.account.Designation.TheVariants as over
 use Rattle.svc_types.specs.declared.replies.Extra.{Extra}
 use Rattle.svc_types.specs.declared.replies.Refusal.{Refusal}
@@ -52,6 +53,10 @@ loan_of kind = record {
 -- a payment of an installment, and another amount
 abbrev pub pays : ℕ → ℤ → Command
 pays day c = command.Pay 1 day c over.Regular
+
+-- a payment with a designation
+abbrev pub pays_to : ℕ → ℤ → Designation → Command
+pays_to day c to = command.Pay 1 day c to
 
 -- commands as they are accepted, each under a key of its own
 abbrev pub keyed_from : ℕ → List Command → List Accepted

@@ -44,7 +44,7 @@ today_after today c = today
 unfoldable pub loans_after : ℕ → ℕ → List Held → Command → List Held
 loans_after n today loans (command.Day d) = map (on_day d) loans
 loans_after n today loans (command.Board id t) = with_loan (boarded id t today) loans
-loans_after n today loans (command.Pay id d c over) = changed id (with_entry (entry n d (act.Pay c))) loans
+loans_after n today loans (command.Pay id d c over) = changed id (with_entry (entry n d (act.Pay c over))) loans
 loans_after n today loans (command.Curtail id d c) = changed id (with_entry (entry n d (act.Curtail c))) loans
 loans_after n today loans (command.Payoff id d c) = changed id (with_entry (entry n d (act.Payoff c))) loans
 loans_after n today loans (command.Deposit id d c) = changed id (with_entry (entry n d (act.Deposit c))) loans

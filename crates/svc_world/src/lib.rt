@@ -11,7 +11,7 @@ pub use answer::Answer;
 pub use custody::Custody;
 pub use row_list::RowList;
 pub use worked::{
-    worked_analysis, worked_closings, worked_curtailment, worked_escrow_advance,
-    worked_first_payment, worked_late_charge, worked_late_payment, worked_payoff,
-    worked_payoff_reversed, worked_refusals, worked_reversal, worked_types,
+    worked_analysis, worked_closings, worked_curtailment, worked_designations,
+    worked_escrow_advance, worked_first_payment, worked_late_charge, worked_late_payment,
+    worked_payoff, worked_payoff_reversed, worked_refusals, worked_reversal, worked_types,
 };

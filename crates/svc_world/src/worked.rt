@@ -1,8 +1,11 @@
 //! Worked histories as theorems: replies, refusals, rows, adjustments and the custodial line, computed
 //! from the definitions. The functions have no code; amounts are cents.
 
+#![tactic(auto, unfolding(svc_base::specs::Calendar::month_length, svc_base::specs::Calendar::day_after, svc_base::specs::Money::month_interest, svc_base::specs::Money::day_interest, svc_base::specs::Money::share_bp, svc_spec::specs::Installments::principal_part, svc_spec::specs::Installments::level_principal, svc_spec::specs::Installments::escrow_part, svc_spec::specs::Installments::escrow_of_plan, svc_spec::specs::Settling::need, svc_spec::specs::Settling::they_exist, svc_spec::specs::Settling::moves, svc_spec::specs::Settling::moved, svc_spec::specs::Settling::moved_one, svc_spec::specs::Settling::late_taken, svc_spec::specs::Settling::marked, svc_spec::specs::Settling::settled_by, svc_spec::specs::Payoff::payoff_principal, svc_spec::specs::Payoff::payoff_sum, svc_spec::specs::Payoff::available, svc_spec::specs::Payoff::is_current, svc_spec::specs::Step::step, svc_spec::specs::Step::charged, svc_spec::specs::Step::to_principal, svc_spec::specs::Step::to_escrow, svc_spec::specs::Step::rest_applied, svc_spec::specs::Step::paid_off, svc_spec::specs::Step::payoff_tried, svc_spec::specs::Step::deposited, svc_spec::specs::Step::from_suspense, svc_spec::specs::Step::refunded, svc_spec::specs::Step::analysed, svc_spec::specs::Books::start, svc_spec::specs::Events::events_to, svc_spec::specs::Events::books_at, svc_spec::specs::Months::books_at_end, svc_types::specs::Live::live_entries, svc_types::specs::Same::is_same, escrow_lines::specs::Bills::cents_in, escrow_resolve::specs::Parts::surplus, escrow_resolve::specs::Parts::shortage, escrow_resolve::specs::Parts::deficiency, escrow_resolve::specs::Lawful::plan_fault, remit_types::specs::Schedule::scheduled_interest, remit_types::specs::Schedule::scheduled_principal, remit_types::specs::Schedule::level_principal, remit_types::specs::Dues::carried_after, remit_types::specs::Dues::scheduled_balance, custodial_book::specs::Rows::row_of, crate::specs::LoanDues::carried_to, crate::specs::Reports::lines_of, crate::specs::Reports::changes_of, crate::specs::World::loans_after, crate::specs::World::seals_after, crate::specs::World::after, crate::specs::World::world_from, crate::specs::Custody::remitted_for, crate::specs::Custody::dues_sum, crate::specs::Custody::is_settled, crate::specs::Custody::totals_of, crate::specs::Custody::rows_between, crate::specs::Custody::rows_from, crate::specs::Custody::custody_of, crate::specs::Refusals::refusal_of, crate::specs::Refusals::query_refusal, crate::specs::Judging::reply_of, crate::specs::Judging::known_from, crate::specs::Judging::judged, crate::specs::Answers::answer_to))]
+
 ghost use Rattle.std.specs.Prelude.{◌≡◌, ◌++◌, [], ◌∷◌, Some, None, pos, neg_ℤ};
 ghost use Rattle.custodial_book.specs.declared.part.Part.TheVariants as part;
+ghost use Rattle.svc_types.specs.declared.account.Designation.TheVariants as to;
 ghost use Rattle.svc_types.specs.declared.terms.RemitType.TheVariants as remit;
 ghost use Rattle.svc_types.specs.declared.escrow.SurplusPlan.TheVariants as surplus;
 ghost use Rattle.svc_types.specs.declared.faults.PlanFault.TheVariants as plan;
@@ -10,7 +13,7 @@ ghost use Rattle.svc_types.specs.declared.requests.Command.TheVariants as comman
 ghost use Rattle.svc_types.specs.declared.replies.Extra.TheVariants as extra;
 ghost use Rattle.svc_types.specs.declared.replies.Refusal.TheVariants as refusal;
 ghost use Rattle.svc_world.specs.Judging as judging;
-ghost use Rattle.svc_world.specs.WorkedLoans.{month_at, day_at, pays, history_of, refused_after, said_after, rows_after, pending_after, custody_after, left_after, taken_after, escrow_after, taken_on, first_paid, closed_to_march, remitted_to_march, paid_in_time, then_reversed, then_payoff_day, paid_off, paid_off_closed, paid_off_remitted, payoff_reversed, surplus_to, three_bills, bill_due, bill_paid, bill_covered, retyped_to, april_remitted};
+ghost use Rattle.svc_world.specs.WorkedLoans.{month_at, day_at, pays, pays_to, history_of, refused_after, said_after, rows_after, pending_after, custody_after, left_after, taken_after, escrow_after, taken_on, first_paid, closed_to_march, remitted_to_march, paid_in_time, then_reversed, then_payoff_day, paid_off, paid_off_closed, paid_off_remitted, payoff_reversed, surplus_to, three_bills, bill_due, bill_paid, bill_covered, retyped_to, april_remitted};
 
 /// One payment on its day, a cent too little, the cent after it; the same line again, and another under
 /// its key.
@@ -28,6 +31,27 @@ pub fn worked_first_payment()
         ≡ judging.Kept (record { number = 3; extra = extra.Plain }) }
     ensures reused { judging.judged (history_of (first_paid remit.SS)) (3 ∷ []) (pays (day_at 2024 2 1) (pos 119_911))
         ≡ judging.Refused (refusal.KeyReused 3) }
+{}
+
+/// What a payment leaves after the installment of its day goes where it is designated to.
+pub fn worked_designations()
+    ensures principal { left_after (taken_on remit.SS ++ pays_to (day_at 2024 2 1) (pos 169_910) to.Principal ∷ []) 1
+        ≡ Some (pos 19_930_090, 2, pos 0, pos 0) }
+    ensures principal_taken { taken_after (taken_on remit.SS ++ pays_to (day_at 2024 2 1) (pos 169_910) to.Principal ∷ []) 1
+        ≡ Some (pos 100_000, pos 4_167, pos 69_910) }
+    ensures principal_rows { rows_after (taken_on remit.SS ++ pays_to (day_at 2024 2 1) (pos 169_910) to.Principal ∷ [])
+        ≡ (part.Received, pos 169_910) ∷ (part.Collected, pos 169_910) ∷ (part.Fee, pos 4_167) ∷ [] }
+    ensures escrow { escrow_after (taken_on remit.SS ++ pays_to (day_at 2024 2 1) (pos 169_910) to.Escrow ∷ []) 1 ≡ Some (pos 50_000) }
+    ensures escrow_left { left_after (taken_on remit.SS ++ pays_to (day_at 2024 2 1) (pos 169_910) to.Escrow ∷ []) 1
+        ≡ Some (pos 19_980_090, 2, pos 0, pos 0) }
+    ensures regular { left_after (taken_on remit.SS ++ pays (day_at 2024 2 1) (pos 169_910) ∷ []) 1
+        ≡ Some (pos 19_980_090, 2, pos 50_000, pos 0) }
+    ensures two_installments { left_after (taken_on remit.SS ++ pays_to (day_at 2024 2 1) (pos 239_820) to.Principal ∷ []) 1
+        ≡ Some (pos 19_860_180, 2, pos 0, pos 0) }
+    ensures two_regular { left_after (taken_on remit.SS ++ pays (day_at 2024 2 1) (pos 239_820) ∷ []) 1
+        ≡ Some (pos 19_960_080, 3, pos 0, pos 0) }
+    ensures too_little { left_after (taken_on remit.SS ++ pays_to (day_at 2024 2 1) (pos 50_000) to.Principal ∷ []) 1
+        ≡ Some (pos 20_000_000, 1, pos 50_000, pos 0) }
 {}
 
 /// A late charge is owed from the end of the grace on.
