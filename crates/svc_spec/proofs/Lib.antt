@@ -14,3 +14,4 @@ pub mod CostLemmas
 pub mod TotalLemmas
 pub mod TimeLemmas
 pub mod RiseLemmas
+pub mod FloorLemmas

@@ -1,0 +1,3 @@
+pub mod SumsWithin
+pub mod HoldingLemmas
+pub mod LimitedLemmas

@@ -47,7 +47,6 @@ IsNamedAct (Analyse s) = IsNamedRefund s.refund
 pub record IsLimited (a : Account) : Type 0 where
   pub account : IsAccount a
   pub named : All (λ (e : Entry). IsNamedAct e.act) a.entries
-  pub refunds : pos 0 ≤ℤ refunded a
   pub covered : refunded a ≤ℤ received a
 
 -- a loan after n commands, on a business day
