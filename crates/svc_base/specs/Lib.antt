@@ -3,3 +3,4 @@ pub mod Money
 pub mod DayFields
 pub mod DayLemmas
 pub mod Text
+pub mod EscrowMonths
