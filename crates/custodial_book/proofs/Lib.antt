@@ -1,1 +1,2 @@
+pub mod CashLemmas
 pub mod RowLemmas

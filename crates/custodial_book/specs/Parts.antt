@@ -9,7 +9,9 @@ use Rattle.custodial_book.specs.declared.part.Part.TheVariants.{Received, Return
 
 -- the parts in the order of a command's rows
 abbrev pub parts : List Part
-parts = Received ∷ Returned ∷ Refunded ∷ Disbursed ∷ Collected ∷ Fee ∷ Late ∷ PiAdvance ∷ EscrowAdvance ∷ Remitted ∷ Residual ∷ []
+parts =
+    Received ∷ Returned ∷ Refunded ∷ Disbursed ∷ Collected ∷ Fee ∷ Late ∷ PiAdvance ∷ EscrowAdvance ∷
+    Remitted ∷ Residual ∷ []
 
 -- who pays
 abbrev pub paid_from : Part → Party

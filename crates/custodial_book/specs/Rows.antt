@@ -3,6 +3,7 @@ use Rattle.std.specs.Prelude.{◌≡◌, ℕ, ◌<◌, ◌-◌, ◌⊎◌, ℤ, 
 use Rattle.std.specs.List.{filter_map}
 use Rattle.std.specs.Ordering.{int_eq}
 use Rattle.custodial_book.specs.declared.part.Account.{Account}
+use Rattle.custodial_book.specs.declared.part.Account.TheVariants.{T, P}
 use Rattle.custodial_book.specs.declared.part.Part.{Part}
 use Rattle.custodial_book.specs.declared.part.Part.TheVariants.{Received, Returned, Refunded, Disbursed, Collected, Fee, Late, PiAdvance, EscrowAdvance, Remitted, Residual}
 use Rattle.custodial_book.specs.declared.row.Row.{Row}
@@ -27,7 +28,13 @@ total_of t Residual = t.residual
 unfoldable pub row_of : ℕ → ℕ → Totals → Totals → Part → Option Row
 row_of number loan before after part =
     if int_eq (total_of after part -ℤ total_of before part) (pos 0) then None
-    else Some (record { number = number; loan = loan; part = part; cents = total_of after part -ℤ total_of before part })
+    else
+    Some (record {
+      number = number;
+      loan = loan;
+      part = part;
+      cents = total_of after part -ℤ total_of before part;
+    })
 
 -- a command's rows for a loan: one for each total that differs, in the order of the parts
 abbrev pub rows_of : ℕ → ℕ → Totals → Totals → List Row
@@ -46,11 +53,25 @@ cents_of rows = fold ◌+ℤ◌ (pos 0) (map (λ row. row.cents) rows)
 -- the balance of an account: the rows into it less those out of it
 unfoldable pub balance_of : Account → List Row → ℤ
 balance_of account rows =
-    cents_of (filter (λ row. is_account account (paid_to row.part)) rows) -ℤ cents_of (filter (λ row. is_account account (paid_from row.part)) rows)
+    cents_of (filter (λ row. is_account account (paid_to row.part)) rows)
+    -ℤ cents_of (filter (λ row. is_account account (paid_from row.part)) rows)
+
+-- what an account holds of a loan's totals: what they brought into it less what they took out
+abbrev pub cash_of : Account → Totals → ℤ
+cash_of T t =
+    (t.received +ℤ t.escrow_advance) -ℤ (t.returned +ℤ t.refunded +ℤ t.disbursed +ℤ t.collected +ℤ t.late)
+cash_of P t = (t.collected +ℤ t.pi_advance) -ℤ (t.fee +ℤ t.remitted +ℤ t.residual)
+
+-- the balance of an account after a change of a loan's totals, from the rows before it
+abbrev pub balance_with : Account → List Row → Totals → Totals → ℤ
+balance_with account rows before after =
+    (balance_of account rows +ℤ cash_of account after) -ℤ cash_of account before
 
 -- what a row of that part and those cents brings into an account
 unfoldable pub moved : Account → Part → ℤ → ℤ
-moved account part cents = (if is_account account (paid_to part) then cents else pos 0) -ℤ (if is_account account (paid_from part) then cents else pos 0)
+moved account part cents =
+    (if is_account account (paid_to part) then cents else pos 0)
+    -ℤ (if is_account account (paid_from part) then cents else pos 0)
 
 -- a total that a loan may have
 abbrev pub IsTotal : ℤ → Type 0

@@ -1,8 +1,9 @@
 //! The book of custodial rows.
 
-ghost use Rattle.std.specs.Prelude.{◌≡◌, ◌+◌, ◌<◌, ◌≤◌, ◌+ℤ◌, ◌-ℤ◌, pos, neg_ℤ, map, [], ◌∷◌, ◌++◌, length, vec_len, vec_capacity, OnOk, OnErr, IsOk, IfSome};
+ghost use Rattle.std.specs.Prelude.{◌≡◌, ◌+◌, ◌/◌, ◌<◌, ◌≤◌, max, ◌+ℤ◌, ◌-ℤ◌, pos, neg_ℤ, map, [], ◌∷◌, ◌++◌, length, vec_len, vec_capacity, OnOk, OnErr, IsOk, IfSome};
 ghost use Rattle.std.specs.List.Sorted.{IsNonDecreasingBy};
-ghost use Rattle.custodial_book.specs.Rows.{balance_of, row_of, rows_of, rows_of_command, AreTotals, IsBalance, IsChange, IsRunning, ComesNext, cents_by_part};
+ghost use Rattle.custodial_book.specs.declared.part.Account.{Account as AnyAccount};
+ghost use Rattle.custodial_book.specs.Rows.{balance_of, balance_with, cash_of, row_of, rows_of, rows_of_command, AreTotals, IsBalance, IsChange, IsRunning, ComesNext, cents_by_part};
 ghost use Rattle.custodial_book.specs.Rows as rule;
 ghost use Rattle.custodial_book.specs.Kept.{IsBook};
 ghost use Rattle.custodial_book.specs.WorkedTotals.{no_totals, paid, remitted_once, remitted_ahead, paid_off, payoff_remitted, payoff_reversed, deposited, disbursed_beyond, advance_recovered, another_deposited};
@@ -28,7 +29,10 @@ impl Model for Book {
 
     ghost Value = { Kept };
 
-    ghost view = { λ b. record { rows = b.entries.items; spare = vec_capacity b.entries - vec_len b.entries } };
+    ghost view = { λ b. record {
+      rows = b.entries.items;
+      spare = vec_capacity b.entries - vec_len b.entries;
+    } };
 
     ghost invariant = { λ b. IsBook b.entries.items b.t b.p };
 }
@@ -45,19 +49,21 @@ impl Book {
         }
     }
 
-    /// Makes room for so many rows; fails for want of memory alone.
+    /// Makes room for so many rows; fails for want of memory alone. A book grows by an eighth at
+    /// most beyond what is asked, so that a large one never doubles.
     pub fn reserve(&mut self, rows: u32) -> Result<(), OutOfMemory>
         ensures kept { self.new.rows ≡ self.old.rows }
         ensures ok { OnOk result (rows ≤ self.new.spare) }
         ensures never_less { self.old.spare ≤ self.new.spare }
         ensures succeeds { rows ≤ self.old.spare → IsOk result }
+        ensures growth { self.new.spare ≤ max self.old.spare (max rows (length self.old.rows / 8)) }
     {
-        self.entries.reserve(rows as usize)?;
-        Ok(())
+        make_room(&mut self.entries, rows as usize)
     }
 
     /// Adds the rows of a command for a loan: what each of its totals changed by, in the order of
-    /// the parts. Fails for want of memory alone.
+    /// the parts. Each balance moves by what the account's cash of the loan changed by. Fails for
+    /// want of memory alone.
     pub fn append(
         &mut self,
         number: u32,
@@ -68,14 +74,17 @@ impl Book {
         requires next { ComesNext number loan self.old.rows }
         requires before { AreTotals before.now }
         requires after { AreTotals after.now }
-        requires t { IsBalance (balance_of Account.T (self.old.rows ++ rows_of number loan before.now after.now)) }
-        requires p { IsBalance (balance_of Account.P (self.old.rows ++ rows_of number loan before.now after.now)) }
+        requires t { IsBalance (balance_with Account.T self.old.rows before.now after.now) }
+        requires p { IsBalance (balance_with Account.P self.old.rows before.now after.now) }
         ensures ok { OnOk result (self.new.rows ≡ self.old.rows ++ rows_of number loan before.now after.now) }
+        ensures balances { OnOk result ((account : AnyAccount) →
+            balance_of account self.new.rows ≡ balance_with account self.old.rows before.now after.now) }
         ensures err { OnErr result (self.new.rows ≡ self.old.rows) }
         ensures succeeds { 11 ≤ self.old.spare → IsOk result }
         ensures spare { self.old.spare + length self.old.rows ≤ self.new.spare + length self.new.rows }
+        ensures growth { self.new.spare ≤ max self.old.spare (max 11 (length self.old.rows / 8)) }
     {
-        self.entries.reserve(Part::ALL.len())?;
+        make_room(&mut self.entries, Part::ALL.len())?;
         add_changes(
             &mut self.entries,
             &mut self.t,
@@ -112,18 +121,47 @@ impl Book {
 /// Rows and balances worked out by hand, by the definitions alone. It does nothing.
 #[tactic(auto, unfolding(crate::specs::Rows::row_of, crate::specs::Rows::balance_of))]
 pub fn worked_rows()
-    ensures first_payment { map cents_by_part (rows_of 3 1 no_totals paid) ≡ (Part.Received, pos 119910) ∷ (Part.Collected, pos 119910) ∷ (Part.Fee, pos 4167) ∷ [] }
-    ensures remitted_ahead { map cents_by_part (rows_of 12 1 remitted_once remitted_ahead) ≡ (Part.PiAdvance, pos 115747) ∷ (Part.Remitted, pos 115747) ∷ [] }
+    ensures first_payment { map cents_by_part (rows_of 3 1 no_totals paid)
+        ≡ (Part.Received, pos 119910) ∷ (Part.Collected, pos 119910) ∷ (Part.Fee, pos 4167) ∷ [] }
+    ensures remitted_ahead { map cents_by_part (rows_of 12 1 remitted_once remitted_ahead)
+        ≡ (Part.PiAdvance, pos 115747) ∷ (Part.Remitted, pos 115747) ∷ [] }
     ensures held_between { balance_of Account.P (rows_of 3 1 no_totals paid) ≡ pos 115743 }
-    ensures held_at_last { balance_of Account.P (rows_of 3 1 no_totals paid ++ rows_of 11 1 paid remitted_once ++ rows_of 12 1 remitted_once remitted_ahead) ≡ pos 0 }
+    ensures cash_between { cash_of Account.P paid ≡ pos 115743 }
+    ensures held_at_last { balance_of Account.P (rows_of 3 1 no_totals paid ++ rows_of 11 1 paid remitted_once
+        ++ rows_of 12 1 remitted_once remitted_ahead) ≡ pos 0 }
 
-    ensures payoff_remitted { map cents_by_part (rows_of 12 1 paid_off payoff_remitted) ≡ (Part.Remitted, pos 20095833) ∷ (Part.Residual, pos 47869) ∷ [] }
-    ensures payoff_reversed { map cents_by_part (rows_of 13 1 payoff_remitted payoff_reversed) ≡ (Part.Returned, pos 20030040) ∷ (Part.Collected, neg_ℤ (pos 20030040)) ∷ (Part.Fee, neg_ℤ (pos 2081)) ∷ (Part.PiAdvance, pos 19980090) ∷ (Part.Residual, neg_ℤ (pos 47869)) ∷ [] }
+    ensures payoff_remitted { map cents_by_part (rows_of 12 1 paid_off payoff_remitted)
+        ≡ (Part.Remitted, pos 20095833) ∷ (Part.Residual, pos 47869) ∷ [] }
+    ensures payoff_reversed { map cents_by_part (rows_of 13 1 payoff_remitted payoff_reversed)
+        ≡ (Part.Returned, pos 20030040) ∷ (Part.Collected, neg_ℤ (pos 20030040)) ∷
+        (Part.Fee, neg_ℤ (pos 2081)) ∷ (Part.PiAdvance, pos 19980090) ∷
+        (Part.Residual, neg_ℤ (pos 47869)) ∷ [] }
 
-    ensures disbursed_beyond { map cents_by_part (rows_of 7 2 deposited disbursed_beyond) ≡ (Part.Disbursed, pos 200000) ∷ (Part.EscrowAdvance, pos 50000) ∷ [] }
-    ensures advance_recovered { map cents_by_part (rows_of 8 2 disbursed_beyond advance_recovered) ≡ (Part.Received, pos 60000) ∷ (Part.EscrowAdvance, neg_ℤ (pos 50000)) ∷ [] }
-    ensures covered { balance_of Account.T (rows_of 5 2 no_totals deposited ++ rows_of 6 3 no_totals another_deposited ++ rows_of 7 2 deposited disbursed_beyond) ≡ pos 30000 }
+    ensures disbursed_beyond { map cents_by_part (rows_of 7 2 deposited disbursed_beyond)
+        ≡ (Part.Disbursed, pos 200000) ∷ (Part.EscrowAdvance, pos 50000) ∷ [] }
+    ensures advance_recovered { map cents_by_part (rows_of 8 2 disbursed_beyond advance_recovered)
+        ≡ (Part.Received, pos 60000) ∷ (Part.EscrowAdvance, neg_ℤ (pos 50000)) ∷ [] }
+    ensures covered { balance_of Account.T (rows_of 5 2 no_totals deposited
+        ++ rows_of 6 3 no_totals another_deposited ++ rows_of 7 2 deposited disbursed_beyond) ≡ pos 30000 }
+    ensures cash_covered { cash_of Account.T disbursed_beyond ≡ pos 0 }
 {}
+
+/// Makes room for so many rows in steps of an eighth of those that are there.
+fn make_room(entries: &mut Vec<Row>, rows: usize) -> Result<(), OutOfMemory>
+    ensures items { entries.new.items ≡ entries.old.items }
+    ensures len { vec_len entries.new ≡ vec_len entries.old }
+    ensures ok { OnOk result (vec_len entries.old + rows ≤ vec_capacity entries.new) }
+    ensures never_less { vec_capacity entries.old ≤ vec_capacity entries.new }
+    ensures succeeds { vec_len entries.old + rows ≤ vec_capacity entries.old → IsOk result }
+    ensures growth { vec_capacity entries.new
+        ≤ max (vec_capacity entries.old) (vec_len entries.old + max rows (vec_len entries.old / 8)) }
+{
+    let len = entries.len();
+    if entries.capacity() - len < rows {
+        entries.reserve_exact(rows.max(len / 8))?;
+    }
+    Ok(())
+}
 
 /// Adds a row for each total that changed, and what it moves to the balances t and p.
 fn add_changes(
@@ -175,7 +213,7 @@ fn change(number: u32, loan: u32, part: Part, before: &Totals, after: &Totals) -
     }
 }
 
-/// Adds a row behind the others, and what it moves to the balances t and p.
+/// Adds a row after the others, and what it moves to the balances t and p.
 fn add_row(entries: &mut Vec<Row>, t: &mut Cents, p: &mut Cents, row: Row)
     requires room { vec_len entries.old < vec_capacity entries.old }
     requires change { IsChange row.cents }

@@ -6,11 +6,6 @@ use Rattle.std.specs.Prelude.{ℕ, ◌*◌, ◌/◌, ℤ, pos, ◌+ℤ◌, ◌-�
 abbrev pub months : List ℕ
 months = 1 ∷ 2 ∷ 3 ∷ 4 ∷ 5 ∷ 6 ∷ 7 ∷ 8 ∷ 9 ∷ 10 ∷ 11 ∷ 12 ∷ []
 
--- what one month may pay out: 16 bills of ten thousand million cents at most
-pub record IsMonthPaid (paid : ℤ) : Type 0 where
-  pub low : pos 0 ≤ℤ paid
-  pub high : paid ≤ℤ pos 160_000_000_000
-
 -- what is paid out in all of these months
 abbrev pub total : List ℤ → ℤ
 total year = fold ◌+ℤ◌ (pos 0) year

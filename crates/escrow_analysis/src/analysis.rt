@@ -1,7 +1,8 @@
 //! The analysis of a computation year.
 
 ghost use Rattle.std.specs.Prelude.{◌≡◌, ℕ, ◌*◌, ◌/◌, ◌≤◌, ℤ, pos, ◌+ℤ◌, ◌-ℤ◌, ◌≤ℤ◌, neg_ℤ, unsigned_abs, List, map, All};
-ghost use Rattle.escrow_analysis.specs.AggregateAnalysis.{IsMonthPaid, IsBalance, IsLeastOpening, months, total, balance_after};
+ghost use Rattle.svc_base.specs.EscrowMonths.{IsMonthPaid};
+ghost use Rattle.escrow_analysis.specs.AggregateAnalysis.{IsBalance, IsLeastOpening, months, total, balance_after};
 ghost use Rattle.escrow_analysis.specs.AggregateAnalysis as rule;
 ghost use Rattle.escrow_analysis.specs.WorkedYears.{three_bills, one_bill};
 
@@ -108,7 +109,8 @@ fn least_opening(trial: &[Cents; 12], cushion: u64) -> u64
     ensures above_cushion { cushion ≤ result }
     ensures high { result ≤ 2_240_000_000_000 }
     ensures keeps { All (λ balance. pos cushion ≤ℤ (pos result +ℤ balance)) trial.now }
-    ensures least { (other : ℤ) → pos cushion ≤ℤ other → All (λ balance. pos cushion ≤ℤ (other +ℤ balance)) trial.now → pos result ≤ℤ other }
+    ensures least { (other : ℤ) → pos cushion ≤ℤ other →
+        All (λ balance. pos cushion ≤ℤ (other +ℤ balance)) trial.now → pos result ≤ℤ other }
 {
     let mut opening = cushion;
     for balance in trial {

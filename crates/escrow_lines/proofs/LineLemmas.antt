@@ -1,17 +1,22 @@
 -- How the list of lines goes on when a line is set or dropped.
-use Rattle.std.proofs.Common.{◌≡◌, ℕ, suc, ◌+◌, ◌<◌, ◌≤◌, Bool, true, false, cond, not, ◌||◌, eqb, ltb, List, [], ◌∷◌, ◌++◌, length, set, take, drop, Option, Some, None, arith, refl, ap, sym, ◌∙◌, pos, ◌+ℤ◌, map, fold, get_or, ◌&&◌, take_all, eq-eqb, if◌then◌else◌}
+use Rattle.std.proofs.Common.{◌≡◌, ℕ, zero, suc, IsTrue, ◌+◌, ◌<◌, ◌≤◌, Bool, true, false, cond, not, ◌||◌, eqb, ltb, List, [], ◌∷◌, ◌++◌, length, set, take, drop, Option, Some, None, arith, refl, ap, sym, ◌∙◌, pos, ◌+ℤ◌, map, fold, get_or, ◌&&◌, take_all, eq-eqb, if◌then◌else◌}
 use Rattle.std.specs.List.{list_any, position, position_or_len, remove}
 use Rattle.escrow_lines.specs.declared.line.Line.{Line}
 use Rattle.std.specs.List.{All, refill}
 use Rattle.std.specs.Option.{option_map_or}
 use Rattle.escrow_lines.specs.declared.line.EscrowLineFault.TheVariants.{BadLine, Full}
 use Rattle.svc_types.specs.declared.faults.LineWhy.{LineWhy}
-use Rattle.escrow_lines.specs.Bills.{line_fault}
+use Rattle.escrow_lines.specs.Bills.{is_period, line_fault}
 use Rattle.std.proofs.lemmas.List.{take-append-le, take_more, map-append}
 use Rattle.std.proofs.lemmas.List.Sums.{fold_push, length-filter, count_by-le-length}
 use Rattle.std.proofs.lemmas.List.Elements.{All-nil, All-cons, All-head, All-tail, All-filter}
 use Rattle.escrow_lines.specs.Bills.{IsBill, cents_in}
 use Rattle.escrow_lines.specs.BillLists.{has_id, with_line, without_line, HasDistinctIds, AreLines, month_total, full_fault, set_fault}
+
+-- a period is a month or more
+pub period_low : (n : ℕ) → IsTrue (is_period n) → 1 ≤ n
+period_low zero h = absurd (cc)
+period_low (suc n) h = omega arith
 
 found_at : (b : Bool) (k place : ℕ) → Some place ≡ cond b (Some k) None → (b ≡ true) × (k ≡ place)
 found_at true k place e = (refl, cc)

@@ -26,7 +26,7 @@ abbrev pub HasDistinctIds : List Line → Type 0
 HasDistinctIds [] = Unit {0}
 HasDistinctIds (line ∷ lines) = (list_any (has_id line.id) lines ≡ false) × HasDistinctIds lines
 
--- the lines that a loan may have
+-- the lines that a loan may have: 16 at most, with distinct ids, and nothing is wrong with any
 pub record AreLines (lines : List Line) : Type 0 where
   pub few : length lines ≤ 16
   pub bills : All IsBill lines
@@ -42,7 +42,8 @@ year_of lines first = map (λ k. month_total lines (number_in_year (first + k)))
 
 -- why a line that is right cannot be set: there are 16 lines, and none has its id
 abbrev pub full_fault : Line → List Line → Option EscrowLineFault
-full_fault line lines = if length lines == 16 && not (list_any (has_id line.id) lines) then Some Full else None
+full_fault line lines =
+    if length lines == 16 && not (list_any (has_id line.id) lines) then Some Full else None
 
 -- why a line cannot be set, if it cannot
 abbrev pub set_fault : Line → List Line → Option EscrowLineFault

@@ -1,5 +1,5 @@
 -- One escrow line: a bill of some months of each year (12 CFR 1024.17(b), disbursements).
-use Rattle.std.specs.Prelude.{ℕ, ◌+◌, ◌-◌, ◌%◌, ◌≤◌, ◌==◌, ◌||◌, ◌&&◌, not, Bool, ℤ, pos, ◌≤ℤ◌, int_le, nat_le, if◌then◌else◌, [], ◌∷◌, Option}
+use Rattle.std.specs.Prelude.{ℕ, ◌+◌, ◌-◌, ◌%◌, ◌≤◌, ◌==◌, ◌||◌, ◌&&◌, not, Bool, IsTrue, ℤ, pos, ◌≤ℤ◌, int_le, nat_le, if◌then◌else◌, [], ◌∷◌, Option}
 use Rattle.std.specs.List.{find}
 use Rattle.svc_types.specs.declared.faults.LineWhy.{LineWhy}
 use Rattle.svc_types.specs.declared.faults.LineWhy.TheVariants.{Amount, MonthRange, Every}
@@ -19,11 +19,13 @@ is_right line Every = is_period line.every
 abbrev pub line_fault : Line → Option LineWhy
 line_fault line = find (λ why. not (is_right line why)) (Amount ∷ MonthRange ∷ Every ∷ [])
 
--- a line that may be kept
+-- a line that may be kept: nothing is wrong with it
 pub record IsBill (line : Line) : Type 0 where
-  pub cents_low : pos 0 ≤ℤ line.cents
+  pub cents_low : pos 1 ≤ℤ line.cents
   pub cents_high : line.cents ≤ℤ pos 10_000_000_000
-  pub every : 1 ≤ line.every
+  pub month_low : 1 ≤ line.month
+  pub month_high : line.month ≤ 12
+  pub every : IsTrue (is_period line.every)
 
 -- how many months lie between two months of a year
 abbrev pub months_apart : ℕ → ℕ → ℕ

@@ -1,9 +1,10 @@
 //! The escrow lines of a loan.
 
-ghost use Rattle.std.specs.Prelude.{◌≡◌, ◌+◌, ◌*◌, ◌<◌, ◌≤◌, ℤ, pos, ◌≤ℤ◌, [], find, position, length, true, false, All, MatchResult, OnOk, OnErr};
+ghost use Rattle.std.specs.Prelude.{◌≡◌, ◌+◌, ◌*◌, ◌<◌, ◌≤◌, ℤ, pos, ◌≤ℤ◌, [], find, position, length, true, false, IsTrue, ◌↔◌, All, MatchResult, OnOk, OnErr};
 ghost use Rattle.std.specs.List.{list_any};
+ghost use Rattle.svc_base.specs.EscrowMonths.{IsMonthPaid};
 ghost use Rattle.escrow_lines.specs.Bills.{IsBill};
-ghost use Rattle.escrow_lines.specs.BillLists.{has_id, with_line, without_line, set_fault, month_total, year_of};
+ghost use Rattle.escrow_lines.specs.BillLists.{AreLines, has_id, with_line, without_line, set_fault, month_total, year_of};
 ghost use Rattle.escrow_lines.specs.BillLists as rule;
 
 use crate::line::{EscrowLineFault, Line};
@@ -39,10 +40,26 @@ impl Lines {
         }
     }
 
-    /// Puts a line in the place of the one with its id, or behind the others. There is room for
+    /// How many lines there are: 16 at most, with distinct ids, and nothing is wrong with any.
+    pub fn len(&self) -> usize
+        ensures value { result ≡ length self.now }
+        ensures lines { AreLines self.now }
+    {
+        self.kept.len()
+    }
+
+    /// Whether there are none.
+    pub fn is_empty(&self) -> bool
+        ensures { IsTrue result ↔ (self.now ≡ []) }
+    {
+        self.kept.is_empty()
+    }
+
+    /// Puts a line in the place of the one with its id, or after the others. There is room for
     /// 16 lines.
     pub fn set(&mut self, line: Line) -> Result<(), EscrowLineFault>
-        ensures fault { MatchResult result (λ _. set_fault line self.old ≡ None) (λ fault. set_fault line self.old ≡ Some fault) }
+        ensures fault { MatchResult result (λ _. set_fault line self.old ≡ None)
+            (λ fault. set_fault line self.old ≡ Some fault) }
         ensures ok { OnOk result (self.new ≡ with_line line self.old) }
         ensures err { OnErr result (self.new ≡ self.old) }
     {
@@ -59,7 +76,8 @@ impl Lines {
 
     /// Takes out the line with that id.
     pub fn drop_line(&mut self, id: u32) -> Result<(), EscrowLineFault>
-        ensures fault { MatchResult result (λ _. list_any (has_id id) self.old ≡ true) (λ fault. (fault ≡ EscrowLineFault.NoSuchLine) × (list_any (has_id id) self.old ≡ false)) }
+        ensures fault { MatchResult result (λ _. list_any (has_id id) self.old ≡ true)
+            (λ fault. (fault ≡ EscrowLineFault.NoSuchLine) × (list_any (has_id id) self.old ≡ false)) }
         ensures ok { OnOk result (self.new ≡ without_line id self.old) }
         ensures err { OnErr result (self.new ≡ self.old) }
     {
@@ -75,8 +93,7 @@ impl Lines {
     /// What the lines pay out in each of the 12 months that begin with that one, in cents.
     pub fn year(&self, from: Month) -> [Cents; 12]
         ensures value { result ≡ year_of self.now from }
-        ensures low { All (λ cents. pos 0 ≤ℤ cents) result }
-        ensures high { All (λ cents. cents ≤ℤ pos 160_000_000_000) result }
+        ensures months { All IsMonthPaid result }
     {
         let mut year = [0; 12];
         for k in 0..12 {
@@ -101,6 +118,7 @@ fn place_of(lines: &[Line], id: u32) -> Option<usize>
 }
 
 /// What the lines pay out in that month of the year, from 1.
+#[tactic(auto, using(crate::proofs::LineLemmas::period_low))]
 fn month_total(lines: &[Line], number: u32) -> Cents
     requires few { length lines.now ≤ 16 }
     requires bills { All IsBill lines.now }
@@ -140,6 +158,7 @@ mod tests {
         lines.set(tax(2, 9, 12, 36000))?;
         lines.set(tax(3, 12, 12, 70000))?;
         let july = Month::new(2024, 7);
+        assert!(rt; lines.len() == 3 && !lines.is_empty());
         assert_eq!(rt;
             lines.year(july),
             [50000, 0, 36000, 0, 0, 70000, 0, 0, 0, 0, 0, 0]
@@ -179,6 +198,7 @@ mod tests {
         }
         assert_eq!(rt; lines.set(tax(17, 1, 1, 1)), Err(EscrowLineFault::Full));
         assert_eq!(rt; lines.set(tax(16, 2, 1, 5)), Ok(()));
+        assert_eq!(rt; lines.len(), 16);
         assert_eq!(rt; lines.year(Month::new(2024, 1)), [20; 12]);
         Ok(())
     }

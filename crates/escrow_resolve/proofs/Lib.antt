@@ -1,2 +1,3 @@
 pub mod LawfulLemmas
 pub mod SettledFields
+pub mod LimitLemmas

@@ -1,3 +1,4 @@
 pub mod Parts
 pub mod Lawful
+pub mod Limits
 pub mod Settlement

@@ -1,6 +1,7 @@
 //! The faults of a plan, and what a lawful one settles.
 
 ghost use Rattle.std.specs.Prelude.{◌≡◌, ◌^◌, ◌<◌, pos, ◌≤ℤ◌, Some, None, IfOk, IfErr, OnOk};
+ghost use Rattle.escrow_resolve.specs.Limits.{IsWithinParts};
 ghost use Rattle.escrow_resolve.specs.Parts.{AreParts};
 ghost use Rattle.escrow_resolve.specs.Lawful as lawful;
 ghost use Rattle.escrow_resolve.specs.Settlement as settlement;
@@ -24,7 +25,8 @@ pub fn settle(
     requires base_high { base ≤ℤ pos (10 ^ 18) }
     ensures fault { IfErr result (λ fault. lawful.plan_fault split.now base current plan.now ≡ Some fault) }
     ensures lawful { OnOk result (lawful.plan_fault split.now base current plan.now ≡ None) }
-    ensures settled { IfOk result (λ settled. settled ≡ settlement.settled_plan split.now base start plan.now) }
+    ensures settled { IfOk result (λ it. it ≡ settlement.settled_plan split.now base start plan.now) }
+    ensures limits { IfOk result (IsWithinParts split.now) }
 {
     let surplus = surplus_fault(split.surplus, current, plan.surplus);
     let short = part_fault(PlanPart::Short, 12, base, split.short, plan.short);

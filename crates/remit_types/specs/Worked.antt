@@ -74,6 +74,10 @@ abbrev pub first_curtailed : RemitType → LoanMonth
 first_curtailed kind =
     loan_month kind (facts february (pos 19_880_090) (pos 100_000) (pos 100_000) (pos 4_167) false)
 
+-- the months to it
+abbrev pub to_curtailed : RemitType → List LoanMonth
+to_curtailed kind = first_curtailed kind ∷ boarding kind
+
 -- the first installment and the loan's payoff on 2024-02-16
 abbrev pub first_satisfied : RemitType → LoanMonth
 first_satisfied kind = loan_month kind (facts february (pos 0) (pos 0) (pos 149_950) (pos 6_248) true)
@@ -86,9 +90,12 @@ still_satisfied kind = loan_month kind (facts march (pos 0) (pos 0) (pos 0) (pos
 abbrev pub second_paid : RemitType → LoanMonth
 second_paid kind = loan_month kind (facts march (pos 19_960_080) (pos 0) (pos 99_900) (pos 4_163) false)
 
--- the months to the first installment, and to a second that is not paid
+-- the months to the first installment, to a second that is paid, and to one that is not
 abbrev pub to_february : RemitType → List LoanMonth
 to_february kind = first_paid kind (pos 4_167) ∷ boarding kind
+
+abbrev pub to_second_paid : RemitType → List LoanMonth
+to_second_paid kind = second_paid kind ∷ to_february kind
 
 abbrev pub to_march : RemitType → List LoanMonth
 to_march kind = unpaid kind march (pos 19_980_090) ∷ to_february kind

@@ -3,7 +3,7 @@
 ghost use Rattle.std.specs.Prelude.{◌≡◌, List, [], ◌∷◌, ◌-ℤ◌, pos, neg_ℤ};
 ghost use Rattle.svc_types.specs.declared.terms.RemitType.TheVariants as by;
 ghost use Rattle.remit_types.specs.Months.{due};
-ghost use Rattle.remit_types.specs.Worked.{january, february, march, april, may, loan, level, unpaid, boarding, first_paid, first_curtailed, first_satisfied, still_satisfied, second_paid, to_february, to_march, month_due};
+ghost use Rattle.remit_types.specs.Worked.{january, february, march, april, may, loan, level, unpaid, boarding, first_paid, first_curtailed, first_satisfied, still_satisfied, second_paid, to_curtailed, to_february, to_second_paid, to_march, month_due};
 
 /// What is due of a loan of 200,000.00, whatever is paid, by its schedule: nothing before the
 /// first due month, then interest on the investor's balance.
@@ -17,12 +17,12 @@ pub fn worked_scheduled_dues()
         ≡ month_due march (pos 95_737) (pos 20_010) (pos 19_960_080) }
     ensures curtailed { due (level by.SS) (first_curtailed by.SS) (boarding by.SS)
         ≡ month_due february (pos 95_833) (pos 119_910) (pos 19_880_090) }
-    ensures after_curtailment { due (level by.SS) (unpaid by.SS march (pos 19_880_090)) (first_curtailed by.SS ∷ boarding by.SS)
+    ensures after_curtailment { due (level by.SS) (unpaid by.SS march (pos 19_880_090)) (to_curtailed by.SS)
         ≡ month_due march (pos 95_258) (pos 20_510) (pos 19_859_580) }
     ensures paid_off { due (level by.SS) (first_satisfied by.SS) (boarding by.SS)
         ≡ month_due february (pos 95_833) (pos 20_000_000) (pos 0) }
-    ensures last_installment { due (loan by.SS 250 1) (unpaid by.SS february (pos 20_000_000)) (boarding by.SS)
-        ≡ month_due february (pos 95_833) (pos 20_000_000) (pos 0) }
+    ensures last_installment { due (loan by.SS 250 1) (unpaid by.SS february (pos 20_000_000))
+        (boarding by.SS) ≡ month_due february (pos 95_833) (pos 20_000_000) (pos 0) }
 {}
 
 /// The same loan's dues as collected: principal for both other types, and interest for one.
@@ -45,9 +45,10 @@ pub fn worked_actual_dues()
 pub fn worked_changes_of_type()
     ensures to_scheduled { due (level by.AA) (unpaid by.SA april (pos 19_980_090)) (to_march by.AA)
         ≡ month_due april (pos 191_474) (pos 0) (pos 19_980_090) }
-    ensures paid_late { due (level by.AA) (unpaid by.SA april (pos 19_960_080)) (second_paid by.AA ∷ to_february by.AA)
+    ensures paid_late { due (level by.AA) (unpaid by.SA april (pos 19_960_080)) (to_second_paid by.AA)
         ≡ month_due april (pos 95_642) (pos 0) (pos 19_960_080) }
-    ensures paid_late_changes { (due (level by.AA) (unpaid by.SA april (pos 19_960_080)) (second_paid by.AA ∷ to_february by.AA)).interest
+    ensures paid_late_changes { (due (level by.AA) (unpaid by.SA april (pos 19_960_080))
+        (to_second_paid by.AA)).interest
         -ℤ (due (level by.AA) (unpaid by.SA april (pos 19_980_090)) (to_march by.AA)).interest
         ≡ neg_ℤ (pos 95_832) }
     ensures to_actual { due (level by.AA) (unpaid by.AA may (pos 19_980_090))

@@ -4,3 +4,4 @@ pub mod DayFields
 pub mod DayLemmas
 pub mod Text
 pub mod Sums
+pub mod EscrowMonths

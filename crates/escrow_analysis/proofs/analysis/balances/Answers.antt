@@ -2,7 +2,8 @@ use Rattle.std.proofs.Common.{rules, ◌≡◌, ℤ, pos, ◌+ℤ◌, ◌-ℤ◌
 use Rattle.std.proofs.lemmas.Int.{ints}
 use Rattle.std.proofs.lemmas.List.Elements.{All-from_get_or}
 use Rattle.std.proofs.lemmas.List.FromFn.{fill_by_all}
-use Rattle.escrow_analysis.specs.AggregateAnalysis.{IsMonthPaid, IsBalance, balance_after}
+use Rattle.svc_base.specs.EscrowMonths.{IsMonthPaid}
+use Rattle.escrow_analysis.specs.AggregateAnalysis.{IsBalance, balance_after}
 use Rattle.escrow_analysis.proofs.Balances.{balance_step}
 use Rattle.escrow_analysis.proofs.analysis.balances.Goals as goal
 

@@ -1,6 +1,6 @@
 use Rattle.std.proofs.Common.{◌<◌, pos, length, get_or, arith, rules}
 use Rattle.std.proofs.lemmas.Int.{ints}
-use Rattle.escrow_analysis.specs.AggregateAnalysis.{IsMonthPaid}
+use Rattle.svc_base.specs.EscrowMonths.{IsMonthPaid}
 use Rattle.escrow_analysis.proofs.Balances.{total_more}
 use Rattle.escrow_analysis.proofs.analysis.total_of.Goals as goal
 

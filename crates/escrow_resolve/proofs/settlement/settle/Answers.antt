@@ -1,8 +1,11 @@
-use Rattle.std.proofs.Common.{◌≡◌, ◌≤◌, None, rules, arith, sym, ◌∙◌, SFits, w64}
+use Rattle.std.proofs.Common.{◌≡◌, ◌≤◌, None, rules, arith, sym, ◌∙◌, subst, SFits, w64}
 use Rattle.std.specs.Option.{option_or}
 use Rattle.std.proofs.lemmas.Int.{to_z-of_z}
 use Rattle.svc_types.specs.declared.escrow.PlanPart.TheVariants.{Short, Deficient}
 use Rattle.escrow_resolve.proofs.LawfulLemmas.{plan_fault-is, or-none, IsSpread-lawful}
+use Rattle.escrow_resolve.specs.Lawful.{plan_fault}
+use Rattle.escrow_resolve.specs.Limits.{IsWithinParts}
+use Rattle.escrow_resolve.proofs.LimitLemmas.{settled_plan-within}
 use Rattle.escrow_resolve.proofs.settlement.settle.Goals as goal
 
 pub settled_plan-requires-clause-short : goal.settled_plan-requires-clause-short
@@ -46,3 +49,17 @@ returns-in-None-clause-lawful c =
     let deficient = simp to_z-of_z at c.part_fault-deficient.ensures in
     let is = plan_fault-is c.args.split.now c.args.base c.args.current c.args.plan.now in
     cc
+
+pub returns-in-None-clause-limits : goal.returns-in-None-clause-limits
+returns-in-None-clause-limits c =
+    let fits : SFits w64 c.args.split.now.surplus = search rules in
+    let fits' : SFits w64 c.args.split.now.short = search rules in
+    let fits'' : SFits w64 c.args.split.now.deficient = search rules in
+    let base = c.ranges.base in
+    let surplus = simp to_z-of_z at c.surplus_fault-surplus.ensures in
+    let short = simp to_z-of_z at c.part_fault-short.ensures in
+    let deficient = simp to_z-of_z at c.part_fault-deficient.ensures in
+    let is = plan_fault-is c.args.split.now c.args.base c.args.current c.args.plan.now in
+    let lawful : plan_fault c.args.split.now c.args.base c.args.current c.args.plan.now ≡ None = cc in
+    let settled = simp to_z-of_z at c.settled_plan.ensures in
+    subst (IsWithinParts c.args.split.now) (sym settled) (settled_plan-within c.args.split.now c.args.base c.args.current c.args.start c.args.plan.now c.requires.parts lawful)

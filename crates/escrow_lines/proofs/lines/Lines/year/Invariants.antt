@@ -1,4 +1,5 @@
-use Rattle.std.proofs.Common.{◌≡◌, ℕ, ◌+◌, ◌<◌, length, get_or, pos, ◌≤ℤ◌}
+use Rattle.std.proofs.Common.{◌≡◌, ℕ, ◌+◌, ◌<◌, length, get_or, pos}
+use Rattle.svc_base.specs.EscrowMonths.{IsMonthPaid}
 use Rattle.svc_base.specs.Calendar.{number_in_year}
 use Rattle.escrow_lines.specs.BillLists.{month_total}
 use Rattle.escrow_lines.proofs.lines.Lines.year.Given as goal
@@ -7,6 +8,5 @@ abbrev pub invariant-loop-k : goal.invariant-loop-k
 invariant-loop-k l = record {
   twelve : length l.year ≡ 12;
   written : (j : ℕ) → j < l.k → get_or l.year j (pos 0) ≡ month_total l.self (number_in_year (l.from + j));
-  low : (j : ℕ) → j < l.k → pos 0 ≤ℤ get_or l.year j (pos 0);
-  high : (j : ℕ) → j < l.k → get_or l.year j (pos 0) ≤ℤ pos 160_000_000_000;
+  months : (j : ℕ) → j < l.k → IsMonthPaid (get_or l.year j (pos 0));
 }
