@@ -9,7 +9,7 @@ use std::marker::Brand;
 use std::sync::ledger::{Blank, Ledger};
 use std::test::Fail;
 use svc_base::{Cents, Day, Month, Steps};
-use svc_types::{Act, Books, Entry, MonthFacts, RemitType, Terms};
+use svc_types::{Act, Books, Designation, Entry, MonthFacts, RemitType, Terms};
 
 /// A day before the 29th, of a year from 1990 to 2099.
 #[tactic(auto, using(svc_base::specs::DayLemmas::month_length_least))]
@@ -51,12 +51,12 @@ pub(crate) fn loan() -> Terms
 fn payment(number: u32, day: Day) -> Entry
     ensures number { result.number ≡ number }
     ensures day { result.day ≡ day }
-    ensures act { result.act ≡ Act.Pay (pos 119_910) }
+    ensures act { result.act ≡ Act.Pay (pos 119_910) Designation.Regular }
 {
     Entry {
         number,
         day,
-        act: Act::Pay(119_910),
+        act: Act::Pay(119_910, Designation::Regular),
     }
 }
 
@@ -95,7 +95,7 @@ fn row_of(books: &Books) -> Row {
     }
 }
 
-/// One payment on its day, and one of March that is entered in April: the books before and behind
+/// One payment on its day, and one of March that is entered in April: the books before and after
 /// it, those of the day before its own, and the facts of March.
 fn late_payment<B: LoanBooks, L: Ledger>(
     alloc: Global,
@@ -196,7 +196,7 @@ fn a_reversed_payment_is_as_if_it_had_never_been(rt: HostRuntime) -> Result<(), 
     Ok(())
 }
 
-/// The entry behind 4,096 others, and what is known of one of them.
+/// The entry after 4,096 others, and what is known of one of them.
 fn overfull<B: LoanBooks, L: Ledger>(
     alloc: Global,
     blank: Blank,

@@ -11,7 +11,7 @@ use std::marker::Brand;
 use std::sync::ledger::{Blank, Ledger};
 use std::test::Fail;
 use svc_base::{Cents, Day, Month, Steps};
-use svc_types::{Act, Books, Entry, EscrowPlan, RemitType, Settled, Terms};
+use svc_types::{Act, Books, Designation, Entry, EscrowPlan, RemitType, Settled, Terms};
 
 /// What books hold in suspense and escrow, and have collected as interest, principal and late
 /// charges, in cents.
@@ -62,8 +62,8 @@ fn payments<L: Ledger>(alloc: Global, blank: Blank) -> Result<(Money, Money), Fa
     terms.check()?;
     let mut steps = Steps::<L>::new(blank);
     let mut books = Plain::begin(alloc, terms, day(2024, 4, 1), &mut steps)?;
-    books.post(entry(3, day(2024, 2, 1), Act::Pay(119_910)), &mut steps)?;
-    books.post(entry(13, day(2024, 3, 10), Act::Pay(119_910)), &mut steps)?;
+    books.post(entry(3, day(2024, 2, 1), Act::Pay(119_910, Designation::Regular)), &mut steps)?;
+    books.post(entry(13, day(2024, 3, 10), Act::Pay(119_910, Designation::Regular)), &mut steps)?;
     let both = money_of(books.terms(), books.now());
     books.reverse(3, 14, &mut steps)?;
     Ok((both, money_of(books.terms(), books.now())))
@@ -79,7 +79,7 @@ fn payoff<L: Ledger>(alloc: Global, blank: Blank) -> Result<Money, Fail>
     terms.check()?;
     let mut steps = Steps::<L>::new(blank);
     let mut books = Plain::begin(alloc, terms, day(2024, 2, 16), &mut steps)?;
-    books.post(entry(3, day(2024, 2, 1), Act::Pay(119_910)), &mut steps)?;
+    books.post(entry(3, day(2024, 2, 1), Act::Pay(119_910, Designation::Regular)), &mut steps)?;
     books.post(
         entry(5, day(2024, 2, 16), Act::Payoff(20_030_040)),
         &mut steps,

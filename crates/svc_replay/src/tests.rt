@@ -6,7 +6,7 @@ use crate::refold;
 use std::marker::Brand;
 use std::sync::ledger::{Blank, Ledger};
 use svc_base::{Cents, Day, Month, Steps, read_day};
-use svc_types::{Act, Books, Entry, RemitType, Terms};
+use svc_types::{Act, Books, Designation, Entry, RemitType, Terms};
 
 /// A loan of 200,000.00 at 6 percent over 30 years, with 15 days of grace.
 fn loan(boarded: Day) -> Terms
@@ -61,7 +61,7 @@ fn after_payment<L: Ledger>(blank: Blank, cents: Cents, paid: &[u8], day: &[u8])
     let entries = [Entry {
         number: 1,
         day: paid,
-        act: Act::Pay(cents),
+        act: Act::Pay(cents, Designation::Regular),
     }];
     let mut steps = Steps::<L>::new(blank);
     let books = refold(&terms, &entries, day, &mut steps);

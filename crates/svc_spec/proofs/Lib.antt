@@ -15,3 +15,9 @@ pub mod TotalLemmas
 pub mod TimeLemmas
 pub mod RiseLemmas
 pub mod FloorLemmas
+pub mod DayLemmas
+pub mod PastLemmas
+pub mod FindLemmas
+pub mod SameLemmas
+pub mod StepsLemmas
+pub mod PrecedeLemmas
