@@ -1,3 +1,5 @@
 pub mod SumsWithin
 pub mod HoldingLemmas
 pub mod LimitedLemmas
+pub mod AgreeLemmas
+pub mod CarryLemmas

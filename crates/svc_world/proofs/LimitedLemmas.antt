@@ -49,7 +49,7 @@ posted_limited a e h may day few named covered =
     let r = received_posted a e in
     let f = refunded_posted a e h.account may in
     record {
-      account = posted_account a e h.account may few;
+      account = posted_account a e h.account may day few;
       named = All-push (λ (x : Entry). IsNamedAct x.act) a.entries e h.named named;
       covered = omega (arith, ints, f, r, covered);
     }
