@@ -3,3 +3,4 @@ pub mod HoldingLemmas
 pub mod LimitedLemmas
 pub mod AgreeLemmas
 pub mod CarryLemmas
+pub mod LoanListLemmas
