@@ -75,7 +75,7 @@ pub carried_more : (a : Account) (types : List TypeChange) (n : ℕ) → carried
 unfolding carried_to
 carried_more a types n = refl
 
-carried_none : (a : Account) (types : List TypeChange) → carried_to a types 0 ≡ carried_first a.terms
+pub carried_none : (a : Account) (types : List TypeChange) → carried_to a types 0 ≡ carried_first a.terms
 unfolding carried_to
 carried_none a types = refl
 

@@ -4,3 +4,5 @@ pub mod LimitedLemmas
 pub mod AgreeLemmas
 pub mod CarryLemmas
 pub mod LoanListLemmas
+pub mod ChangesLemmas
+pub mod AddUpLemmas
