@@ -6,3 +6,4 @@ pub mod CarryLemmas
 pub mod LoanListLemmas
 pub mod ChangesLemmas
 pub mod AddUpLemmas
+pub mod CloseLemmas

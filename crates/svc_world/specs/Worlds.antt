@@ -70,14 +70,19 @@ AddUp s loans =
     (part : DuePart) (id p : ℕ) → p < month_after (last_month s.reports) →
     total part id p s ≡ part_of_due part (due_by (find_loan id loans) p)
 
+-- a loan is there, and was boarded by a month
+pub record IsThere (loans : List Held) (id month : ℕ) : Type 0 where
+  pub loan : Held
+  pub found : find_loan id loans ≡ Some loan
+  pub since : boarded_month loan ≤ month
+
 -- the loan of an adjustment is there, and was boarded by its month
 abbrev pub IsOwned : List Held → Adjustment → Type 0
-IsOwned loans a = IfSome (find_loan a.loan loans) (λ l. boarded_month l ≤ a.month) × Any (λ (l : Held). l.id ≡ a.loan) loans
+IsOwned loans a = IsThere loans a.loan a.month
 
 -- the loan of a line is there, and was boarded by the report's month
 abbrev pub IsListed : List Held → ℕ → ReportLine → Type 0
-IsListed loans month line =
-    IfSome (find_loan line.loan loans) (λ l. boarded_month l ≤ month) × Any (λ (l : Held). l.id ≡ line.loan) loans
+IsListed loans month line = IsThere loans line.loan month
 
 -- what reports sent of a part for a loan lies from 0 to 5 * 10^13 cents
 pub record IsPassed (z : ℤ) : Type 0 where
