@@ -14,6 +14,7 @@ pub mod CostLemmas
 pub mod TotalLemmas
 pub mod TimeLemmas
 pub mod RiseLemmas
+pub mod FloorLemmas
 pub mod DayLemmas
 pub mod PastLemmas
 pub mod FindLemmas

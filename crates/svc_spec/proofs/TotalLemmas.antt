@@ -32,7 +32,7 @@ use Rattle.svc_spec.proofs.AccountLemmas.{live_few, live_entries_fold}
 -- ---- what the events bring in and pay out
 
 -- an amount of each of some events, summed
-abbrev tally : (What → ℤ) → List Event → ℤ
+abbrev pub tally : (What → ℤ) → List Event → ℤ
 tally f es = total_by (λ e. f e.what) es
 
 -- each event moves the total by what it brings in less what it pays out, and so do all of them
@@ -76,7 +76,7 @@ tally_entries f d (e ∷ es) h =
     rw now (ap (λ z. f (what.Act e.act) +ℤ z) rest)
 
 -- the marks bring nothing in and pay nothing out
-tally_events : (f : What → ℤ) → f what.MonthMark ≡ pos 0 → ((k : ℕ) → f (what.LateMark k) ≡ pos 0) → (t : Terms) (live : List Entry) (d : ℕ) → All (λ e. e.day ≤ d) live → tally f (events_to t live d) ≡ sum_over (λ a. f (what.Act a)) live
+pub tally_events : (f : What → ℤ) → f what.MonthMark ≡ pos 0 → ((k : ℕ) → f (what.LateMark k) ≡ pos 0) → (t : Terms) (live : List Entry) (d : ℕ) → All (λ e. e.day ≤ d) live → tally f (events_to t live d) ≡ sum_over (λ a. f (what.Act a)) live
 unfolding events_to
 tally_events f none none' t live d h =
     let months = month_marks t d in
@@ -86,7 +86,7 @@ tally_events f none none' t live d h =
 
 -- ---- sums over entries
 
-sum_placed : (f : Act → ℤ) (e : Entry) (xs : List Entry) → sum_over f (placed e xs) ≡ f e.act +ℤ sum_over f xs
+pub sum_placed : (f : Act → ℤ) (e : Entry) (xs : List Entry) → sum_over f (placed e xs) ≡ f e.act +ℤ sum_over f xs
 sum_placed f e [] = refl
 sum_placed f e (x ∷ xs) =
     elim (is_before e x) as (λ v. sum_over f (if v then e ∷ x ∷ xs else x ∷ placed e xs) ≡ f e.act +ℤ (f x.act +ℤ sum_over f xs)) [
@@ -99,7 +99,7 @@ sum_placed_onto f xs [] = omega (arith, ints)
 sum_placed_onto f xs (e ∷ es) = omega (arith, ints, sum_placed_onto f (placed e xs) es, sum_placed f e xs)
 
 -- the entries are the live and the reversed ones
-sum_live : (f : Act → ℤ) (a : Account) → sum_over f a.entries ≡ sum_over f (live_of a) +ℤ sum_over f (reversed_of a)
+pub sum_live : (f : Act → ℤ) (a : Account) → sum_over f a.entries ≡ sum_over f (live_of a) +ℤ sum_over f (reversed_of a)
 unfolding live_entries
 sum_live f a = omega (arith, ints, sum_placed_onto f [] (filter (is_live a.reversals) a.entries), total_by-parts (λ (e : Entry). f e.act) (λ e. is_reversed a.reversals e.number) a.entries)
 
@@ -113,7 +113,7 @@ paid_out_parts (Refund c) = omega (arith, ints)
 paid_out_parts (Waive c) = refl
 paid_out_parts (Analyse s) = omega (arith, ints)
 
-sum_paid_out : (es : List Entry) → sum_over paid_out es ≡ sum_over refunded_by es +ℤ sum_over disbursed_by es
+pub sum_paid_out : (es : List Entry) → sum_over paid_out es ≡ sum_over refunded_by es +ℤ sum_over disbursed_by es
 sum_paid_out [] = refl
 sum_paid_out (e ∷ es) = omega (arith, ints, paid_out_parts e.act, sum_paid_out es)
 

@@ -1,0 +1,61 @@
+-- The laws of the books, over every history of accepted commands.
+use Rattle.std.specs.Prelude.{◌≡◌, ◌≢◌, ℕ, ◌+◌, List, [], ◌∷◌, ◌++◌, length, ⊤, ℤ, pos, ◌+ℤ◌, ◌-ℤ◌}
+use Rattle.std.specs.List.{All}
+use Rattle.svc_base.specs.Sums.{total_by}
+use Rattle.svc_types.specs.declared.requests.Command.{Command}
+use Rattle.svc_types.specs.declared.requests.Command.TheVariants as command
+use Rattle.svc_spec.specs.Books.{total}
+use Rattle.svc_spec.specs.Totals.{received, returned, refunded, disbursed}
+use Rattle.period_adjust.specs.declared.adjustment.Adjustment.{Adjustment}
+use Rattle.period_adjust.specs.Sealed.{Sealed}
+use Rattle.custodial_book.specs.declared.part.Account.TheVariants.{T, P}
+use Rattle.custodial_book.specs.Rows.{balance_of}
+use Rattle.svc_world.specs.Held.{Held, books_now}
+use Rattle.svc_world.specs.Reports.{months_of, changes_of}
+use Rattle.svc_world.specs.World.{World, Accepted, loans_after, after, world}
+use Rattle.svc_world.specs.Worlds.{AddUp}
+use Rattle.svc_world.specs.Custody.{remitted_for, collected, held_for, advanced_for, residual_of, borrower_cash, rows_in}
+
+-- a loan's money: what it received, less what was returned, refunded and disbursed, is what its books hold
+-- and have collected
+abbrev pub IsConserved : Held → Type 0
+IsConserved l =
+    received l.account -ℤ returned l.account -ℤ refunded l.account -ℤ disbursed l.account ≡ total (books_now l)
+
+-- what is held for a loan is what was collected less what was remitted and left over, and what was advanced
+abbrev pub IsHeldBack : World → Held → Type 0
+IsHeldBack w l =
+    held_for w l ≡ collected (books_now l) -ℤ remitted_for w l.id -ℤ residual_of w l +ℤ advanced_for w l
+
+-- after every history reports and adjustments add up to the dues, each loan's money is conserved, and the
+-- rows into an account less those out of it are what it holds for all loans
+pub record AreLawful (h : List Accepted) : Type 0 where
+  pub add_up : AddUp (world h).seals (world h).loans
+  pub conserved : All IsConserved (world h).loans
+  pub held_back : All (IsHeldBack (world h)) (world h).loans
+  pub t : balance_of T (rows_in h) ≡ total_by borrower_cash (world h).loans
+  pub p : balance_of P (rows_in h) ≡ total_by (held_for (world h)) (world h).loans
+
+-- reports only grow
+pub record ReportsGrow (before later : World) : Type 0 where
+  pub more : List Sealed
+  pub grown : later.seals.reports ≡ before.seals.reports ++ more
+
+-- a command that can have adjustments: payments, bills and reversals. An analysis is none of them
+abbrev pub CanAdjust : Command → Type 0
+CanAdjust (command.Pay id d c over) = ⊤
+CanAdjust (command.Curtail id d c) = ⊤
+CanAdjust (command.Payoff id d c) = ⊤
+CanAdjust (command.Deposit id d c) = ⊤
+CanAdjust (command.Disburse id d c line) = ⊤
+CanAdjust (command.Reverse id number) = ⊤
+CanAdjust c = ⊥
+
+-- the adjustments of command n
+abbrev pub adjustments_by : ℕ → World → Command → List Adjustment
+adjustments_by n w c = changes_of n (months_of w.seals.reports) w.loans (loans_after n w.today w.loans c)
+
+-- one accepted command more
+pub record IsLawfulStep (h : List Accepted) (c : Command) : Type 0 where
+  pub grow : ReportsGrow (world h) (after (length h + 1) (world h) c)
+  pub adjusted : adjustments_by (length h + 1) (world h) c ≢ [] → CanAdjust c

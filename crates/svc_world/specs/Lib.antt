@@ -1,0 +1,12 @@
+pub mod Held
+pub mod LoanDues
+pub mod Reports
+pub mod Analysing
+pub mod World
+pub mod Refusals
+pub mod Custody
+pub mod Judging
+pub mod Answers
+pub mod WorkedLoans
+pub mod Worlds
+pub mod Laws
