@@ -1,9 +1,7 @@
 use Rattle.std.proofs.Common.{◌≡◌, sym, subst, ap, ◌∙◌, true, false, pos, arith, FitsSigned, w64}
-use Rattle.std.specs.Prelude.{◌&&◌, not}
 use Rattle.std.specs.Int.{int_min}
-use Rattle.std.proofs.lemmas.Int.{ints, clamps, to_z-of_z}
+use Rattle.std.proofs.lemmas.Int.{ints, to_z-of_z}
 use Rattle.svc_base.proofs.CentsRules.{int_lt-true, int_lt-false}
-use Rattle.svc_types.specs.declared.books.Books.{Books}
 use Rattle.svc_spec.specs.Settling.{is_overdue}
 use Rattle.svc_spec.specs.Step.{applied, rest_applied}
 use Rattle.svc_apply.specs.Conditions.{MayApply}

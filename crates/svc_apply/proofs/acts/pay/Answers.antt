@@ -1,15 +1,12 @@
-use Rattle.std.proofs.Common.{◌≡◌, sym, subst, ap, ◌∙◌, arith, FitsSigned, w64}
-use Rattle.std.specs.Prelude.{◌+◌, pos, ◌≤ℤ◌}
-use Rattle.std.proofs.lemmas.Int.{ints, to_z-of_z}
+use Rattle.std.proofs.Common.{◌≡◌, sym, ap, ◌∙◌, arith, FitsSigned, w64}
+use Rattle.std.proofs.lemmas.Int.{to_z-of_z}
 use Rattle.svc_base.specs.Calendar.{month_of}
 use Rattle.svc_types.specs.declared.books.Books.{Books}
-use Rattle.svc_spec.specs.Books.{HaveSigns}
 use Rattle.svc_spec.specs.Settling.{due_settled}
 use Rattle.svc_spec.specs.Step.{paid_in, rest_applied}
 use Rattle.svc_spec.proofs.SettledLemmas.{settled_signs}
 use Rattle.svc_spec.proofs.ActLemmas.{paid_in_signs, paid-designated}
 use Rattle.svc_spec.proofs.NextLemmas.{rest_applied_next}
-use Rattle.svc_apply.specs.Conditions.{MaySettle}
 use Rattle.svc_apply.proofs.ConditionLemmas.{paid_in_may_settle, settled_may_settle, settled_curtailed}
 use Rattle.svc_apply.proofs.acts.pay.Goals as goal
 

@@ -1,7 +1,6 @@
 use Rattle.std.proofs.Common.{◌≡◌, ap, ◌∙◌, arith}
-use Rattle.std.specs.Prelude.{◌+◌, ◌+ℤ◌}
+use Rattle.std.specs.Prelude.{◌+ℤ◌}
 use Rattle.svc_types.specs.declared.books.Books.{Books}
-use Rattle.svc_base.specs.Calendar.{month_of}
 use Rattle.svc_spec.specs.Books.{total}
 use Rattle.svc_spec.specs.Settling.{marked, settled}
 use Rattle.svc_spec.specs.Step.{step, happened, paid_out_by}

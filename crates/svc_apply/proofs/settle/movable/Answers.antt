@@ -4,7 +4,7 @@ use Rattle.std.proofs.lemmas.Int.{ints}
 use Rattle.svc_base.proofs.CentsRules.{from_int_lt, from_not_int_lt, from_not_int_le}
 use Rattle.svc_types.specs.declared.books.Installment.{Installment}
 use Rattle.svc_spec.specs.Installments.{whole_part}
-use Rattle.svc_spec.proofs.SettlingLemmas.{is_movable-true, is_movable-short, is_movable-later, is_movable-paid}
+use Rattle.svc_spec.proofs.SettlingLemmas.{is_movable-true, is_movable-short, is_movable-paid}
 use Rattle.svc_apply.proofs.settle.movable.Goals as goal
 
 pub returns-then-sum_of-books-clause-movable : goal.returns-then-sum_of-books-clause-movable

@@ -1,5 +1,4 @@
-use Rattle.std.proofs.Common.{◌≡◌, ap, arith}
-use Rattle.std.specs.Prelude.{◌+◌}
+use Rattle.std.proofs.Common.{ap, arith}
 use Rattle.svc_types.specs.declared.books.Books.{Books}
 use Rattle.svc_spec.specs.Settling.{settled_by}
 use Rattle.svc_spec.proofs.SettledLemmas.{settled_next}
