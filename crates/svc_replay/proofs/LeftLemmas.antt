@@ -94,25 +94,25 @@ month_first (Some e) lo eo ms ms' ls ls' es es' hm hl he l1 l2 =
     let back = All-append P (ms' ++ ls) es (All-append P ms' ls hm.1 (since e lo ls ls' hl l1)) (since e eo es es' he l2) in
     rw hm.0 (by_day_first e [] (ms' ++ ls ++ es) (λ k d lt. absurd (omega arith)) back)
 
--- where the first of the month marks does failed lead both, it is behind what leads the entries
-behind : (e : Event) (mo eo : Option Event) (ms ms' : List Event) → IsFirst mo ms ms' → (leads mo (Some e) && leads mo eo) ≡ false → leads (Some e) eo ≡ true → All (λ x. e.day < x.day) ms
-behind e None eo ms ms' hm failed l = rw hm (λ k d lt. absurd (omega arith))
-behind e (Some m) None ms ms' hm failed l = later e (Some m) ms ms' hm (grind arith)
-behind e (Some m) (Some x) ms ms' hm failed l = later e (Some m) ms ms' hm (grind arith)
+-- where the first of the month marks does failed lead both, it is after what leads the entries
+after : (e : Event) (mo eo : Option Event) (ms ms' : List Event) → IsFirst mo ms ms' → (leads mo (Some e) && leads mo eo) ≡ false → leads (Some e) eo ≡ true → All (λ x. e.day < x.day) ms
+after e None eo ms ms' hm failed l = rw hm (λ k d lt. absurd (omega arith))
+after e (Some m) None ms ms' hm failed l = later e (Some m) ms ms' hm (grind arith)
+after e (Some m) (Some x) ms ms' hm failed l = later e (Some m) ms ms' hm (grind arith)
 
 pub late_first : (mo lo eo : Option Event) (ms ms' ls ls' es es' : List Event) → IsFirst mo ms ms' → IsFirst lo ls ls' → IsFirst eo es es' → (leads mo lo && leads mo eo) ≡ false → leads lo eo ≡ true → Follows lo (by_day (ms ++ ls ++ es)) (by_day (ms ++ ls' ++ es))
 late_first mo None eo ms ms' ls ls' es es' hm hl he failed l = absurd (grind arith)
 late_first mo (Some e) eo ms ms' ls ls' es es' hm hl he failed l =
     let P : Event → Type 0 = λ x. e.day ≤ x.day in
-    let front = behind e mo eo ms ms' hm failed l in
+    let front = after e mo eo ms ms' hm failed l in
     let back = All-append P ls' es hl.1 (since e eo es es' he l) in
     rw (hl.0, append_assoc ms (e ∷ ls') es, append_assoc ms ls' es) (by_day_first e ms (ls' ++ es) front back)
 
 -- the same of the entries, which lead nothing
-behind_entry : (e : Event) (mo lo : Option Event) (ms ms' : List Event) → IsFirst mo ms ms' → (leads mo lo && leads mo (Some e)) ≡ false → leads lo (Some e) ≡ false → All (λ x. e.day < x.day) ms
-behind_entry e None lo ms ms' hm failed l = rw hm (λ k d lt. absurd (omega arith))
-behind_entry e (Some m) None ms ms' hm failed l = later e (Some m) ms ms' hm (grind arith)
-behind_entry e (Some m) (Some x) ms ms' hm failed l = later e (Some m) ms ms' hm (grind arith)
+after_entry : (e : Event) (mo lo : Option Event) (ms ms' : List Event) → IsFirst mo ms ms' → (leads mo lo && leads mo (Some e)) ≡ false → leads lo (Some e) ≡ false → All (λ x. e.day < x.day) ms
+after_entry e None lo ms ms' hm failed l = rw hm (λ k d lt. absurd (omega arith))
+after_entry e (Some m) None ms ms' hm failed l = later e (Some m) ms ms' hm (grind arith)
+after_entry e (Some m) (Some x) ms ms' hm failed l = later e (Some m) ms ms' hm (grind arith)
 
 pub entry_first : (mo lo eo : Option Event) (ms ms' ls ls' es es' : List Event) → IsFirst mo ms ms' → IsFirst lo ls ls' → IsFirst eo es es' → (leads mo lo && leads mo eo) ≡ false → leads lo eo ≡ false → Follows eo (by_day (ms ++ ls ++ es)) (by_day (ms ++ ls ++ es'))
 entry_first None None None ms ms' ls ls' es es' hm hl he failed l = rw (hm, hl, he)
@@ -120,7 +120,7 @@ entry_first (Some m) None None ms ms' ls ls' es es' hm hl he failed l = absurd (
 entry_first mo (Some x) None ms ms' ls ls' es es' hm hl he failed l = absurd (grind arith)
 entry_first mo lo (Some e) ms ms' ls ls' es es' hm hl he failed l =
     let P : Event → Type 0 = λ x. e.day < x.day in
-    let front = All-append P ms ls (behind_entry e mo lo ms ms' hm failed l) (later e lo ls ls' hl l) in
+    let front = All-append P ms ls (after_entry e mo lo ms ms' hm failed l) (later e lo ls ls' hl l) in
     rw he.0 (by_day_first e (ms ++ ls) es' front he.1)
 
 -- ---- before all of them

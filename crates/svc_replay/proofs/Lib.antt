@@ -1,4 +1,5 @@
 pub mod LeftLemmas
+pub mod AfterLemmas
 pub mod EntryLemmas
 pub mod KeptLemmas
 pub mod PlainLemmas

@@ -19,5 +19,7 @@ IsPostFault a room OutOfMemory = (length a.entries < most_entries) × (room ≡ 
 abbrev pub IsReverseFault : Account → ℕ → ℕ → BookFault → Type 0
 IsReverseFault a number room Full = ⊥
 IsReverseFault a number room NoSuchEntry = entry_of a number ≡ None
-IsReverseFault a number room (AlreadyReversed by) = (is_some (entry_of a number) ≡ true) × (reverser_of a number ≡ Some by)
-IsReverseFault a number room OutOfMemory = (is_some (entry_of a number) ≡ true) × (reverser_of a number ≡ None) × (room ≡ 0)
+IsReverseFault a number room (AlreadyReversed by) =
+    (is_some (entry_of a number) ≡ true) × (reverser_of a number ≡ Some by)
+IsReverseFault a number room OutOfMemory =
+    (is_some (entry_of a number) ≡ true) × (reverser_of a number ≡ None) × (room ≡ 0)

@@ -1,11 +1,12 @@
 -- What an implementation of a loan's books keeps: its account, and for how much more it has room.
-use Rattle.std.specs.Prelude.{◌≡◌, ℕ, ◌+◌, ◌≤◌, List}
+use Rattle.std.specs.Prelude.{◌≡◌, ℕ, ◌+◌, ◌≤◌, ◌<◌, ◌==◌, Option, None, Some, List, length, get_or, map}
+use Rattle.std.specs.List.{find}
 use Rattle.svc_types.specs.declared.terms.Terms.{Terms}
 use Rattle.svc_types.specs.declared.books.Books.{Books}
 use Rattle.svc_types.specs.declared.account.Entry.{Entry}
 use Rattle.svc_types.specs.Terms.{IsSound}
 use Rattle.svc_spec.specs.Books.{AreBooks}
-use Rattle.svc_spec.specs.Accounts.{Account, IsAccount, live_of, books_of}
+use Rattle.svc_spec.specs.Accounts.{Account, IsAccount, live_of, books_of, reverser_of}
 
 -- how many entries, reversals and months can be added without memory
 pub record Room : Type 0 where
@@ -36,10 +37,21 @@ pub record Kept : Type 0 where
   pub account : Account
   pub room : Room
 
--- what holds of the fields of an account: the live entries stand in order
-pub record IsKept (a : Account) (ordered : List Entry) : Type 0 where
+-- what reversed each entry, where it was, as the entries stand
+abbrev pub reversers_of : Account → List (Option ℕ)
+reversers_of a = map (λ e. reverser_of a e.number) a.entries
+
+-- what holds of the fields of an account: the live entries stand in order, and beside each entry
+-- stands what reversed it
+pub record IsKept (a : Account) (ordered : List Entry) (by : List (Option ℕ)) : Type 0 where
   pub account : IsAccount a
   pub live : ordered ≡ live_of a
+  pub reversed : by ≡ reversers_of a
+
+-- the place of the entry with a number, where there is one
+abbrev pub IsPlaceOf : ℕ → List Entry → Option ℕ → Type 0
+IsPlaceOf number entries None = find (λ e. e.number == number) entries ≡ None
+IsPlaceOf number entries (Some i) = (i < length entries) × ((d : Entry) → (get_or entries i d).number ≡ number)
 
 -- the books now are those of the business day
 pub record AreNow (a : Account) (b : Books) : Type 0 where

@@ -1,12 +1,13 @@
 //! The account of a loan: its entries and reversals, and the live entries in order.
 
-ghost use Rattle.std.specs.Prelude.{◌≡◌, ◌+◌, ◌≤◌, length, None, IfSome, IsErrOf, OnOk, OnErr, IfErr};
+ghost use Rattle.std.specs.Prelude.{◌≡◌, ◌+◌, ◌≤◌, ◌<◌, nat_lt, length, None, IfSome, IsErrOf, OnOk, OnErr, IfErr};
+ghost use Rattle.std.specs.List.{AllPairs};
 ghost use Rattle.svc_base.specs.Calendar.{month_of as month_number, months_end};
 ghost use Rattle.svc_spec.specs.Accounts as rule;
 ghost use Rattle.svc_spec.specs.Books.{AreBooks};
-ghost use Rattle.svc_spec.specs.Months.{cost_of_month};
+ghost use Rattle.svc_spec.specs.Months.{cost_of_month, counted};
 ghost use Rattle.svc_replay.specs.Faults.{most_entries, IsPostFault, IsReverseFault};
-ghost use Rattle.svc_replay.specs.Kept.{IsLoweredBy, nothing, one_entry, one_reversal};
+ghost use Rattle.svc_replay.specs.Kept.{IsLoweredBy, IsPlaceOf, nothing, one_entry, one_reversal};
 
 use crate::fault::BookFault;
 use crate::folding::refold;
@@ -19,13 +20,14 @@ use svc_types::{Books, Entry, Terms, place_of};
 /// The most entries of a loan, reversed ones counted.
 const MOST_ENTRIES: usize = 4_096;
 
-/// A loan's terms, all its entries by number, their reversals and the business day. It keeps the
-/// live entries in the order in which they take effect.
+/// A loan's terms, all its entries by number, their reversals and the business day. It keeps beside
+/// each entry what reversed it, and the live entries in the order in which they take effect.
 #[derive(Drop)]
 pub struct LoanAccount {
     terms: Terms,
     today: Day,
     entries: Vec<Entry>,
+    reversers: Vec<Option<u32>>,
     reversals: Vec<(u32, u32)>,
     live: Vec<Entry>,
 }
@@ -40,13 +42,16 @@ impl Model for LoanAccount {
     ghost view = { λ a. record {
       account = record { terms = a.terms; entries = a.entries.items; reversals = a.reversals.items; today = a.today };
       room = record {
-        entries = min (vec_capacity a.entries - vec_len a.entries) (vec_capacity a.live - vec_len a.live);
+        entries = min (vec_capacity a.entries - vec_len a.entries)
+          (min (vec_capacity a.reversers - vec_len a.reversers) (vec_capacity a.live - vec_len a.live));
         reversals = vec_capacity a.reversals - vec_len a.reversals;
         months = months_end;
       };
     } };
 
-    ghost invariant = { λ a. IsKept (record { terms = a.terms; entries = a.entries.items; reversals = a.reversals.items; today = a.today }) a.live.items };
+    ghost invariant = { λ a. IsKept
+      (record { terms = a.terms; entries = a.entries.items; reversals = a.reversals.items; today = a.today })
+      a.live.items a.reversers.items };
 }
 
 impl LoanAccount {
@@ -59,6 +64,7 @@ impl LoanAccount {
             terms,
             today,
             entries: Vec::new(alloc),
+            reversers: Vec::new(alloc),
             reversals: Vec::new(alloc),
             live: Vec::new(alloc),
         }
@@ -73,6 +79,7 @@ impl LoanAccount {
         ensures room { IsLoweredBy nothing self.old.room self.new.room }
     {
         self.entries.reserve(1)?;
+        self.reversers.reserve(1)?;
         self.live.reserve(1)?;
         self.reversals.reserve(1)?;
         Ok(())
@@ -92,9 +99,14 @@ impl LoanAccount {
         if self.entries.len() >= MOST_ENTRIES {
             return Err(BookFault::Full);
         }
+        // the calendar has the day of the entry
+        let place = entry.day.day();
+        prove!(place >= 1);
         self.entries.reserve(1)?;
+        self.reversers.reserve(1)?;
         self.live.insert(place_of(&self.live, entry), *entry)?;
         self.entries.push_reserved(*entry);
+        self.reversers.push_reserved(None);
         Ok(())
     }
 
@@ -104,19 +116,21 @@ impl LoanAccount {
         ensures ok { OnOk result (self.new.account ≡ rule.reversed_in number by self.old.account) }
         ensures kept { OnErr result (self.new.account ≡ self.old.account) }
         ensures unknown { rule.entry_of self.old.account number ≡ None → IsErrOf result BookFault.NoSuchEntry }
-        ensures again { IfSome (rule.entry_of self.old.account number) (λ entry. IfSome (rule.reverser_of self.old.account number)
+        ensures again { IfSome (rule.entry_of self.old.account number)
+            (λ entry. IfSome (rule.reverser_of self.old.account number)
             (λ earlier. IsErrOf result (BookFault.AlreadyReversed earlier))) }
         ensures fault { IfErr result (IsReverseFault self.old.account number self.old.room.reversals) }
         ensures room { IsLoweredBy one_reversal self.old.room self.new.room }
         ensures kept_room { OnErr result (IsLoweredBy nothing self.old.room self.new.room) }
     {
-        if self.entry(number).is_none() {
+        let Some(place) = place_with(&self.entries, number) else {
             return Err(BookFault::NoSuchEntry);
-        }
-        if let Some(earlier) = self.reversed_by(number) {
+        };
+        if let Some(earlier) = self.reversers[place] {
             return Err(BookFault::AlreadyReversed(earlier));
         }
         self.reversals.push((number, by))?;
+        self.reversers[place] = Some(by);
         self.live.retain(|entry| number != entry.number);
         Ok(())
     }
@@ -132,16 +146,22 @@ impl LoanAccount {
 
     /// The terms of the loan.
     pub fn terms(&self) -> &Terms
-        ensures terms { result.now ≡ self.now.account.terms }
-        ensures account { rule.IsAccount self.now.account }
+        ensures { result.now ≡ self.now.account.terms }
     {
         &self.terms
     }
 
+    /// The account is one that boarding, entries, reversals and business days can have made. The call
+    /// does nothing.
+    pub fn is_account(&self)
+        ensures { rule.IsAccount self.now.account }
+    {
+        let _ = &self.terms;
+    }
+
     /// The business day.
     pub fn today(&self) -> Day
-        ensures today { result ≡ self.now.account.today }
-        ensures account { rule.IsAccount self.now.account }
+        ensures { result ≡ self.now.account.today }
     {
         self.today
     }
@@ -157,20 +177,16 @@ impl LoanAccount {
     pub fn entry(&self, number: u32) -> Option<Entry>
         ensures { result ≡ rule.entry_of self.now.account number }
     {
-        self.entries
-            .iter()
-            .copied()
-            .find(|entry| entry.number == number)
+        let place = place_with(&self.entries, number)?;
+        Some(self.entries[place])
     }
 
     /// What reversed the entry with that number.
     pub fn reversed_by(&self, number: u32) -> Option<u32>
         ensures { result ≡ rule.reverser_of self.now.account number }
     {
-        self.reversals
-            .iter()
-            .find(|reversal| reversal.0 == number)
-            .map(|reversal| reversal.1)
+        let place = place_with(&self.entries, number)?;
+        self.reversers[place]
     }
 
     /// The books at a day from boarding to the business day, folded anew from boarding.
@@ -180,8 +196,29 @@ impl LoanAccount {
         ensures books { result ≡ rule.books_of self.now.account day }
         ensures sound { AreBooks self.now.account.terms result }
         ensures account { rule.IsAccount self.now.account }
-        ensures steps { steps.new ≤ steps.old + cost_of_month self.now.account (month_number self.now.account.terms.boarded) }
+        ensures counted { steps.new + 1 ≡ steps.old + counted self.now.account.terms (rule.live_of self.now.account) day }
+        ensures steps { steps.new ≤ steps.old
+            + cost_of_month self.now.account (month_number self.now.account.terms.boarded) }
     {
         refold(&self.terms, &self.live, day, steps)
     }
+}
+
+/// The place of the entry with that number, among entries whose numbers rise.
+fn place_with(entries: &[Entry], number: u32) -> Option<usize>
+    requires { AllPairs (λ e f. e.number < f.number) entries.now }
+    ensures { IsPlaceOf number entries.now result }
+{
+    let place = entries.partition_point(|entry| is_below(entry, number));
+    if place < entries.len() && entries[place].number == number {
+        return Some(place);
+    }
+    None
+}
+
+/// Whether an entry has a lower number.
+fn is_below(entry: &Entry, number: u32) -> bool
+    ensures { result ≡ nat_lt entry.now.number number }
+{
+    entry.number < number
 }

@@ -95,7 +95,7 @@ fn row_of(books: &Books) -> Row {
     }
 }
 
-/// One payment on its day, and one of March that is entered in April: the books before and behind
+/// One payment on its day, and one of March that is entered in April: the books before and after
 /// it, those of the day before its own, and the facts of March.
 fn late_payment<B: LoanBooks, L: Ledger>(
     alloc: Global,
@@ -196,7 +196,7 @@ fn a_reversed_payment_is_as_if_it_had_never_been(rt: HostRuntime) -> Result<(), 
     Ok(())
 }
 
-/// The entry behind 4,096 others, and what is known of one of them.
+/// The entry after 4,096 others, and what is known of one of them.
 fn overfull<B: LoanBooks, L: Ledger>(
     alloc: Global,
     blank: Blank,

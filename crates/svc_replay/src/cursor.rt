@@ -1,10 +1,11 @@
 //! A walk over the events of a loan in their order, without a list of them.
 
-ghost use Rattle.std.specs.Prelude.{◌≡◌, ◌+◌, ◌≤◌, ◌<◌, length, IfSome};
-ghost use Rattle.std.specs.List.{AllPairs};
+ghost use Rattle.std.specs.Prelude.{◌≡◌, ◌+◌, ◌≤◌, ◌<◌, nat_le, length, take, drop, IfSome};
+ghost use Rattle.std.specs.List.{All, AllPairs};
 ghost use Rattle.svc_base.specs.Calendar.{IsReadDay, months_end, month_of as month_number};
 ghost use Rattle.svc_types.specs.Terms.{IsSound};
 ghost use Rattle.svc_spec.specs.Entries.{AreEntries};
+ghost use Rattle.svc_spec.specs.Events as events;
 ghost use Rattle.svc_replay.specs.Left as rule;
 
 use svc_base::{Day, Month, add_days, add_months, first_day, month_of};
@@ -32,13 +33,28 @@ impl Cursor {
         }
     }
 
+    /// After all events of a loan up to a day.
+    pub(crate) fn after(terms: &Terms, live: &[Entry], day: Day) -> Cursor
+        requires terms { IsSound terms.now }
+        requires boarded { IsReadDay terms.now.boarded }
+        requires order { AllPairs (λ a b. a.day ≤ b.day) live.now }
+        ensures { rule.IsAfter terms.now live.now day result.month result.late result.entry }
+    {
+        Cursor {
+            month: month_of(day),
+            late: lates_by(terms, day),
+            entry: entries_by(live, day),
+        }
+    }
+
     /// The earliest event that is left, up to a day; on one day a month mark, then a late mark,
     /// then the entries as they stand.
     pub(crate) fn next(&mut self, terms: &Terms, live: &[Entry], day: Day) -> Option<Event>
         requires terms { IsSound terms.now }
         requires boarded { IsReadDay terms.now.boarded }
         requires entries { AreEntries terms.now live.now }
-        ensures { rule.Follows result (rule.left terms.now live.now day self.old.month self.old.late self.old.entry)
+        ensures { rule.Follows result
+            (rule.left terms.now live.now day self.old.month self.old.late self.old.entry)
             (rule.left terms.now live.now day self.new.month self.new.late self.new.entry) }
     {
         let month = self.month_mark(day);
@@ -60,7 +76,8 @@ impl Cursor {
     /// The next month mark, where its day is not past the day.
     fn month_mark(&self, day: Day) -> Option<Event>
         ensures bound { IfSome result (λ event. self.now.month + 1 < months_end) }
-        ensures first { rule.IsFirst result (rule.months_left self.now.month day) (rule.months_left (self.now.month + 1) day) }
+        ensures first { rule.IsFirst result (rule.months_left self.now.month day)
+            (rule.months_left (self.now.month + 1) day) }
     {
         if self.month >= month_of(day) {
             return None;
@@ -71,19 +88,19 @@ impl Cursor {
         })
     }
 
-    /// The next late mark, where its day is not past the day: the first day behind the grace of its
+    /// The next late mark, where its day is not past the day: the first day after the grace of its
     /// installment.
     fn late_mark(&self, terms: &Terms, day: Day) -> Option<Event>
         requires terms { IsSound terms.now }
         requires boarded { IsReadDay terms.now.boarded }
         ensures bound { IfSome result (λ event. self.now.late < terms.now.term) }
-        ensures first { rule.IsFirst result (rule.lates_left terms.now self.now.late day) (rule.lates_left terms.now (self.now.late + 1) day) }
+        ensures first { rule.IsFirst result (rule.lates_left terms.now self.now.late day)
+            (rule.lates_left terms.now (self.now.late + 1) day) }
     {
         if self.late >= terms.term {
             return None;
         }
-        let due = first_day(add_months(terms.first, self.late));
-        let late = add_days(due, terms.grace + 1);
+        let late = late_day(terms, self.late + 1);
         if late > day {
             return None;
         }
@@ -97,7 +114,8 @@ impl Cursor {
     fn entry_event(&self, live: &[Entry], day: Day) -> Option<Event>
         requires order { AllPairs (λ a b. a.day ≤ b.day) live.now }
         ensures bound { IfSome result (λ event. self.now.entry < length live.now) }
-        ensures first { rule.IsFirst result (rule.entries_left live.now self.now.entry day) (rule.entries_left live.now (self.now.entry + 1) day) }
+        ensures first { rule.IsFirst result (rule.entries_left live.now self.now.entry day)
+            (rule.entries_left live.now (self.now.entry + 1) day) }
     {
         if self.entry >= live.len() {
             return None;
@@ -111,6 +129,52 @@ impl Cursor {
             what: What::Act(entry.act),
         })
     }
+}
+
+/// The first day after the grace of installment k.
+fn late_day(terms: &Terms, k: u32) -> Day
+    requires terms { IsSound terms.now }
+    requires boarded { IsReadDay terms.now.boarded }
+    requires first { 1 ≤ k }
+    requires last { k ≤ terms.now.term }
+    ensures { result ≡ events.late_day terms.now k }
+{
+    let due = first_day(add_months(terms.first, k - 1));
+    add_days(due, terms.grace + 1)
+}
+
+/// Of how many installments the grace is over by a day: of all that were due two months before it or
+/// earlier, and of at most two more.
+fn lates_by(terms: &Terms, day: Day) -> u32
+    requires terms { IsSound terms.now }
+    requires boarded { IsReadDay terms.now.boarded }
+    ensures few { result ≤ terms.now.term }
+    ensures over { 1 ≤ result → events.late_day terms.now result ≤ day }
+    ensures open_grace { result < terms.now.term → day < events.late_day terms.now (result + 1) }
+{
+    let months = month_of(day).number();
+    let due = months.saturating_sub(terms.first.number() + 1);
+    let mut late = due.min(terms.term);
+    while late < terms.term && late_day(terms, late + 1) <= day {
+        late += 1;
+    }
+    late
+}
+
+/// How many entries are up to a day.
+fn entries_by(live: &[Entry], day: Day) -> usize
+    requires { AllPairs (λ a b. a.day ≤ b.day) live.now }
+    ensures taken { All (λ e. e.day ≤ day) (take result live.now) }
+    ensures later { All (λ e. day < e.day) (drop result live.now) }
+{
+    live.partition_point(|entry| is_by(entry, day))
+}
+
+/// Whether an entry is up to a day.
+fn is_by(entry: &Entry, day: Day) -> bool
+    ensures { result ≡ nat_le entry.now.day day }
+{
+    entry.day <= day
 }
 
 /// Whether there is an event, and it is not after another one.

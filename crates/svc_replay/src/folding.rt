@@ -5,7 +5,11 @@ ghost use Rattle.svc_base.specs.Calendar.{IsReadDay};
 ghost use Rattle.svc_types.specs.Terms.{IsSound};
 ghost use Rattle.svc_spec.specs.Books.{AreBooks};
 ghost use Rattle.svc_spec.specs.Entries.{AreEntries};
-ghost use Rattle.svc_spec.specs.Events.{books_at, events_to};
+ghost use Rattle.svc_spec.specs.Events.{books_at, folded};
+ghost use Rattle.svc_spec.specs.Months.{counted};
+ghost use Rattle.svc_spec.proofs.DayLemmas.{on};
+ghost use Rattle.svc_spec.proofs.EventLemmas.{CanFold};
+ghost use Rattle.svc_replay.specs.Left.{left};
 
 use crate::cursor::Cursor;
 use std::sync::ledger::Ledger;
@@ -23,10 +27,54 @@ pub fn refold<L: Ledger>(terms: &Terms, live: &[Entry], day: Day, steps: &mut St
     requires entries { AreEntries terms.now live.now }
     ensures books { result ≡ books_at terms.now live.now day }
     ensures sound { AreBooks terms.now result }
-    ensures steps { steps.new + 1 ≡ steps.old + length (events_to terms.now live.now day) + result.next }
+    ensures steps { steps.new + 1 ≡ steps.old + counted terms.now live.now day }
 {
-    let mut books = start(terms);
-    let mut cursor = Cursor::new(terms);
+    fold_left(start(terms), Cursor::new(terms), terms, live, day, steps)
+}
+
+/// The books of a loan at a day, folded on from those of an earlier one. It counts a step for each
+/// event after that day, and one for each installment that is satisfied.
+pub fn fold_on<L: Ledger>(
+    earlier: &Books,
+    terms: &Terms,
+    live: &[Entry],
+    day: Day,
+    steps: &mut Steps<L>,
+) -> Books
+    requires terms { IsSound terms.now }
+    requires boarded { IsReadDay terms.now.boarded }
+    requires since { terms.now.boarded ≤ earlier.now.day }
+    requires until { earlier.now.day ≤ day }
+    requires count { length live.now ≤ 4096 }
+    requires entries { AreEntries terms.now live.now }
+    requires earlier { earlier.now ≡ books_at terms.now live.now earlier.now.day }
+    ensures books { result ≡ books_at terms.now live.now day }
+    ensures sound { AreBooks terms.now result }
+    ensures steps { steps.new + counted terms.now live.now earlier.now.day ≡ steps.old + counted terms.now live.now day }
+{
+    let cursor = Cursor::after(terms, live, earlier.day);
+    fold_left(*earlier, cursor, terms, live, day, steps)
+}
+
+/// Books with what is left of the events up to a day, which they take.
+fn fold_left<L: Ledger>(
+    books: Books,
+    cursor: Cursor,
+    terms: &Terms,
+    live: &[Entry],
+    day: Day,
+    steps: &mut Steps<L>,
+) -> Books
+    requires terms { IsSound terms.now }
+    requires boarded { IsReadDay terms.now.boarded }
+    requires entries { AreEntries terms.now live.now }
+    requires can { CanFold terms.now books (left terms.now live.now day cursor.month cursor.late cursor.entry) }
+    ensures books { result ≡ on day (folded terms.now books (left terms.now live.now day cursor.month cursor.late cursor.entry)) }
+    ensures sound { AreBooks terms.now result }
+    ensures steps { steps.new + books.next ≡ steps.old + length (left terms.now live.now day cursor.month cursor.late cursor.entry) + result.next }
+{
+    let mut books = books;
+    let mut cursor = cursor;
     while let Some(event) = cursor.next(terms, live, day) {
         fold_step(&mut books, terms, &event, steps);
     }

@@ -5,16 +5,18 @@ mod account;
 mod cursor;
 mod fault;
 mod folding;
+mod laws;
 mod loan_books;
 mod plain;
 mod rows;
 
 pub use account::LoanAccount;
 pub use fault::BookFault;
-pub use folding::refold;
+pub use folding::{fold_on, refold};
+pub use laws::{agree, events_stand_in_order};
 pub use loan_books::LoanBooks;
-pub use plain::Plain;
-pub use rows::{worked_accounts, worked_totals};
+pub use plain::{Plain, facts_between};
+pub use rows::{worked_accounts, worked_costs, worked_totals};
 
 #[cfg(test)]
 mod books_tests;

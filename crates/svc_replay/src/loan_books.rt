@@ -1,8 +1,10 @@
 //! What keeps the books of one loan, however it is kept.
 
-ghost use Rattle.std.specs.Prelude.{◌≡◌, ℕ, ◌+◌, ◌-◌, ◌≤◌, ◌<◌, ◌-ℤ◌, length, None, IfSome, IsErrOf, MatchOption, OnOk, OnErr, IfOk, IfErr};
+ghost use Rattle.std.specs.Prelude.{◌≡◌, ℕ, ◌+◌, ◌-◌, ◌≤◌, ◌<◌, ◌-ℤ◌, length};
+ghost use Rattle.std.specs.Prelude.{None, IfSome, IsErrOf, MatchOption, OnOk, OnErr, IfOk, IfErr};
 ghost use Rattle.svc_base.specs.Calendar.{month_of};
-ghost use Rattle.svc_spec.specs.Accounts.{Account, IsAccount, MayBegin, MayPost, begun, posted, reversed_in, advanced_to, books_of, entry_of, reverser_of};
+ghost use Rattle.svc_spec.specs.Accounts.{Account, IsAccount, MayBegin, MayPost, begun, posted, reversed_in};
+ghost use Rattle.svc_spec.specs.Accounts.{advanced_to, books_of, entry_of, reverser_of};
 ghost use Rattle.svc_spec.specs.Books.{AreBooks, total};
 ghost use Rattle.svc_spec.specs.Months.{month_facts, AreFacts};
 ghost use Rattle.svc_spec.specs.Totals.{received, returned, refunded, disbursed};
@@ -45,7 +47,8 @@ pub trait LoanBooks: Sized + Drop {
         ensures kept { account self.new ≡ account self.old }
         ensures entry { OnOk result (1 ≤ (room self.new).entries) }
         ensures reversal { OnOk result (1 ≤ (room self.new).reversals) }
-        ensures months { OnOk result (month_of today ≤ month_of (account self.new).today + (room self.new).months) }
+        ensures months { OnOk result
+            (month_of today ≤ month_of (account self.new).today + (room self.new).months) }
         ensures room { IsLoweredBy nothing (room self.old) (room self.new) };
 
     /// Adds an entry, whose number is above all so far. It is Full at 4,096 entries, reversed ones
@@ -72,7 +75,8 @@ pub trait LoanBooks: Sized + Drop {
         ensures ok { OnOk result (account self.new ≡ reversed_in number by (account self.old)) }
         ensures kept { OnErr result (account self.new ≡ account self.old) }
         ensures unknown { entry_of (account self.old) number ≡ None → IsErrOf result BookFault.NoSuchEntry }
-        ensures again { IfSome (entry_of (account self.old) number) (λ entry. IfSome (reverser_of (account self.old) number)
+        ensures again { IfSome (entry_of (account self.old) number)
+            (λ entry. IfSome (reverser_of (account self.old) number)
             (λ earlier. IsErrOf result (BookFault.AlreadyReversed earlier))) }
         ensures fault { IfErr result (IsReverseFault (account self.old) number (room self.old).reversals) }
         ensures room { IsLoweredBy one_reversal (room self.old) (room self.new) }
@@ -85,23 +89,29 @@ pub trait LoanBooks: Sized + Drop {
         requires { (account self.old).today ≤ today }
         ensures ok { OnOk result (account self.new ≡ advanced_to today (account self.old)) }
         ensures kept { OnErr result (account self.new ≡ account self.old) }
-        ensures memory { OnErr result (month_of (account self.old).today + (room self.old).months < month_of today) }
-        ensures room { IsLoweredBy (some_months (month_of today - month_of (account self.old).today)) (room self.old) (room self.new) }
+        ensures memory { OnErr result
+            (month_of (account self.old).today + (room self.old).months < month_of today) }
+        ensures room { IsLoweredBy (some_months (month_of today - month_of (account self.old).today))
+            (room self.old) (room self.new) }
         ensures kept_room { OnErr result (IsLoweredBy nothing (room self.old) (room self.new)) }
         ensures steps { steps.new ≤ steps.old + cost (account self.new) (month_of (account self.old).today) };
 
     /// The terms of the loan.
     fn terms(&self) -> &Terms
-        ensures terms { result.now ≡ (account self.now).terms }
-        ensures account { IsAccount (account self.now) };
+        ensures { result.now ≡ (account self.now).terms };
+
+    /// Each value stands for an account that boarding, entries, reversals and business days can have
+    /// made. The call does nothing.
+    fn is_account(&self)
+        ensures { IsAccount (account self.now) };
 
     /// The books at the business day. What the loan received, less what was returned, refunded and
     /// disbursed, is what they hold and have collected.
     fn now(&self) -> &Books
         ensures books { result.now ≡ books_of (account self.now) (account self.now).today }
         ensures sound { AreBooks (account self.now).terms result.now }
-        ensures conserved { received (account self.now) -ℤ returned (account self.now) -ℤ refunded (account self.now) -ℤ disbursed (account self.now)
-            ≡ total result.now };
+        ensures conserved { received (account self.now) -ℤ returned (account self.now)
+            -ℤ refunded (account self.now) -ℤ disbursed (account self.now) ≡ total result.now };
 
     /// The entry with that number, reversed or not.
     fn entry(&self, number: u32) -> Option<Entry>

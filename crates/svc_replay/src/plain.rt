@@ -60,8 +60,9 @@ impl LoanBooks for Plain {
     }
 
     fn reserve(&mut self, today: Day) -> Result<(), OutOfMemory> {
-        // no month takes room, up to the last one of the calendar
-        let _ = today.in_month().number();
+        // no month takes room: each is before the end of the calendar
+        let month = today.in_month().number();
+        prove!(month < 25_692);
         self.kept.reserve()
     }
 
@@ -90,6 +91,10 @@ impl LoanBooks for Plain {
 
     fn terms(&self) -> &Terms {
         self.kept.terms()
+    }
+
+    fn is_account(&self) {
+        self.kept.is_account();
     }
 
     fn now(&self) -> &Books {
@@ -123,6 +128,7 @@ fn end_day(kept: &LoanAccount, month: Month) -> Day
     ensures until { result ≤ kept.now.account.today }
     ensures account { IsAccount kept.now.account }
 {
+    kept.is_account();
     let last = last_day(month);
     let today = kept.today();
     if today < last { today } else { last }
@@ -134,8 +140,10 @@ fn books_before<L: Ledger>(kept: &LoanAccount, month: Month, steps: &mut Steps<L
     requires until { month ≤ month_number kept.now.account.today }
     ensures books { result ≡ months.books_at_end kept.now.account (month - 1) }
     ensures sound { AreBooks kept.now.account.terms result }
-    ensures steps { steps.new ≤ steps.old + months.cost_of_month kept.now.account (month_number kept.now.account.terms.boarded) }
+    ensures steps { steps.new ≤ steps.old
+        + months.cost_of_month kept.now.account (month_number kept.now.account.terms.boarded) }
 {
+    kept.is_account();
     if month <= month_of(kept.terms().boarded) {
         return start(kept.terms());
     }
@@ -143,7 +151,7 @@ fn books_before<L: Ledger>(kept: &LoanAccount, month: Month, steps: &mut Steps<L
 }
 
 /// What a month did, by the books before it and at its end.
-fn facts_between(month: Month, before: &Books, after: &Books) -> MonthFacts
+pub fn facts_between(month: Month, before: &Books, after: &Books) -> MonthFacts
     requires before { AreOfLoan before.now }
     requires after { AreOfLoan after.now }
     ensures { result ≡ months.facts_between month before.now after.now }

@@ -2,9 +2,10 @@
 //! computed apart by the definitions. The functions have no code; all amounts are cents.
 
 ghost use Rattle.std.specs.Prelude.{◌≡◌, [], ◌∷◌, pos};
-ghost use Rattle.svc_apply.specs.Rows.{day_at};
+ghost use Rattle.svc_apply.specs.Rows.{day_at, month_at};
 ghost use Rattle.svc_spec.specs.Accounts.{books_of};
 ghost use Rattle.svc_spec.specs.Books.{total};
+ghost use Rattle.svc_spec.specs.Months.{cost_of_month};
 ghost use Rattle.svc_spec.specs.Totals.{received, returned, refunded, disbursed};
 ghost use Rattle.svc_replay.specs.WorkedAccounts.{paid_twice, paid_off, escrowed};
 
@@ -25,8 +26,18 @@ pub fn worked_totals()
 pub fn worked_accounts()
     ensures late { total (books_of (paid_twice (day_at 2024 3 10) []) (day_at 2024 4 1)) ≡ pos 239_820 }
     ensures late_upb { (books_of (paid_twice (day_at 2024 3 10) []) (day_at 2024 4 1)).upb ≡ pos 19_960_080 }
-    ensures reversed { total (books_of (paid_twice (day_at 2024 3 1) ((3, 14) ∷ [])) (day_at 2024 4 1)) ≡ pos 119_910 }
-    ensures reversed_late { (books_of (paid_twice (day_at 2024 3 1) ((3, 14) ∷ [])) (day_at 2024 4 1)).late_owed ≡ pos 11_992 }
+    ensures reversed { total (books_of (paid_twice (day_at 2024 3 1) ((3, 14) ∷ [])) (day_at 2024 4 1))
+        ≡ pos 119_910 }
+    ensures reversed_late { (books_of (paid_twice (day_at 2024 3 1) ((3, 14) ∷ [])) (day_at 2024 4 1)).late_owed
+        ≡ pos 11_992 }
     ensures payoff { total (books_of paid_off (day_at 2024 4 1)) ≡ pos 20_149_950 }
     ensures escrow { total (books_of escrowed (day_at 2024 4 1)) ≡ pos 53_000 }
+{}
+
+/// The bound on steps from a month on: of the late payment's month, of the boarded month over the
+/// same account, and of the month of a payment that was reversed.
+pub fn worked_costs()
+    ensures late { cost_of_month (paid_twice (day_at 2024 3 10) []) (month_at 2024 3) ≡ 12 }
+    ensures boarded { cost_of_month (paid_twice (day_at 2024 3 10) []) (month_at 2023 12) ≡ 20 }
+    ensures reversed { cost_of_month (paid_twice (day_at 2024 3 1) ((3, 14) ∷ [])) (month_at 2024 2) ≡ 15 }
 {}

@@ -6,6 +6,7 @@ use Rattle.std.specs.List.{All, filter, find}
 use Rattle.std.proofs.lemmas.List.Elements.{All-cons, All-head, All-tail, All-append}
 use Rattle.std.proofs.lemmas.List.Quantifiers.{all_pairs_push}
 use Rattle.std.proofs.lemmas.Bool.Decides.{nat_tests}
+use Rattle.svc_base.specs.Calendar.{IsDay}
 use Rattle.svc_types.specs.declared.terms.Terms.{Terms}
 use Rattle.svc_types.specs.declared.account.Entry.{Entry}
 use Rattle.svc_types.specs.Live.{is_before, placed, placed_onto, is_reversed, is_live, live_entries}
@@ -106,6 +107,7 @@ begun_account t d may = record {
   few = omega arith;
   since = λ k x lt. absurd (omega arith);
   until = λ k x lt. absurd (omega arith);
+  exist = λ k x lt. absurd (omega arith);
   acts = λ k x lt. absurd (omega arith);
   rising = λ i j x lt within. absurd (omega arith);
   named = λ k x lt. absurd (omega arith);
@@ -114,14 +116,15 @@ begun_account t d may = record {
 all_push : (P : Entry → Type 0) (xs : List Entry) (e : Entry) → All P xs → P e → All P (xs ++ e ∷ [])
 all_push P xs e h p = All-append P xs (e ∷ []) h (All-cons P e [] p (λ k d lt. absurd (omega arith)))
 
-pub posted_account : (a : Account) (e : Entry) → IsAccount a → MayPost a e → length a.entries < 4_096 → IsAccount (posted e a)
-posted_account a e h may room = record {
+pub posted_account : (a : Account) (e : Entry) → IsAccount a → MayPost a e → IsDay e.day → length a.entries < 4_096 → IsAccount (posted e a)
+posted_account a e h may is room = record {
   terms = h.terms;
   boarded = h.boarded;
   after = h.after;
   few = omega (arith, length-append a.entries (e ∷ []));
   since = all_push (λ x. a.terms.boarded ≤ x.day) a.entries e h.since may.since;
   until = all_push (λ x. x.day ≤ a.today) a.entries e h.until may.until;
+  exist = all_push (λ x. IsDay x.day) a.entries e h.exist is;
   acts = all_push (λ x. IsAct x.act) a.entries e h.acts may.act;
   rising = all_pairs_push (λ x y. x.number < y.number) a.entries e h.rising (λ k d lt. may.number k d lt);
   named = λ k d lt. find_more (λ x. x.number == (get_or a.reversals k d).0) a.entries (e ∷ []) (h.named k d lt);
@@ -135,6 +138,7 @@ reversed_account a number by h there = record {
   few = h.few;
   since = h.since;
   until = h.until;
+  exist = h.exist;
   acts = h.acts;
   rising = h.rising;
   named = All-append (λ r. is_some (entry_of a r.0) ≡ true) a.reversals ((number, by) ∷ []) h.named (All-cons (λ r. is_some (entry_of a r.0) ≡ true) (number, by) [] there (λ k d lt. absurd (omega arith)));
@@ -148,6 +152,7 @@ advanced_account a d h later = let after = h.after in record {
   few = h.few;
   since = h.since;
   until = λ k x lt. let early = h.until k x lt in omega arith;
+  exist = h.exist;
   acts = h.acts;
   rising = h.rising;
   named = h.named;

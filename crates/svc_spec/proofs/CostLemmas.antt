@@ -25,20 +25,20 @@ use Rattle.svc_spec.proofs.NextLemmas.{step_advances, books_last}
 
 -- ---- how many events there are
 
-insert_length : (e : Event) (xs : List Event) → length (insert_event e xs) ≡ suc (length xs)
+pub insert_length : (e : Event) (xs : List Event) → length (insert_event e xs) ≡ suc (length xs)
 insert_length e [] = refl
 insert_length e (x ∷ xs) = elim (nat_le e.day x.day) as (λ v. length (if v then e ∷ x ∷ xs else x ∷ insert_event e xs) ≡ suc (suc (length xs))) [ true ↦ refl | false ↦ ap suc (insert_length e xs) ]
 
-by_day_length : (xs : List Event) → length (by_day xs) ≡ length xs
+pub by_day_length : (xs : List Event) → length (by_day xs) ≡ length xs
 by_day_length [] = refl
 by_day_length (x ∷ xs) = omega (arith, insert_length x (by_day xs), by_day_length xs)
 
-months_length : (m n : ℕ) → length (month_marks_from m n) ≡ n
+pub months_length : (m n : ℕ) → length (month_marks_from m n) ≡ n
 months_length m zero = refl
 months_length m (suc n) = omega (arith, months_length (m + 1) n)
 
 -- the grace of an installment ends after its due day
-late_within : (t : Terms) (k d : ℕ) → late_day t k ≤ d → due_month t k ≤ month_of d
+pub late_within : (t : Terms) (k d : ℕ) → late_day t k ≤ d → due_month t k ≤ month_of d
 late_within t k d le = omega (arith, day_after_least (due_day t k) (t.grace + 1))
 
 -- late marks up to a day are of installments that are due by its month
@@ -93,7 +93,7 @@ up_to_by d (x ∷ xs) =
       | false ↦ λ e. up_to_by d xs
     ] refl
 
-events_by : (t : Terms) (live : List Entry) (d : ℕ) → t.boarded ≤ d → All (λ e. e.day ≤ d) (events_to t live d)
+pub events_by : (t : Terms) (live : List Entry) (d : ℕ) → t.boarded ≤ d → All (λ e. e.day ≤ d) (events_to t live d)
 events_by t live d after = events_all (λ e. e.day ≤ d) t live d (months_by (month_of t.boarded + 1) (month_of d - month_of t.boarded) d (omega arith)) (up_to_by d (late_marks_from t 1 t.term)) (up_to_by d (map event_of live))
 
 -- the books at a day have no installment satisfied that is due after the next month

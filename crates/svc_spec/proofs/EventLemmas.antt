@@ -25,7 +25,7 @@ use Rattle.svc_spec.proofs.LimitLemmas.{weight, AreBounded, step_bounded, step_s
 
 -- ---- the order by day
 
-insert_all : (P : Event → Type 0) (e : Event) (xs : List Event) → P e → All P xs → All P (insert_event e xs)
+pub insert_all : (P : Event → Type 0) (e : Event) (xs : List Event) → P e → All P xs → All P (insert_event e xs)
 insert_all P e [] p h = All-cons P e [] p h
 insert_all P e (x ∷ xs) p h =
     elim (nat_le e.day x.day) as (λ v. All P (if v then e ∷ x ∷ xs else x ∷ insert_event e xs)) [

@@ -14,3 +14,9 @@ pub mod CostLemmas
 pub mod TotalLemmas
 pub mod TimeLemmas
 pub mod RiseLemmas
+pub mod DayLemmas
+pub mod PastLemmas
+pub mod FindLemmas
+pub mod SameLemmas
+pub mod StepsLemmas
+pub mod PrecedeLemmas

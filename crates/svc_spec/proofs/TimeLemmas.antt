@@ -27,7 +27,7 @@ insert_before e [] h = refl
 insert_before e (x ∷ xs) h = rw (nat_le-true e.day x.day (All-head (λ x. e.day ≤ x.day) x xs h))
 
 -- one more event among those up to a day, where it is
-abbrev inserted_if : Bool → Event → List Event → List Event
+abbrev pub inserted_if : Bool → Event → List Event → List Event
 inserted_if early e xs = if early then insert_event e xs else xs
 
 up_to_insert : (d n : ℕ) (e : Event) (xs : List Event) → AreInTurn n xs → up_to d (insert_event e xs) ≡ inserted_if (nat_le e.day d) e (up_to d xs)
@@ -111,7 +111,7 @@ events_up_to t live d d' le =
 abbrev pub past : ℕ → List Event → List Event
 past d = filter (λ e. not (nat_le e.day d))
 
-past_all : (d : ℕ) (xs : List Event) → All (λ x. d < x.day) xs → past d xs ≡ xs
+pub past_all : (d : ℕ) (xs : List Event) → All (λ x. d < x.day) xs → past d xs ≡ xs
 past_all d [] h = refl
 past_all d (x ∷ xs) h = rw (nat_le-false x.day d (All-head (λ x. d < x.day) x xs h)) (ap (λ ys. x ∷ ys) (past_all d xs (All-tail (λ x. d < x.day) x xs h)))
 

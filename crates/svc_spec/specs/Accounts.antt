@@ -2,7 +2,7 @@
 use Rattle.std.specs.Prelude.{◌≡◌, ℕ, ◌≤◌, ◌<◌, ◌==◌, true, is_some, Option, List, [], ◌∷◌, ◌++◌, length}
 use Rattle.std.specs.List.{All, AllPairs, find}
 use Rattle.std.specs.Option.{option_map}
-use Rattle.svc_base.specs.Calendar.{IsReadDay}
+use Rattle.svc_base.specs.Calendar.{IsDay, IsReadDay}
 use Rattle.svc_types.specs.declared.terms.Terms.{Terms}
 use Rattle.svc_types.specs.declared.books.Books.{Books}
 use Rattle.svc_types.specs.declared.account.Entry.{Entry}
@@ -58,6 +58,7 @@ pub record IsAccount (a : Account) : Type 0 where
   pub few : length a.entries ≤ 4_096
   pub since : All (λ e. a.terms.boarded ≤ e.day) a.entries
   pub until : All (λ e. e.day ≤ a.today) a.entries
+  pub exist : All (λ e. IsDay e.day) a.entries
   pub acts : All (λ e. IsAct e.act) a.entries
   pub rising : AllPairs (λ e f. e.number < f.number) a.entries
   pub named : All (λ r. is_some (entry_of a r.0) ≡ true) a.reversals

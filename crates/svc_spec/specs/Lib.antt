@@ -8,3 +8,4 @@ pub mod Entries
 pub mod Accounts
 pub mod Months
 pub mod Totals
+pub mod Order

@@ -8,6 +8,7 @@ use Rattle.svc_types.specs.declared.books.MonthFacts.{MonthFacts}
 use Rattle.svc_types.specs.declared.account.Entry.{Entry}
 use Rattle.svc_spec.specs.Installments.{due_month}
 use Rattle.svc_spec.specs.Books.{start}
+use Rattle.svc_spec.specs.Events.{events_to, books_at}
 use Rattle.svc_spec.specs.Accounts.{Account, live_of, books_of}
 
 -- the last day of a month, or the business day where that is earlier
@@ -49,6 +50,11 @@ open_by t b by = min (t.term + 1 - b.next) (by + 1 - due_month t b.next)
 -- installment that may be satisfied, and 4
 unfoldable pub cost_of_month : Account → ℕ → ℕ
 cost_of_month a m = length (entries_from a m) + 2 * months_from a m + open_by a.terms (books_at_end a (m - 1)) (month_of a.today + 1) + 4
+
+-- what the books at a day took to fold from boarding, and one more: an event is a step, and so is each
+-- installment that was satisfied, of which the open one is the next
+abbrev pub counted : Terms → List Entry → ℕ → ℕ
+counted t live d = length (events_to t live d) + (books_at t live d).next
 
 -- facts of a month whose balance lies from 0 to the principal, and each other amount from 0 to 10^18
 pub record AreFacts (t : Terms) (f : MonthFacts) : Type 0 where

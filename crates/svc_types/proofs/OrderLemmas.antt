@@ -3,11 +3,11 @@ use Rattle.std.proofs.Common.{◌≡◌, ℕ, zero, suc, ◌+◌, ◌≤◌, ◌
 use Rattle.std.proofs.Math.Seq.{take-suc}
 use Rattle.std.specs.Prelude.{◌≢◌, ◌&&◌, ◌||◌, ◌==◌, nat_lt, not, map, is_ok, Result, Ok, Err, if◌then◌else◌}
 use Rattle.std.specs.List.{All, AllPairs, filter, insert, list_any}
-use Rattle.std.specs.List.Sorted.{IsSorted, IsPartitionedBy, IsPartitionPoint, IsBinarySearchResult}
+use Rattle.std.specs.List.Sorted.{IsSorted, IsPermutation, IsPartitionedBy, IsPartitionPoint, IsBinarySearchResult}
 use Rattle.std.specs.Ordering.{nat_cmp}
 use Rattle.std.proofs.lemmas.List.Elements.{All-cons, All-head, All-tail, All-filter}
 use Rattle.std.proofs.lemmas.List.Kept.{AllPairs-cons}
-use Rattle.std.proofs.lemmas.List.Sorted.{searched, IsNonDecreasingBy-from_sort}
+use Rattle.std.proofs.lemmas.List.Sorted.{searched, IsNonDecreasingBy-from_sort, IsPermutation-refl, IsPermutation-cons, IsPermutation-trans, IsPermutation-append_left, IsPermutation-middle, IsPermutation-sym, IsPermutation-append_right}
 use Rattle.std.proofs.lemmas.Bool.Decides.{nat_tests}
 use Rattle.svc_types.specs.declared.account.Entry.{Entry}
 use Rattle.svc_types.specs.Live.{is_before, placed, placed_onto, in_order, is_reversed, is_live, live_entries}
@@ -179,6 +179,31 @@ live_reversed entries reversals r =
 -- no entry is on an earlier day than one before it
 pub order_days : (xs : List Entry) → AllPairs follows xs → AllPairs (λ a b. a.day ≤ b.day) xs
 order_days xs h i j d lt within = test_days (get_or xs i d).day (get_or xs i d).number (get_or xs j d).day (get_or xs j d).number (h i j d lt within)
+
+-- ---- the order moves entries, and leaves out none
+
+swapped : (e x : Entry) (xs : List Entry) → IsPermutation (e ∷ x ∷ xs) (x ∷ e ∷ xs)
+swapped e x xs = IsPermutation-sym (x ∷ e ∷ xs) (e ∷ x ∷ xs) (IsPermutation-middle (x ∷ []) e xs)
+
+placed_moves : (e : Entry) (xs : List Entry) → IsPermutation (e ∷ xs) (placed e xs)
+placed_moves e [] = IsPermutation-refl (e ∷ [])
+placed_moves e (x ∷ xs) =
+    elim (is_before e x) as (λ v. IsPermutation (e ∷ x ∷ xs) (if v then e ∷ x ∷ xs else x ∷ placed e xs)) [
+      | true ↦ IsPermutation-refl (e ∷ x ∷ xs)
+      | false ↦ IsPermutation-trans (e ∷ x ∷ xs) (x ∷ e ∷ xs) (x ∷ placed e xs) (swapped e x xs) (IsPermutation-cons x (e ∷ xs) (placed e xs) (placed_moves e xs))
+    ]
+
+placed_onto_moves : (xs es : List Entry) → IsPermutation (xs ++ es) (placed_onto xs es)
+placed_onto_moves xs [] = rw append-nil (IsPermutation-refl xs)
+placed_onto_moves xs (e ∷ es) =
+    IsPermutation-trans (xs ++ e ∷ es) (placed e xs ++ es) (placed_onto (placed e xs) es)
+    (IsPermutation-trans (xs ++ e ∷ es) (e ∷ (xs ++ es)) (placed e xs ++ es) (IsPermutation-middle xs e es) (IsPermutation-append_left es (e ∷ xs) (placed e xs) (placed_moves e xs)))
+    (placed_onto_moves (placed e xs) es)
+
+-- the live entries are those that no reversal names
+pub live_moves : (entries : List Entry) (reversals : List (ℕ × ℕ)) → IsPermutation (filter (is_live reversals) entries) (live_entries entries reversals)
+unfolding live_entries
+live_moves entries reversals = placed_onto_moves [] (filter (is_live reversals) entries)
 
 -- ---- the place of an entry
 

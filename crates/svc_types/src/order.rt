@@ -1,7 +1,8 @@
 //! Which entries of a loan count, and in which order they take effect.
 
 ghost use Rattle.std.specs.Prelude.{◌≡◌, ℕ, ◌≤◌, ◌==◌, false, map, insert, length, List, AllPairs, IsSorted, OnErr, OnOk, IfOk};
-ghost use Rattle.std.specs.List.{list_any};
+ghost use Rattle.std.specs.List.{filter, list_any};
+ghost use Rattle.std.specs.List.Sorted.{IsPermutation};
 ghost use Rattle.std.specs.Ordering.{nat_cmp};
 ghost use Rattle.svc_types.specs.Live as rule;
 
@@ -26,14 +27,16 @@ pub fn place_of(ordered: &[Entry], entry: &Entry) -> usize
     ordered.partition_point(|other| !before(entry, other))
 }
 
-/// The live entries, by day, then number: those that no reversal names. A reversal is a pair of the
-/// entry's number and the number of what reversed it.
+/// The live entries, by day, then number: those that no reversal names, each as often as it is
+/// there. A reversal is a pair of the entry's number and the number of what reversed it.
 pub fn live(
     alloc: Global,
     entries: &[Entry],
     reversed: &[(u32, u32)],
 ) -> Result<Vec<Entry>, OutOfMemory>
-    ensures { IfOk result (λ found. found.items ≡ rule.live_entries entries.now reversed.now) }
+    ensures live { IfOk result (λ found. found.items ≡ rule.live_entries entries.now reversed.now) }
+    ensures order { IfOk result (λ found. AllPairs (λ a b. rule.is_before b a ≡ false) found.items) }
+    ensures those { IfOk result (λ found. IsPermutation (filter (rule.is_live reversed.now) entries.now) found.items) }
 {
     let numbers = reversed_numbers(alloc, reversed)?;
     let mut found = Vec::new(alloc);

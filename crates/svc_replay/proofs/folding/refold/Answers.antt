@@ -1,60 +1,33 @@
-use Rattle.std.proofs.Common.{◌≡◌, ◌∷◌, length, ap, arith}
-use Rattle.std.proofs.lemmas.List.Elements.{All-head}
+use Rattle.std.proofs.Common.{◌≡◌, length, ap, sym, ◌∙◌, arith}
 use Rattle.svc_types.specs.declared.books.Books.{Books}
-use Rattle.svc_types.specs.declared.account.Event.{Event}
-use Rattle.svc_spec.specs.Books.{start, IsWhat}
+use Rattle.svc_spec.specs.Books.{start}
 use Rattle.svc_spec.specs.Events.{events_to, books_at, folded}
-use Rattle.svc_spec.proofs.EventLemmas.{CanFold, can_fold_start, can_fold_step, can_fold_within, start_next}
+use Rattle.svc_spec.proofs.DayLemmas.{on}
+use Rattle.svc_spec.proofs.EventLemmas.{can_fold_start, start_next}
 use Rattle.svc_replay.specs.Left.{left}
 use Rattle.svc_replay.proofs.LeftLemmas.{left_start}
 use Rattle.svc_replay.proofs.folding.refold.Goals as goal
 
-pub loop-event-init : goal.loop-event-init
-loop-event-init g c =
+pub fold_left-requires-clause-can : goal.fold_left-requires-clause-can
+fold_left-requires-clause-can g c =
     let t = c.args.terms.now in
-    let at = c.new-cursor.result in
-    let all : left t c.args.live.now c.args.day at.month at.late at.entry ≡ events_to t c.args.live.now c.args.day = rw (c.new-cursor.ensures.month, c.new-cursor.ensures.late, c.new-cursor.ensures.entry) (left_start t c.args.live.now c.args.day) in
-    let next = ap (λ (x : Books). x.next) c.start-books.ensures.start in
-    record {
-      can = rw (all, c.start-books.ensures.start) (can_fold_start t c.args.live.now c.args.day c.requires.terms c.requires.entries c.requires.count);
-      books = rw (all, c.start-books.ensures.start);
-      steps = rw all (omega (arith, next, start_next t));
-    }
-
-pub loop-event-preserved : goal.loop-event-preserved
-loop-event-preserved g c =
-    let t = c.args.terms.now in
-    let b = c.loop-event.books in
-    let at = c.next.new.self in
-    let rest = left t c.args.live.now c.args.day at.month at.late at.entry in
-    let before = c.loop-event.invariant in
-    let can : CanFold t b (c.in-Some.event ∷ rest) = rw c.in-Some.ensures at before.can in
-    let one = ap length c.in-Some.ensures in
-    record {
-      can = rw c.fold_step.ensures.step (can_fold_step t b c.in-Some.event rest c.requires.terms can);
-      books = rw c.fold_step.ensures.step (rw c.in-Some.ensures at before.books);
-      steps = omega (arith, one, before.steps, c.fold_step.ensures.steps);
-    }
-
-pub fold_step-requires-clause-amounts : goal.fold_step-requires-clause-amounts
-fold_step-requires-clause-amounts g c =
-    let t = c.args.terms.now in
-    let at = c.next.new.self in
-    let rest = left t c.args.live.now c.args.day at.month at.late at.entry in
-    let can : CanFold t c.loop-event.books (c.in-Some.event ∷ rest) = rw c.in-Some.ensures at c.loop-event.invariant.can in
-    All-head (λ (e : Event). IsWhat e.what) c.in-Some.event rest can.whats
-
-pub fold_step-requires-clause-limits : goal.fold_step-requires-clause-limits
-fold_step-requires-clause-limits g c =
-    let t = c.args.terms.now in
-    let at = c.next.new.self in
-    let rest = left t c.args.live.now c.args.day at.month at.late at.entry in
-    let can : CanFold t c.loop-event.books (c.in-Some.event ∷ rest) = rw c.in-Some.ensures at c.loop-event.invariant.can in
-    can_fold_within t c.loop-event.books c.in-Some.event rest c.requires.terms can
+    let at = c.new.result in
+    let all : left t c.args.live.now c.args.day at.month at.late at.entry ≡ events_to t c.args.live.now c.args.day = rw (c.new.ensures.month, c.new.ensures.late, c.new.ensures.entry) (left_start t c.args.live.now c.args.day) in
+    rw (all, c.start.ensures.start) (can_fold_start t c.args.live.now c.args.day c.requires.terms c.requires.entries c.requires.count)
 
 pub returns-clause-books : goal.returns-clause-books
 unfolding books_at
 returns-clause-books g c =
     let t = c.args.terms.now in
-    let last : c.loop-event.books ≡ folded t (start t) (events_to t c.args.live.now c.args.day) = rw c.in_default.ensures at c.loop-event.invariant.books in
-    ap (λ (x : Books). record x { day = c.args.day }) last
+    let at = c.new.result in
+    let all : left t c.args.live.now c.args.day at.month at.late at.entry ≡ events_to t c.args.live.now c.args.day = rw (c.new.ensures.month, c.new.ensures.late, c.new.ensures.entry) (left_start t c.args.live.now c.args.day) in
+    rw (all, c.start.ensures.start) at c.fold_left.ensures.books
+
+pub returns-clause-steps : goal.returns-clause-steps
+returns-clause-steps g c =
+    let t = c.args.terms.now in
+    let at = c.new.result in
+    let all : left t c.args.live.now c.args.day at.month at.late at.entry ≡ events_to t c.args.live.now c.args.day = rw (c.new.ensures.month, c.new.ensures.late, c.new.ensures.entry) (left_start t c.args.live.now c.args.day) in
+    let first = ap (λ (x : Books). x.next) c.start.ensures.start in
+    let last = ap (λ (x : Books). x.next) (returns-clause-books g c) in
+    omega (arith, ap length all, first, last, start_next t, c.fold_left.ensures.steps)

@@ -10,10 +10,10 @@ use Rattle.svc_replay.proofs.plain.books_before.Goals as goal
 pub returns-then-le-clause-books : goal.returns-then-le-clause-books
 returns-then-le-clause-books g c =
     let a = c.args.kept.now.account in
-    let some = boarded_some a.terms.boarded c.terms.ensures.account.boarded in
-    let boarded : c.month_of.result ≡ month_of a.terms.boarded = c.month_of.ensures ∙ ap (λ (t : Terms). month_of t.boarded) c.terms.ensures.terms in
+    let some = boarded_some a.terms.boarded c.is_account.ensures.boarded in
+    let boarded : c.month_of.result ≡ month_of a.terms.boarded = c.month_of.ensures ∙ ap (λ (t : Terms). month_of t.boarded) c.terms.ensures in
     let first : c.args.month ≤ c.month_of.result = from_nat_le c.args.month c.month_of.result (sym (is_le-nat_cmp c.args.month c.month_of.result) ∙ sym c.le.ensures ∙ c.if-le.true) in
-    c.start.ensures.start ∙ ap start c.terms-then-le.ensures.terms ∙ sym (before_boarded a (c.args.month - 1) (omega arith))
+    c.start.ensures.start ∙ ap start c.terms-then-le.ensures ∙ sym (before_boarded a (c.args.month - 1) (omega arith))
 
 pub refolded-requires-clause-until : goal.refolded-requires-clause-until
 refolded-requires-clause-until g c =
@@ -24,7 +24,7 @@ refolded-requires-clause-until g c =
 pub returns-clause-books : goal.returns-clause-books
 returns-clause-books g c =
     let a = c.args.kept.now.account in
-    let boarded : c.month_of.result ≡ month_of a.terms.boarded = c.month_of.ensures ∙ ap (λ (t : Terms). month_of t.boarded) c.terms.ensures.terms in
+    let boarded : c.month_of.result ≡ month_of a.terms.boarded = c.month_of.ensures ∙ ap (λ (t : Terms). month_of t.boarded) c.terms.ensures in
     let later : c.month_of.result < c.args.month = from_not_nat_le c.args.month c.month_of.result (sym (is_le-nat_cmp c.args.month c.month_of.result) ∙ sym c.le.ensures ∙ c.if-le.false) in
     let month : c.previous.result ≡ c.args.month - 1 = omega arith in
     let early = end_before_next c.previous.result a.today (omega arith) in

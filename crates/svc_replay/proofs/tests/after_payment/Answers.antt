@@ -1,5 +1,6 @@
 use Rattle.std.proofs.Common.{◌≤◌, [], arith, rules, to_z, of_z, w64}
 use Rattle.std.proofs.lemmas.Int.{ints}
+use Rattle.svc_types.specs.declared.account.Designation.TheVariants.{Regular}
 use Rattle.svc_types.specs.declared.account.Act.TheVariants.{Pay}
 use Rattle.svc_types.specs.declared.account.Designation.TheVariants.{Regular}
 use Rattle.svc_spec.specs.Books.{IsEntryAmount}

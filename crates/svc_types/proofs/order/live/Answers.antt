@@ -1,8 +1,9 @@
 use Rattle.std.proofs.Common.{◌≡◌, sym, ◌∙◌, subst, ap, arith, false, true}
 use Rattle.std.specs.Prelude.{◌==◌, take}
 use Rattle.std.specs.List.{AllPairs, filter, list_any}
+use Rattle.std.specs.List.Sorted.{IsPermutation}
 use Rattle.svc_types.specs.Live.{in_order, is_live, is_reversed, placed}
-use Rattle.svc_types.proofs.OrderLemmas.{follows, ordered_order, live_more, live_same, live_whole}
+use Rattle.svc_types.proofs.OrderLemmas.{follows, ordered_order, live_more, live_same, live_whole, live_order, live_moves}
 use Rattle.svc_types.proofs.order.live.Goals as goal
 use Rattle.svc_types.proofs.order.live.Goals.{then-not-is_among+in_ok-insert, else-not-is_among}
 
@@ -28,5 +29,11 @@ loop-entry-preserved c =
           items ∙ c.loop-entry.invariant ∙ sym (live_same c.args.entries.now c.args.reversed.now c.loop-entry.entry-index e c.loop-entry-test.true c.entry-item.is taken)
     ]
 
-pub returns : goal.returns
-returns c = c.loop-entry.invariant ∙ live_whole c.args.entries.now c.args.reversed.now c.loop-entry.entry-index (omega arith)
+pub returns-clause-live : goal.returns-clause-live
+returns-clause-live c = c.loop-entry.invariant ∙ live_whole c.args.entries.now c.args.reversed.now c.loop-entry.entry-index (omega arith)
+
+pub returns-clause-order : goal.returns-clause-order
+returns-clause-order c = subst (AllPairs follows) (sym (returns-clause-live c)) (live_order c.args.entries.now c.args.reversed.now)
+
+pub returns-clause-those : goal.returns-clause-those
+returns-clause-those c = subst (IsPermutation (filter (is_live c.args.reversed.now) c.args.entries.now)) (sym (returns-clause-live c)) (live_moves c.args.entries.now c.args.reversed.now)

@@ -1,16 +1,15 @@
 use Rattle.std.proofs.Common.{◌≡◌, ◌+◌, length}
-use Rattle.svc_spec.specs.Books.{start}
-use Rattle.svc_spec.specs.Events.{events_to, folded}
+use Rattle.svc_spec.specs.Events.{folded}
 use Rattle.svc_spec.proofs.EventLemmas.{CanFold}
 use Rattle.svc_replay.specs.Left.{left}
-use Rattle.svc_replay.proofs.folding.refold.Given as goal
+use Rattle.svc_replay.proofs.folding.fold_left.Given as goal
 
 -- the books take the events that are left, and come with them to what all events come to
 abbrev pub invariant-loop-event : goal.invariant-loop-event
 invariant-loop-event g l = record {
   can : CanFold l.terms l.books (left l.terms l.live l.day l.cursor.month l.cursor.late l.cursor.entry);
-  books : folded l.terms l.books (left l.terms l.live l.day l.cursor.month l.cursor.late l.cursor.entry) ≡ folded l.terms (start l.terms) (events_to l.terms l.live l.day);
-  steps : l.steps + length (left l.terms l.live l.day l.cursor.month l.cursor.late l.cursor.entry) + 1 ≡ l.fn.steps + length (events_to l.terms l.live l.day) + l.books.next;
+  books : folded l.terms l.books (left l.terms l.live l.day l.cursor.month l.cursor.late l.cursor.entry) ≡ folded l.terms l.fn.books (left l.terms l.live l.day l.fn.cursor.month l.fn.cursor.late l.fn.cursor.entry);
+  steps : l.steps + length (left l.terms l.live l.day l.cursor.month l.cursor.late l.cursor.entry) + l.fn.books.next ≡ l.fn.steps + length (left l.terms l.live l.day l.fn.cursor.month l.fn.cursor.late l.fn.cursor.entry) + l.books.next;
 }
 
 abbrev pub decreases-loop-event : goal.decreases-loop-event
