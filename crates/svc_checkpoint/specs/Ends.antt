@@ -9,7 +9,7 @@ use Rattle.svc_spec.specs.Months.{counted}
 -- the books at the ends of the first n months, from the boarded one on
 abbrev pub AreEnds : Account → List Books → ℕ → Type 0
 AreEnds a ends n =
-  (i : ℕ) (b : Books) → i < n → get_or ends i b ≡ books_of a (last_day (month_of a.terms.boarded + i))
+    (i : ℕ) (b : Books) → i < n → get_or ends i b ≡ books_of a (last_day (month_of a.terms.boarded + i))
 
 -- an account whose books are kept at the end of each month before the business day's, and now
 pub record AreChecked (a : Account) (kept : List Books) (day : Books) : Type 0 where
@@ -23,4 +23,4 @@ pub record AreChecked (a : Account) (kept : List Books) (day : Books) : Type 0 w
 -- what was counted up to the end of the month before one; up to boarding nothing is folded
 abbrev pub counted_before : Account → ℕ → ℕ
 counted_before a m =
-  if nat_le m (month_of a.terms.boarded) then 1 else counted a.terms (live_of a) (last_day (m - 1))
+    if nat_le m (month_of a.terms.boarded) then 1 else counted a.terms (live_of a) (last_day (m - 1))

@@ -72,8 +72,7 @@ impl LoanBooks for Checked {
 
     fn reserve(&mut self, today: Day) -> Result<(), OutOfMemory> {
         self.kept.reserve()?;
-        self.ends
-            .reserve(months_between(self.kept.today(), today))?;
+        self.ends.reserve(months_between(self.kept.today(), today))?;
         Ok(())
     }
 
@@ -101,8 +100,7 @@ impl LoanBooks for Checked {
         // the calendar has the business day
         let place = today.day();
         prove!(place >= 1);
-        self.ends
-            .reserve(months_between(self.kept.today(), today))?;
+        self.ends.reserve(months_between(self.kept.today(), today))?;
         let now = self.now;
         self.now = pushed(&self.kept, &mut self.ends, &now, today, steps);
         self.kept.advance(today);
@@ -151,7 +149,8 @@ fn months_between(earlier: Day, day: Day) -> usize
 
 /// The month of the entry with that number.
 fn month_of_entry(kept: &LoanAccount, number: u32) -> Option<Month>
-    ensures { MatchOption (entry_of kept.now.account number) (result ≡ None) (λ entry. result ≡ Some (month_number entry.day)) }
+    ensures { MatchOption (entry_of kept.now.account number) (result ≡ None)
+        (λ entry. result ≡ Some (month_number entry.day)) }
 {
     match &kept.entry(number) {
         Some(entry) => Some(month_of(entry.day)),

@@ -97,7 +97,8 @@ pub(crate) fn pushed<L: Ledger>(
     requires count { month_number kept.now.account.terms.boarded + length ends.old.items
         ≡ month_number now.now.day }
     requires ends { rule.AreEnds kept.now.account ends.old.items (length ends.old.items) }
-    requires room { vec_len ends.old + (month_number day - month_number now.now.day) ≤ vec_capacity ends.old }
+    requires room { vec_len ends.old + (month_number day - month_number now.now.day)
+        ≤ vec_capacity ends.old }
     ensures count { month_number kept.now.account.terms.boarded + length ends.new.items ≡ month_number day }
     ensures ends { rule.AreEnds kept.now.account ends.new.items (length ends.new.items) }
     ensures capacity { vec_capacity ends.new ≡ vec_capacity ends.old }
