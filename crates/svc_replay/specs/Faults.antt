@@ -1,7 +1,8 @@
 -- Why a posting or a reversal is refused.
 use Rattle.std.specs.Prelude.{◌≡◌, ℕ, ◌≤◌, ◌<◌, true, is_some, Some, None, length}
 use Rattle.svc_replay.specs.declared.fault.BookFault.{BookFault}
-use Rattle.svc_replay.specs.declared.fault.BookFault.TheVariants.{Full, NoSuchEntry, AlreadyReversed, OutOfMemory}
+use Rattle.svc_replay.specs.declared.fault.BookFault.TheVariants.{Full, NoSuchEntry, AlreadyReversed}
+use Rattle.svc_replay.specs.declared.fault.BookFault.TheVariants.{OutOfMemory}
 use Rattle.svc_spec.specs.Accounts.{Account, entry_of, reverser_of}
 
 -- the most entries that an account holds, reversed ones counted

@@ -51,7 +51,8 @@ pub record IsKept (a : Account) (ordered : List Entry) (by : List (Option ℕ)) 
 -- the place of the entry with a number, where there is one
 abbrev pub IsPlaceOf : ℕ → List Entry → Option ℕ → Type 0
 IsPlaceOf number entries None = find (λ e. e.number == number) entries ≡ None
-IsPlaceOf number entries (Some i) = (i < length entries) × ((d : Entry) → (get_or entries i d).number ≡ number)
+IsPlaceOf number entries (Some i) =
+    (i < length entries) × ((d : Entry) → (get_or entries i d).number ≡ number)
 
 -- the books now are those of the business day
 pub record AreNow (a : Account) (b : Books) : Type 0 where

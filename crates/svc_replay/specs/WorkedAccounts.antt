@@ -21,16 +21,16 @@ account_with entries reversals = record {
 -- two payments of an installment, the later one on a day in March
 abbrev pub paid_twice : ℕ → List (ℕ × ℕ) → Account
 paid_twice d reversals = account_with
-  (entry_on 3 (day_at 2024 2 1) (regular (pos 119_910)) ∷ entry_on 4 d (regular (pos 119_910)) ∷ [])
-  reversals
+    (entry_on 3 (day_at 2024 2 1) (regular (pos 119_910)) ∷ entry_on 4 d (regular (pos 119_910)) ∷ [])
+    reversals
 
 -- a payment, and the payoff that is asked on 2024-02-16
 abbrev pub paid_off : Account
 paid_off = account_with
-  (entry_on 3 (day_at 2024 2 1) (regular (pos 119_910))
-  ∷ entry_on 5 (day_at 2024 2 16) (act.Payoff (pos 20_030_040))
-  ∷ [])
-  []
+    (entry_on 3 (day_at 2024 2 1) (regular (pos 119_910))
+    ∷ entry_on 5 (day_at 2024 2 16) (act.Payoff (pos 20_030_040))
+    ∷ [])
+    []
 
 -- an analysis of the installments from April 2024 on, which refunds 50.00
 abbrev pub refunding : Settled
@@ -43,9 +43,9 @@ refunding = record {
 -- a deposit, a bill, an analysis that refunds, and a refund
 abbrev pub escrowed : Account
 escrowed = account_with
-  (entry_on 3 (day_at 2024 2 1) (act.Deposit (pos 109_000))
-  ∷ entry_on 4 (day_at 2024 2 10) (act.Disburse (pos 50_000) 1)
-  ∷ entry_on 5 (day_at 2024 3 1) (act.Analyse refunding)
-  ∷ entry_on 6 (day_at 2024 3 2) (act.Refund (pos 1_000))
-  ∷ [])
-  []
+    (entry_on 3 (day_at 2024 2 1) (act.Deposit (pos 109_000))
+    ∷ entry_on 4 (day_at 2024 2 10) (act.Disburse (pos 50_000) 1)
+    ∷ entry_on 5 (day_at 2024 3 1) (act.Analyse refunding)
+    ∷ entry_on 6 (day_at 2024 3 2) (act.Refund (pos 1_000))
+    ∷ [])
+    []

@@ -1,6 +1,7 @@
 //! The account of a loan: its entries and reversals, and the live entries in order.
 
-ghost use Rattle.std.specs.Prelude.{◌≡◌, ◌+◌, ◌≤◌, ◌<◌, nat_lt, length, None, IfSome, IsErrOf, OnOk, OnErr, IfErr};
+ghost use Rattle.std.specs.Prelude.{◌≡◌, ◌+◌, ◌≤◌, ◌<◌, nat_lt, length, None, IfSome, IsErrOf, OnOk, OnErr};
+ghost use Rattle.std.specs.Prelude.{IfErr};
 ghost use Rattle.std.specs.List.{AllPairs};
 ghost use Rattle.svc_base.specs.Calendar.{month_of as month_number, months_end};
 ghost use Rattle.svc_spec.specs.Accounts as rule;
@@ -40,18 +41,23 @@ impl Model for LoanAccount {
     ghost Value = { Kept };
 
     ghost view = { λ a. record {
-      account = record { terms = a.terms; entries = a.entries.items; reversals = a.reversals.items; today = a.today };
+      account = record {
+        terms = a.terms;
+        entries = a.entries.items;
+        reversals = a.reversals.items;
+        today = a.today;
+      };
       room = record {
         entries = min (vec_capacity a.entries - vec_len a.entries)
-          (min (vec_capacity a.reversers - vec_len a.reversers) (vec_capacity a.live - vec_len a.live));
+            (min (vec_capacity a.reversers - vec_len a.reversers) (vec_capacity a.live - vec_len a.live));
         reversals = vec_capacity a.reversals - vec_len a.reversals;
         months = months_end;
       };
     } };
 
     ghost invariant = { λ a. IsKept
-      (record { terms = a.terms; entries = a.entries.items; reversals = a.reversals.items; today = a.today })
-      a.live.items a.reversers.items };
+        (record { terms = a.terms; entries = a.entries.items; reversals = a.reversals.items; today = a.today })
+        a.live.items a.reversers.items };
 }
 
 impl LoanAccount {
@@ -115,7 +121,8 @@ impl LoanAccount {
     pub fn reverse(&mut self, number: u32, by: u32) -> Result<(), BookFault>
         ensures ok { OnOk result (self.new.account ≡ rule.reversed_in number by self.old.account) }
         ensures kept { OnErr result (self.new.account ≡ self.old.account) }
-        ensures unknown { rule.entry_of self.old.account number ≡ None → IsErrOf result BookFault.NoSuchEntry }
+        ensures unknown { rule.entry_of self.old.account number ≡ None
+            → IsErrOf result BookFault.NoSuchEntry }
         ensures again { IfSome (rule.entry_of self.old.account number)
             (λ entry. IfSome (rule.reverser_of self.old.account number)
             (λ earlier. IsErrOf result (BookFault.AlreadyReversed earlier))) }
@@ -196,7 +203,8 @@ impl LoanAccount {
         ensures books { result ≡ rule.books_of self.now.account day }
         ensures sound { AreBooks self.now.account.terms result }
         ensures account { rule.IsAccount self.now.account }
-        ensures counted { steps.new + 1 ≡ steps.old + counted self.now.account.terms (rule.live_of self.now.account) day }
+        ensures counted { steps.new + 1 ≡ steps.old
+            + counted self.now.account.terms (rule.live_of self.now.account) day }
         ensures steps { steps.new ≤ steps.old
             + cost_of_month self.now.account (month_number self.now.account.terms.boarded) }
     {

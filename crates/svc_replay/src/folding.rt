@@ -50,7 +50,8 @@ pub fn fold_on<L: Ledger>(
     requires earlier { earlier.now ≡ books_at terms.now live.now earlier.now.day }
     ensures books { result ≡ books_at terms.now live.now day }
     ensures sound { AreBooks terms.now result }
-    ensures steps { steps.new + counted terms.now live.now earlier.now.day ≡ steps.old + counted terms.now live.now day }
+    ensures steps { steps.new + counted terms.now live.now earlier.now.day
+        ≡ steps.old + counted terms.now live.now day }
 {
     let cursor = Cursor::after(terms, live, earlier.day);
     fold_left(*earlier, cursor, terms, live, day, steps)
@@ -68,10 +69,13 @@ fn fold_left<L: Ledger>(
     requires terms { IsSound terms.now }
     requires boarded { IsReadDay terms.now.boarded }
     requires entries { AreEntries terms.now live.now }
-    requires can { CanFold terms.now books (left terms.now live.now day cursor.month cursor.late cursor.entry) }
-    ensures books { result ≡ on day (folded terms.now books (left terms.now live.now day cursor.month cursor.late cursor.entry)) }
+    requires can { CanFold terms.now books
+        (left terms.now live.now day cursor.month cursor.late cursor.entry) }
+    ensures books { result ≡ on day (folded terms.now books
+        (left terms.now live.now day cursor.month cursor.late cursor.entry)) }
     ensures sound { AreBooks terms.now result }
-    ensures steps { steps.new + books.next ≡ steps.old + length (left terms.now live.now day cursor.month cursor.late cursor.entry) + result.next }
+    ensures steps { steps.new + books.next ≡ steps.old
+        + length (left terms.now live.now day cursor.month cursor.late cursor.entry) + result.next }
 {
     let mut books = books;
     let mut cursor = cursor;

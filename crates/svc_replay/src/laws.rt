@@ -14,8 +14,7 @@ use svc_types::{Books, Entry, MonthFacts, Terms};
 /// marks, then entries. The function has no code.
 pub fn events_stand_in_order(terms: &Terms, live: &[Entry], day: Day)
     ensures { AllPairs MayPrecede (events_to terms.now live.now day) }
-{
-}
+{}
 
 /// Whether two values give the same books now, the same at a day and the same facts of a month: they
 /// do, however each keeps them, where they stand for one account.

@@ -57,7 +57,8 @@ pub trait LoanBooks: Sized + Drop {
         requires { MayPost (account self.old) entry }
         ensures ok { OnOk result (account self.new ≡ posted entry (account self.old)) }
         ensures kept { OnErr result (account self.new ≡ account self.old) }
-        ensures full { most_entries ≤ length (account self.old).entries → IsErrOf result BookFault.Full }
+        ensures full { most_entries ≤ length (account self.old).entries
+            → IsErrOf result BookFault.Full }
         ensures fault { IfErr result (IsPostFault (account self.old) (room self.old).entries) }
         ensures room { IsLoweredBy one_entry (room self.old) (room self.new) }
         ensures kept_room { OnErr result (IsLoweredBy nothing (room self.old) (room self.new)) }
@@ -74,7 +75,8 @@ pub trait LoanBooks: Sized + Drop {
     ) -> Result<(), BookFault>
         ensures ok { OnOk result (account self.new ≡ reversed_in number by (account self.old)) }
         ensures kept { OnErr result (account self.new ≡ account self.old) }
-        ensures unknown { entry_of (account self.old) number ≡ None → IsErrOf result BookFault.NoSuchEntry }
+        ensures unknown { entry_of (account self.old) number ≡ None
+            → IsErrOf result BookFault.NoSuchEntry }
         ensures again { IfSome (entry_of (account self.old) number)
             (λ entry. IfSome (reverser_of (account self.old) number)
             (λ earlier. IsErrOf result (BookFault.AlreadyReversed earlier))) }

@@ -62,8 +62,18 @@ fn payments<L: Ledger>(alloc: Global, blank: Blank) -> Result<(Money, Money), Fa
     terms.check()?;
     let mut steps = Steps::<L>::new(blank);
     let mut books = Plain::begin(alloc, terms, day(2024, 4, 1), &mut steps)?;
-    books.post(entry(3, day(2024, 2, 1), Act::Pay(119_910, Designation::Regular)), &mut steps)?;
-    books.post(entry(13, day(2024, 3, 10), Act::Pay(119_910, Designation::Regular)), &mut steps)?;
+    books.post(
+        entry(3, day(2024, 2, 1), Act::Pay(119_910, Designation::Regular)),
+        &mut steps,
+    )?;
+    books.post(
+        entry(
+            13,
+            day(2024, 3, 10),
+            Act::Pay(119_910, Designation::Regular),
+        ),
+        &mut steps,
+    )?;
     let both = money_of(books.terms(), books.now());
     books.reverse(3, 14, &mut steps)?;
     Ok((both, money_of(books.terms(), books.now())))
@@ -79,7 +89,10 @@ fn payoff<L: Ledger>(alloc: Global, blank: Blank) -> Result<Money, Fail>
     terms.check()?;
     let mut steps = Steps::<L>::new(blank);
     let mut books = Plain::begin(alloc, terms, day(2024, 2, 16), &mut steps)?;
-    books.post(entry(3, day(2024, 2, 1), Act::Pay(119_910, Designation::Regular)), &mut steps)?;
+    books.post(
+        entry(3, day(2024, 2, 1), Act::Pay(119_910, Designation::Regular)),
+        &mut steps,
+    )?;
     books.post(
         entry(5, day(2024, 2, 16), Act::Payoff(20_030_040)),
         &mut steps,

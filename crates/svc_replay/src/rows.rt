@@ -25,11 +25,11 @@ pub fn worked_totals()
 /// What the books of these accounts hold and have collected, and what they say of the loan.
 pub fn worked_accounts()
     ensures late { total (books_of (paid_twice (day_at 2024 3 10) []) (day_at 2024 4 1)) ≡ pos 239_820 }
-    ensures late_upb { (books_of (paid_twice (day_at 2024 3 10) []) (day_at 2024 4 1)).upb ≡ pos 19_960_080 }
+    ensures late_upb { (books_of (paid_twice (day_at 2024 3 10) []) (day_at 2024 4 1)).upb
+        ≡ pos 19_960_080 }
     ensures reversed { total (books_of (paid_twice (day_at 2024 3 1) ((3, 14) ∷ [])) (day_at 2024 4 1))
         ≡ pos 119_910 }
-    ensures reversed_late { (books_of (paid_twice (day_at 2024 3 1) ((3, 14) ∷ [])) (day_at 2024 4 1)).late_owed
-        ≡ pos 11_992 }
+    ensures reversed_late { (books_of (paid_twice (day_at 2024 3 1) ((3, 14) ∷ [])) (day_at 2024 4 1)).late_owed ≡ pos 11_992 }
     ensures payoff { total (books_of paid_off (day_at 2024 4 1)) ≡ pos 20_149_950 }
     ensures escrow { total (books_of escrowed (day_at 2024 4 1)) ≡ pos 53_000 }
 {}
@@ -39,5 +39,6 @@ pub fn worked_accounts()
 pub fn worked_costs()
     ensures late { cost_of_month (paid_twice (day_at 2024 3 10) []) (month_at 2024 3) ≡ 12 }
     ensures boarded { cost_of_month (paid_twice (day_at 2024 3 10) []) (month_at 2023 12) ≡ 20 }
-    ensures reversed { cost_of_month (paid_twice (day_at 2024 3 1) ((3, 14) ∷ [])) (month_at 2024 2) ≡ 15 }
+    ensures reversed { cost_of_month (paid_twice (day_at 2024 3 1) ((3, 14) ∷ [])) (month_at 2024 2)
+        ≡ 15 }
 {}

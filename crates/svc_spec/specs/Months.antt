@@ -1,5 +1,6 @@
 -- What one month did to a loan, and what it may cost to fold a loan anew from a month on.
-use Rattle.std.specs.Prelude.{ℕ, ◌+◌, ◌-◌, ◌*◌, min, nat_lt, nat_le, if◌then◌else◌, pos, ◌-ℤ◌, ◌≤ℤ◌, int_le, List, length}
+use Rattle.std.specs.Prelude.{ℕ, ◌+◌, ◌-◌, ◌*◌, min, nat_lt, nat_le, if◌then◌else◌, pos, ◌-ℤ◌, ◌≤ℤ◌, int_le}
+use Rattle.std.specs.Prelude.{List, length}
 use Rattle.std.specs.List.{filter}
 use Rattle.svc_base.specs.Calendar.{month_of, last_day}
 use Rattle.svc_types.specs.declared.terms.Terms.{Terms}
@@ -49,7 +50,9 @@ open_by t b by = min (t.term + 1 - b.next) (by + 1 - due_month t b.next)
 -- the bound on the steps from a month on: one for each entry, two for each month, one for each
 -- installment that may be satisfied, and 4
 unfoldable pub cost_of_month : Account → ℕ → ℕ
-cost_of_month a m = length (entries_from a m) + 2 * months_from a m + open_by a.terms (books_at_end a (m - 1)) (month_of a.today + 1) + 4
+cost_of_month a m =
+  length (entries_from a m) + 2 * months_from a m
+  + open_by a.terms (books_at_end a (m - 1)) (month_of a.today + 1) + 4
 
 -- what the books at a day took to fold from boarding, and one more: an event is a step, and so is each
 -- installment that was satisfied, of which the open one is the next

@@ -1,6 +1,7 @@
 //! Which entries of a loan count, and in which order they take effect.
 
-ghost use Rattle.std.specs.Prelude.{◌≡◌, ℕ, ◌≤◌, ◌==◌, false, map, insert, length, List, AllPairs, IsSorted, OnErr, OnOk, IfOk};
+ghost use Rattle.std.specs.Prelude.{◌≡◌, ℕ, ◌≤◌, ◌==◌, false, map, insert, length, List, AllPairs, IsSorted};
+ghost use Rattle.std.specs.Prelude.{OnErr, OnOk, IfOk};
 ghost use Rattle.std.specs.List.{filter, list_any};
 ghost use Rattle.std.specs.List.Sorted.{IsPermutation};
 ghost use Rattle.std.specs.Ordering.{nat_cmp};
@@ -36,7 +37,8 @@ pub fn live(
 ) -> Result<Vec<Entry>, OutOfMemory>
     ensures live { IfOk result (λ found. found.items ≡ rule.live_entries entries.now reversed.now) }
     ensures order { IfOk result (λ found. AllPairs (λ a b. rule.is_before b a ≡ false) found.items) }
-    ensures those { IfOk result (λ found. IsPermutation (filter (rule.is_live reversed.now) entries.now) found.items) }
+    ensures those { IfOk result
+        (λ found. IsPermutation (filter (rule.is_live reversed.now) entries.now) found.items) }
 {
     let numbers = reversed_numbers(alloc, reversed)?;
     let mut found = Vec::new(alloc);
@@ -51,7 +53,8 @@ pub fn live(
 /// The numbers of the reversed entries, in order.
 fn reversed_numbers(alloc: Global, reversed: &[(u32, u32)]) -> Result<Vec<u32>, OutOfMemory>
     ensures sorted { IfOk result (λ numbers. IsSorted nat_cmp numbers.items) }
-    ensures same { IfOk result (λ numbers. (n : ℕ) → list_any (λ x. x == n) numbers.items ≡ rule.is_reversed reversed.now n) }
+    ensures same { IfOk result (λ numbers. (n : ℕ) →
+        list_any (λ x. x == n) numbers.items ≡ rule.is_reversed reversed.now n) }
 {
     let mut numbers = numbers_of(alloc, reversed)?;
     numbers.sort_unstable();

@@ -2,6 +2,7 @@ use Rattle.std.proofs.Common.{◌≤◌, [], arith, rules, to_z, of_z, w64}
 use Rattle.std.proofs.lemmas.Int.{ints}
 use Rattle.svc_types.specs.declared.account.Designation.TheVariants.{Regular}
 use Rattle.svc_types.specs.declared.account.Act.TheVariants.{Pay}
+use Rattle.svc_types.specs.declared.account.Designation.TheVariants.{Regular}
 use Rattle.svc_spec.specs.Books.{IsEntryAmount}
 use Rattle.svc_replay.proofs.EntryLemmas.{entries_none, entries_more}
 use Rattle.svc_replay.proofs.tests.after_payment.Goals as goal

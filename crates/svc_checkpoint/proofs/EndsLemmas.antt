@@ -1,0 +1,241 @@
+-- The books at the ends of months, and what folds between them count.
+use Rattle.std.proofs.Common.{◌≡◌, ℕ, zero, suc, ◌+◌, ◌-◌, ◌≤◌, ◌<◌, ◌≢◌, Bool, true, false, cond, List, [], ◌∷◌, ◌++◌, length, get_or, set, get_or-set_same, get_or-set_other, arith, refl, sym, ap, subst, ◌∙◌}
+use Rattle.std.specs.List.{All, find}
+use Rattle.std.specs.Prelude.{◌==◌, nat_le, nat_lt, Option, Some, None, MatchOption, IfSome, if◌then◌else◌}
+use Rattle.std.proofs.Math.Seq.{get_or-append_seam}
+use Rattle.std.proofs.lemmas.List.{get_or_append_left}
+use Rattle.std.proofs.lemmas.Option.{same_Some}
+use Rattle.std.proofs.lemmas.Bool.Decides.{nat_tests}
+use Rattle.svc_base.specs.Calendar.{month_of, last_day, IsDay}
+use Rattle.svc_base.specs.DayLemmas.{month_length_most, month_length_least}
+use Rattle.svc_types.specs.declared.terms.Terms.{Terms}
+use Rattle.svc_types.specs.declared.books.Books.{Books}
+use Rattle.svc_types.specs.declared.account.Entry.{Entry}
+use Rattle.svc_spec.specs.Books.{AreBooks, start}
+use Rattle.svc_spec.specs.Entries.{AreEntries}
+use Rattle.svc_spec.specs.Events.{books_at}
+use Rattle.svc_spec.specs.Accounts.{Account, posted, reversed_in, advanced_to, live_of, books_of, entry_of, IsAccount, MayPost}
+use Rattle.svc_spec.specs.Months.{counted, cost_of_month, books_at_end}
+use Rattle.svc_spec.proofs.SettlingLemmas.{nat_le-true, nat_le-false}
+use Rattle.svc_spec.proofs.AccountLemmas.{live_few, live_entries_fold, account_books, advanced_account}
+use Rattle.svc_spec.proofs.MonthLemmas.{boarded_some, day_by_end, end_before_next, before_boarded, from_boarded, past_month}
+use Rattle.svc_spec.proofs.CostLemmas.{refold_within}
+use Rattle.svc_spec.proofs.SameLemmas.{posted_same, reversed_same}
+use Rattle.svc_spec.proofs.StepsLemmas.{counted_from_end, counted_on, day_within}
+use Rattle.svc_checkpoint.specs.Ends.{AreEnds, AreChecked, counted_before}
+
+-- ---- what was counted before a month
+
+pub counted_first : (a : Account) (m : ℕ) → m ≤ month_of a.terms.boarded → counted_before a m ≡ 1
+counted_first a m le = rw (nat_le-true m (month_of a.terms.boarded) le)
+
+pub counted_later : (a : Account) (m : ℕ) → month_of a.terms.boarded < m → counted_before a m ≡ counted a.terms (live_of a) (last_day (m - 1))
+counted_later a m lt = rw (nat_le-false m (month_of a.terms.boarded) lt)
+
+pub counted_end : (a : Account) (m : ℕ) → month_of a.terms.boarded ≤ m → counted_before a (m + 1) ≡ counted a.terms (live_of a) (last_day m)
+counted_end a m le = let same : m + 1 - 1 ≡ m = omega arith in counted_later a (m + 1) (omega arith) ∙ ap (λ x. counted a.terms (live_of a) (last_day x)) same
+
+-- a fold up to a day from the end of the month before is within the cost of the month
+pub within_day : (a : Account) (m d old new : ℕ) → IsAccount a → month_of a.terms.boarded ≤ m → m ≤ month_of d → a.terms.boarded ≤ d → d ≤ a.today → new + counted_before a m ≡ old + counted a.terms (live_of a) d → new ≤ old + cost_of_month a m
+within_day a m d old new h low high since until steps =
+    elim (nat_lt (month_of a.terms.boarded) m) as (λ v. nat_lt (month_of a.terms.boarded) m ≡ v → new ≤ old + cost_of_month a m) [
+      | true ↦ λ e.
+          let later : month_of a.terms.boarded < m = grind (arith, nat_tests) in
+          let end = end_before_next (m - 1) d (omega arith) in
+          omega (arith, steps, counted_later a m later, counted_from_end a m d h later end until)
+      | false ↦ λ e.
+          let back : m ≤ month_of a.terms.boarded = grind (arith, nat_tests) in
+          let same : month_of a.terms.boarded ≡ m = omega arith in
+          omega (arith, steps, counted_first a m back, refold_within a d h since until, ap (cost_of_month a) same)
+    ] refl
+
+-- ---- books of a day
+
+books_day : (t : Terms) (live : List Entry) (d : ℕ) → (books_at t live d).day ≡ d
+unfolding books_at
+books_day t live d = refl
+
+-- they are those of their own day
+pub own_day : (t : Terms) (live : List Entry) (d : ℕ) (b : Books) → b ≡ books_at t live d → (b.day ≡ d) × (b ≡ books_at t live b.day)
+own_day t live d b h =
+    let same : b.day ≡ d = ap (λ (x : Books). x.day) h ∙ books_day t live d in
+    (same, h ∙ ap (books_at t live) (sym same))
+
+pub live_count : (a : Account) (live : List Entry) → IsAccount a → live ≡ live_of a → length live ≤ 4_096
+live_count a live h is = let few = h.few in omega (arith, ap length is, live_few a)
+
+pub live_fold : (a : Account) (t : Terms) (live : List Entry) → IsAccount a → t ≡ a.terms → live ≡ live_of a → AreEntries t live
+live_fold a t live h pt pl = rw (pt, pl) (live_entries_fold a h)
+
+pub of_account : (a : Account) (t : Terms) (live : List Entry) (d : ℕ) → t ≡ a.terms → live ≡ live_of a → books_at t live d ≡ books_of a d
+of_account a t live d pt pl = rw (pt, pl)
+
+pub counted_of : (a : Account) (t : Terms) (live : List Entry) (d : ℕ) → t ≡ a.terms → live ≡ live_of a → counted t live d ≡ counted a.terms (live_of a) d
+counted_of a t live d pt pl = rw (pt, pl)
+
+-- ---- the ends of months
+
+-- the end of the month before a later one than the boarded
+pub at_end : (a : Account) (ends : List Books) (n i m : ℕ) (e : Books) → AreEnds a ends n → e ≡ get_or ends i e → i < n → month_of a.terms.boarded + i ≡ m → e ≡ books_of a (last_day m)
+at_end a ends n i m e h is lt same = is ∙ h i e lt ∙ ap (λ x. books_of a (last_day x)) same
+
+-- it is before a day of the month, and not before boarding
+pub end_since : (a : Account) (m : ℕ) → IsAccount a → month_of a.terms.boarded < m → a.terms.boarded ≤ last_day (m - 1)
+end_since a m h later = day_by_end a.terms.boarded (m - 1) h.boarded (omega arith)
+
+-- one more end is set in its place
+pub ends_set : (a : Account) (ends : List Books) (n : ℕ) (x : Books) → AreEnds a ends n → n < length ends → x ≡ books_of a (last_day (month_of a.terms.boarded + n)) → AreEnds a (set ends n x) (n + 1)
+ends_set a ends n x h within is i b lt =
+    elim (nat_lt i n) as (λ v. nat_lt i n ≡ v → get_or (set ends n x) i b ≡ books_of a (last_day (month_of a.terms.boarded + i))) [
+      | true ↦ λ e.
+          let below : i < n = grind (arith, nat_tests) in
+          let other : i ≢ n = omega arith in
+          get_or-set_other ends n i x b other ∙ h i b below
+      | false ↦ λ e.
+          let back : n ≤ i = grind (arith, nat_tests) in
+          let same : i ≡ n = omega arith in
+          rw same (get_or-set_same ends n x b within ∙ is)
+    ] refl
+
+-- or stands after the others
+pub ends_pushed : (a : Account) (ends : List Books) (n m : ℕ) (x : Books) → AreEnds a ends n → n ≡ length ends → m ≡ n + 1 → x ≡ books_of a (last_day (month_of a.terms.boarded + n)) → AreEnds a (ends ++ x ∷ []) m
+ends_pushed a ends n m x h all more is i b lt =
+    elim (nat_lt i n) as (λ v. nat_lt i n ≡ v → get_or (ends ++ x ∷ []) i b ≡ books_of a (last_day (month_of a.terms.boarded + i))) [
+      | true ↦ λ e.
+          let below : i < n = grind (arith, nat_tests) in
+          get_or_append_left ends (x ∷ []) b i (omega arith) ∙ h i b below
+      | false ↦ λ e.
+          let back : n ≤ i = grind (arith, nat_tests) in
+          let here : i ≡ length ends = omega arith in
+          let same : n ≡ i = omega arith in
+          ap (λ k. get_or (ends ++ x ∷ []) k b) here ∙ get_or-append_seam ends x [] b ∙ is ∙ ap (λ k. books_of a (last_day (month_of a.terms.boarded + k))) same
+    ] refl
+
+pub ends_fewer : (a : Account) (ends : List Books) (n m : ℕ) → AreEnds a ends n → m ≤ n → AreEnds a ends m
+ends_fewer a ends n m h le i b lt = h i b (omega arith)
+
+-- ---- what an entry leaves of them
+
+before_entry : (b i d : ℕ) → i < month_of d - b → last_day (b + i) < d
+before_entry b i d lt = omega (arith, month_length_most (b + i))
+
+pub posted_ends : (a a' : Account) (e : Entry) (ends : List Books) (n : ℕ) → IsAccount a → AreEnds a ends n → MayPost a e → a' ≡ posted e a → month_of e.day - month_of a.terms.boarded ≤ n → AreEnds a' ends (month_of e.day - month_of a'.terms.boarded)
+posted_ends a a' e ends n h kept may is le = rw is (λ i b lt. kept i b (omega arith) ∙ sym (posted_same a e (last_day (month_of a.terms.boarded + i)) h may (before_entry (month_of a.terms.boarded) i e.day lt)))
+
+-- the month of an entry, where there is one
+pub month_found : (o : Option Entry) (m : ℕ) → MatchOption o (Some m ≡ None) (λ e. Some m ≡ Some (month_of e.day)) → IfSome o (λ e. m ≡ month_of e.day)
+month_found None m h = tt
+month_found (Some e) m h = same_Some m (month_of e.day) h
+
+if_some : (o : Option Entry) (P Q : Entry → Type 0) → IfSome o P → ((e : Entry) → P e → Q e) → IfSome o Q
+if_some None P Q h f = tt
+if_some (Some e) P Q h f = f e h
+
+pub reversed_ends : (a a' : Account) (number by m : ℕ) (ends : List Books) (n : ℕ) → IsAccount a → AreEnds a ends n → IfSome (entry_of a number) (λ e. m ≡ month_of e.day) → a' ≡ reversed_in number by a → m - month_of a.terms.boarded ≤ n → AreEnds a' ends (m - month_of a'.terms.boarded)
+reversed_ends a a' number by m ends n h kept found is le = rw is (λ i b lt.
+    let d = last_day (month_of a.terms.boarded + i) in
+    let after = if_some (entry_of a number) (λ e. m ≡ month_of e.day) (λ e. d < e.day) found (λ e same. before_entry (month_of a.terms.boarded) i e.day (omega arith)) in
+    kept i b (omega arith) ∙ sym (reversed_same a number by d h after))
+
+-- ---- facts of months
+
+pub end_sound : (a : Account) (m : ℕ) → IsAccount a → month_of a.terms.boarded ≤ m → AreBooks a.terms (books_of a (last_day m))
+end_sound a m h le = account_books a (last_day m) h
+
+-- of the business day's month the end so far is that of the business day
+pub end_now : (a : Account) (m : ℕ) (b : Books) → IsDay a.today → month_of a.terms.boarded ≤ m → m ≡ month_of a.today → b ≡ books_of a a.today → b ≡ books_at_end a m
+end_now a m b is low here now =
+    let within = day_within a.today is in
+    let end : last_day (month_of a.today) ≡ last_day m = ap last_day (sym here) in
+    now ∙ ap (books_of a) (omega arith) ∙ sym (from_boarded a m low)
+
+-- ---- what a day's books are folded on from
+
+-- books from which a day's books can be folded on: those at the end of the month before
+pub record IsEndBefore (a : Account) (t : Terms) (live : List Entry) (d : ℕ) (e : Books) : Type 0 where
+  pub since : t.boarded ≤ e.day
+  pub until : e.day ≤ d
+  pub day : e.day ≡ last_day (month_of d - 1)
+  pub is : e ≡ books_at t live e.day
+
+pub end_before_day : (a : Account) (t : Terms) (live : List Entry) (ends : List Books) (n p d : ℕ) (e : Books) → IsAccount a → AreEnds a ends n → n ≡ month_of d - month_of a.terms.boarded → e ≡ get_or ends (p - 1) e → month_of a.terms.boarded + p ≡ month_of d → 1 ≤ p → t ≡ a.terms → live ≡ live_of a → IsEndBefore a t live d e
+end_before_day a t live ends n p d e h kept all is place some pt pl =
+    let m = month_of d - 1 in
+    let own = own_day t live (last_day m) e (at_end a ends n (p - 1) m e kept is (omega arith) (omega arith) ∙ sym (of_account a t live (last_day m) pt pl)) in
+    let since : a.terms.boarded ≤ last_day m = end_since a (month_of d) h (omega arith) in
+    let same : t.boarded ≡ a.terms.boarded = ap (λ (x : Terms). x.boarded) pt in
+    let end = end_before_next m d (omega arith) in
+    let day = own.0 in
+    record { since = omega arith; until = omega arith; day = day; is = own.1 }
+
+pub steps_on : (a : Account) (t : Terms) (live : List Entry) (d old new : ℕ) (e : Books) → month_of a.terms.boarded < month_of d → IsEndBefore a t live d e → t ≡ a.terms → live ≡ live_of a → new + counted t live e.day ≡ old + counted t live d → new + counted_before a (month_of d) ≡ old + counted a.terms (live_of a) d
+steps_on a t live d old new e later h pt pl steps =
+    ap (λ x. new + x) (counted_later a (month_of d) later ∙ ap (counted a.terms (live_of a)) (sym h.day) ∙ sym (counted_of a t live e.day pt pl))
+    ∙ steps
+    ∙ ap (λ x. old + x) (counted_of a t live d pt pl)
+
+pub month_of_end : (m : ℕ) → month_of (last_day m) ≡ m
+month_of_end m = omega (arith, month_length_most m, month_length_least m)
+
+-- ---- what changes keep
+
+-- an entry came or went: the ends and the books now were made anew
+pub checked_change : (a a' : Account) (ends ends' : List Books) (day day' : Books) → AreChecked a ends day → a'.terms ≡ a.terms → a'.today ≡ a.today → IsAccount a' → length ends' ≡ length ends → AreEnds a' ends' (length ends') → day' ≡ books_of a' a'.today → AreBooks a'.terms day' → AreChecked a' ends' day'
+checked_change a a' ends ends' day day' h terms today sound count kept now books =
+    let b : month_of a'.terms.boarded ≡ month_of a.terms.boarded = ap (λ (t : Terms). month_of t.boarded) terms in
+    let m : month_of a'.today ≡ month_of a.today = ap month_of today in
+    let before = h.count in
+    record { account = sound; today = subst IsDay (sym today) h.today; count = omega arith; ends = kept; now = now; sound = books }
+
+-- the business day went on
+pub checked_advance : (a a' : Account) (d : ℕ) (ends : List Books) (day : Books) → IsAccount a → IsDay d → a.today ≤ d → a' ≡ advanced_to d a → month_of a.terms.boarded + length ends ≡ month_of d → AreEnds a ends (length ends) → day ≡ books_of a d → AreBooks a.terms day → AreChecked a' ends day
+checked_advance a a' d ends day h is later same count kept now sound = rw same (record { account = advanced_account a d h later; today = is; count = count; ends = kept; now = now; sound = sound })
+
+-- a change up to the business day is within the cost of its month
+pub within_change : (a : Account) (m old new : ℕ) → IsAccount a → month_of a.terms.boarded ≤ m → m ≤ month_of a.today → new + counted_before a m ≡ old + counted a.terms (live_of a) a.today → new ≤ old + cost_of_month a m
+within_change a m old new h low high steps = let after = h.after in within_day a m a.today old new h low high after (omega arith) steps
+
+-- a new business day is within the cost of the old one's month
+pub within_advance : (a a' : Account) (d old new : ℕ) → IsAccount a → a.today ≤ d → a' ≡ advanced_to d a → new + counted a.terms (live_of a) a.today ≡ old + counted a.terms (live_of a) d → new ≤ old + cost_of_month a' (month_of a.today)
+within_advance a a' d old new h later same steps = rw same (
+    let after = h.after in
+    let on = counted_on (advanced_to d a) a.today d (advanced_account a d h later) after later (omega arith) in
+    omega (arith, on, steps))
+
+-- from boarding on it is within the cost of the boarded month
+pub within_begin : (a : Account) (first old mid new : ℕ) → IsAccount a → first ≡ a.terms.boarded → mid + 1 ≡ old + counted a.terms (live_of a) a.terms.boarded → new + counted a.terms (live_of a) first ≡ mid + counted a.terms (live_of a) a.today → new ≤ old + cost_of_month a (month_of a.terms.boarded)
+within_begin a first old mid new h same before after =
+    let since = h.after in
+    let all = refold_within a a.today h since (omega arith) in
+    let here = ap (counted a.terms (live_of a)) same in
+    omega (arith, all, here, before, after)
+
+-- ---- what is known of the entry that a reversal names
+
+find_keeps : (P : Entry → Type 0) (p : Entry → Bool) (xs : List Entry) → All P xs → IfSome (find p xs) P
+find_keeps P p [] h = tt
+find_keeps P p (x ∷ xs) h =
+    elim (p x) as (λ v. IfSome (cond v (Some x) (find p xs)) P) [ true ↦ h 0 x (omega arith) | false ↦ find_keeps P p xs (λ k d lt. h (suc k) d (omega arith)) ]
+
+month_low : (o : Option Entry) (m low : ℕ) → MatchOption o (Some m ≡ None) (λ e. Some m ≡ Some (month_of e.day)) → IfSome o (λ e. low ≤ e.day) → month_of low ≤ m
+month_low None m low h since = absurd (cc)
+month_low (Some e) m low h since = let same = same_Some m (month_of e.day) h in omega arith
+
+month_high : (o : Option Entry) (m high : ℕ) → MatchOption o (Some m ≡ None) (λ e. Some m ≡ Some (month_of e.day)) → IfSome o (λ e. e.day ≤ high) → m ≤ month_of high
+month_high None m high h until = absurd (cc)
+month_high (Some e) m high h until = let same = same_Some m (month_of e.day) h in omega arith
+
+-- it is of the boarded month or a later one, up to that of the business day
+pub entry_since : (a : Account) (number m : ℕ) → IsAccount a → MatchOption (entry_of a number) (Some m ≡ None) (λ e. Some m ≡ Some (month_of e.day)) → month_of a.terms.boarded ≤ m
+entry_since a number m h found = month_low (entry_of a number) m a.terms.boarded found (find_keeps (λ e. a.terms.boarded ≤ e.day) (λ e. e.number == number) a.entries h.since)
+
+pub entry_until : (a : Account) (number m : ℕ) → IsAccount a → MatchOption (entry_of a number) (Some m ≡ None) (λ e. Some m ≡ Some (month_of e.day)) → m ≤ month_of a.today
+entry_until a number m h found = month_high (entry_of a number) m a.today found (find_keeps (λ e. e.day ≤ a.today) (λ e. e.number == number) a.entries h.until)
+
+pub entry_steps : (o : Option Entry) (m old new : ℕ) (cost : ℕ → ℕ) → MatchOption o (Some m ≡ None) (λ e. Some m ≡ Some (month_of e.day)) → new ≤ old + cost m → MatchOption o (new ≡ old) (λ e. new ≤ old + cost (month_of e.day))
+entry_steps None m old new cost h le = absurd (cc)
+entry_steps (Some e) m old new cost h le = let same = same_Some m (month_of e.day) h in subst (λ x. new ≤ old + cost x) same le
+
+-- steps of one month after those before it
+pub steps_next : (new mid old from before end last next : ℕ) → new + end ≡ mid + last → mid + from ≡ old + before → end ≡ before → next ≡ last → new + from ≡ old + next
+steps_next new mid old from before end last next a b c d = omega arith

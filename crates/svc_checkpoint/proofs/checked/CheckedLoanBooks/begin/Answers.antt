@@ -1,0 +1,60 @@
+use Rattle.std.proofs.Common.{◌≡◌, ◌+◌, length, sym, ap, ◌∙◌, arith}
+use Rattle.svc_base.specs.Calendar.{month_of}
+use Rattle.svc_spec.specs.Accounts.{Account, live_of}
+use Rattle.svc_spec.specs.Months.{counted}
+use Rattle.svc_checkpoint.proofs.EndsLemmas.{own_day, within_begin}
+use Rattle.svc_checkpoint.proofs.checked.CheckedLoanBooks.begin.Goals as goal
+
+pub pushed-now-requires-clause-after : goal.pushed-now-requires-clause-after
+pushed-now-requires-clause-after g c =
+    let a = c.new-kept.result.account in
+    let own = own_day a.terms (live_of a) c.args.terms.boarded c.refolded-first.result c.refolded-first.ensures.books in
+    let day = own.0 in
+    let boarded = ap (λ (x : Account). x.terms.boarded) c.new-kept.ensures in
+    omega arith
+
+pub pushed-now-requires-clause-until : goal.pushed-now-requires-clause-until
+pushed-now-requires-clause-until g c =
+    let a = c.new-kept.result.account in
+    let own = own_day a.terms (live_of a) c.args.terms.boarded c.refolded-first.result c.refolded-first.ensures.books in
+    let day = own.0 in
+    let boarded = ap (λ (x : Account). x.terms.boarded) c.new-kept.ensures in
+    omega arith
+
+pub pushed-now-requires-clause-books : goal.pushed-now-requires-clause-books
+pushed-now-requires-clause-books g c =
+    let a = c.new-kept.result.account in
+    let own = own_day a.terms (live_of a) c.args.terms.boarded c.refolded-first.result c.refolded-first.ensures.books in
+    let day = own.0 in
+    let boarded = ap (λ (x : Account). x.terms.boarded) c.new-kept.ensures in
+    own.1
+
+pub pushed-now-requires-clause-count : goal.pushed-now-requires-clause-count
+pushed-now-requires-clause-count g c =
+    let a = c.new-kept.result.account in
+    let own = own_day a.terms (live_of a) c.args.terms.boarded c.refolded-first.result c.refolded-first.ensures.books in
+    let day = own.0 in
+    let boarded = ap (λ (x : Account). x.terms.boarded) c.new-kept.ensures in
+    let month = ap month_of day in
+    let first = ap month_of boarded in
+    omega (arith, ap length c.in_ok-reserve.ensures.items, ap length c.new-ends.ensures.items)
+
+pub pushed-now-requires-clause-room : goal.pushed-now-requires-clause-room
+pushed-now-requires-clause-room g c =
+    let a = c.new-kept.result.account in
+    let own = own_day a.terms (live_of a) c.args.terms.boarded c.refolded-first.result c.refolded-first.ensures.books in
+    let day = own.0 in
+    let boarded = ap (λ (x : Account). x.terms.boarded) c.new-kept.ensures in
+    let month = ap month_of day in
+    omega (arith, c.in_ok-reserve.ensures.ok, c.months_between.ensures)
+
+pub returns-clause-steps : goal.returns-clause-steps
+returns-clause-steps g c =
+    let a = c.new-kept.result.account in
+    let own = own_day a.terms (live_of a) c.args.terms.boarded c.refolded-first.result c.refolded-first.ensures.books in
+    let day = own.0 in
+    let boarded = ap (λ (x : Account). x.terms.boarded) c.new-kept.ensures in
+    let today = ap (λ (x : Account). x.today) c.new-kept.ensures in
+    let first = ap (counted a.terms (live_of a)) (sym boarded) in
+    let last = ap (counted a.terms (live_of a)) (sym today) in
+    rw c.new-kept.ensures at (within_begin a c.refolded-first.result.day c.args.steps.now c.refolded-first.new.steps c.pushed-now.new.steps c.refolded-first.ensures.account (day ∙ sym boarded) (c.refolded-first.ensures.counted ∙ ap (λ x. c.args.steps.now + x) first) (c.pushed-now.ensures.steps ∙ ap (λ x. c.refolded-first.new.steps + x) last))

@@ -1,0 +1,53 @@
+use Rattle.std.proofs.Common.{◌≡◌, ◌+◌, ◌<◌, ◌∷◌, [], ◌++◌, length, refl, sym, ap, ◌∙◌, arith, rules, length-append}
+use Rattle.svc_base.specs.Calendar.{month_of, last_day}
+use Rattle.svc_spec.specs.Accounts.{live_of, books_of}
+use Rattle.svc_spec.specs.Months.{counted}
+use Rattle.svc_spec.proofs.MonthLemmas.{end_before_next}
+use Rattle.svc_spec.proofs.StepsLemmas.{ends_rise}
+use Rattle.svc_checkpoint.proofs.EndsLemmas.{live_count, live_fold, own_day, of_account, counted_of, ends_pushed}
+use Rattle.svc_checkpoint.proofs.ends.pushed.Goals as goal
+
+pub fold_on-books-requires-clause-count : goal.fold_on-books-requires-clause-count
+fold_on-books-requires-clause-count g c = live_count c.args.kept.now.account c.live.result.now c.is_account.ensures c.live.ensures
+
+pub fold_on-books-requires-clause-entries : goal.fold_on-books-requires-clause-entries
+fold_on-books-requires-clause-entries g c = live_fold c.args.kept.now.account c.terms.result.now c.live.result.now c.is_account.ensures c.terms.ensures c.live.ensures
+
+pub fold_on-requires-clause-count : goal.fold_on-requires-clause-count
+fold_on-requires-clause-count g c = live_count c.args.kept.now.account c.live-2.result.now c.is_account.ensures c.live-2.ensures
+
+pub fold_on-requires-clause-entries : goal.fold_on-requires-clause-entries
+fold_on-requires-clause-entries g c = live_fold c.args.kept.now.account c.terms-2.result.now c.live-2.result.now c.is_account.ensures c.terms-2.ensures c.live-2.ensures
+
+pub loop-last-preserved : goal.loop-last-preserved
+loop-last-preserved g c =
+    let a = c.args.kept.now.account in
+    let t = c.terms.result.now in
+    let live = c.live.result.now in
+    let m = c.loop-last.month in
+    let r = c.fold_on-books.result in
+    let old = c.loop-last.ends.items in
+    let before = c.loop-last.invariant in
+    let own = own_day t live c.last_day.result r c.fold_on-books.ensures.books in
+    let day = own.0 in
+    let later : m < c.month_of-last.result = search rules in
+    let end = end_before_next m c.args.day (omega arith) in
+    let next = ap last_day c.plus-month.ensures in
+    let more = length-append old (r ∷ []) in
+    let pushed = ap length c.push_reserved.ensures.items in
+    let is : r ≡ books_of a (last_day (month_of a.terms.boarded + length old)) = c.fold_on-books.ensures.books ∙ of_account a t live c.last_day.result c.terms.ensures c.live.ensures ∙ ap (books_of a) (c.last_day.ensures ∙ ap last_day (sym before.count)) in
+    let here = counted_of a t live c.loop-last.books.day c.terms.ensures c.live.ensures in
+    let there = counted_of a t live c.last_day.result c.terms.ensures c.live.ensures in
+    let last = ap (counted a.terms (live_of a)) (sym day) in
+    record {
+      high = omega arith;
+      books = own.1 ∙ of_account a t live r.day c.terms.ensures c.live.ensures;
+      since = omega arith;
+      until = omega arith;
+      here = omega (arith, ends_rise m 1);
+      count = omega arith;
+      len = omega arith;
+      capacity = c.push_reserved.ensures.capacity ∙ before.capacity;
+      ends = rw c.push_reserved.ensures.items (ends_pushed a old (length old) (length (old ++ r ∷ [])) r before.ends refl (omega arith) is);
+      steps = omega (arith, c.fold_on-books.ensures.steps, here, there, last, before.steps);
+    }

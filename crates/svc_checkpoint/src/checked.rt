@@ -1,0 +1,159 @@
+//! The books of a loan, kept at each month's end and now.
+
+ghost use Rattle.std.specs.Prelude.{◌≡◌, ◌-◌, MatchOption, None, Some};
+ghost use Rattle.svc_base.specs.Calendar.{month_of as month_number};
+ghost use Rattle.svc_spec.specs.Accounts.{entry_of};
+
+use crate::ends::{end_before, end_of, folded, pushed, refreshed};
+use std::alloc::Global;
+use std::marker::Model;
+use std::sync::ledger::Ledger;
+use svc_base::{Day, Month, OutOfMemory, Steps, month_of};
+use svc_replay::{BookFault, LoanAccount, LoanBooks, facts_between};
+use svc_types::{Books, Entry, MonthFacts, Terms};
+
+/// Books with checkpoints: all entries and reversals, the live entries in order, the books at the end
+/// of each month from the boarded one to the one before the business day's, and those of the business
+/// day. A change folds from the checkpoint before its month on.
+#[derive(Drop)]
+pub struct Checked {
+    kept: LoanAccount,
+    ends: Vec<Books>,
+    now: Books,
+}
+
+impl Model for Checked {
+    ghost use Rattle.std.specs.Prelude.{◌-◌, vec_len, vec_capacity};
+    ghost use Rattle.svc_replay.specs.Kept.{Kept};
+    ghost use Rattle.svc_checkpoint.specs.Ends.{AreChecked};
+
+    ghost Value = { Kept };
+
+    ghost view = { λ c. record {
+      account = c.kept.account;
+      room = record {
+        entries = c.kept.room.entries;
+        reversals = c.kept.room.reversals;
+        months = vec_capacity c.ends - vec_len c.ends;
+      };
+    } };
+
+    ghost invariant = { λ c. AreChecked c.kept.account c.ends.items c.now };
+}
+
+impl LoanBooks for Checked {
+    ghost use Rattle.svc_spec.specs.Months.{cost_of_month};
+
+    ghost account = { λ c. c.account };
+
+    ghost room = { λ c. c.room };
+
+    ghost cost = { λ a m. cost_of_month a m };
+
+    ghost month_cost = { λ a m. 0 };
+
+    fn begin<L: Ledger>(
+        alloc: Global,
+        terms: Terms,
+        today: Day,
+        steps: &mut Steps<L>,
+    ) -> Result<Checked, OutOfMemory> {
+        // the calendar has the business day
+        let place = today.day();
+        prove!(place >= 1);
+        let boarded = terms.boarded;
+        let kept = LoanAccount::new(alloc, terms, today);
+        let mut ends = Vec::new(alloc);
+        ends.reserve(months_between(boarded, today))?;
+        let first = kept.refolded(boarded, steps);
+        let now = pushed(&kept, &mut ends, &first, today, steps);
+        Ok(Checked { kept, ends, now })
+    }
+
+    fn reserve(&mut self, today: Day) -> Result<(), OutOfMemory> {
+        self.kept.reserve()?;
+        self.ends.reserve(months_between(self.kept.today(), today))?;
+        Ok(())
+    }
+
+    fn post<L: Ledger>(&mut self, entry: Entry, steps: &mut Steps<L>) -> Result<(), BookFault> {
+        self.kept.post(&entry)?;
+        self.now = refreshed(&self.kept, &mut self.ends, month_of(entry.day), steps);
+        Ok(())
+    }
+
+    fn reverse<L: Ledger>(
+        &mut self,
+        number: u32,
+        by: u32,
+        steps: &mut Steps<L>,
+    ) -> Result<(), BookFault> {
+        let Some(month) = month_of_entry(&self.kept, number) else {
+            return Err(BookFault::NoSuchEntry);
+        };
+        self.kept.reverse(number, by)?;
+        self.now = refreshed(&self.kept, &mut self.ends, month, steps);
+        Ok(())
+    }
+
+    fn advance<L: Ledger>(&mut self, today: Day, steps: &mut Steps<L>) -> Result<(), OutOfMemory> {
+        // the calendar has the business day
+        let place = today.day();
+        prove!(place >= 1);
+        self.ends.reserve(months_between(self.kept.today(), today))?;
+        let now = self.now;
+        self.now = pushed(&self.kept, &mut self.ends, &now, today, steps);
+        self.kept.advance(today);
+        Ok(())
+    }
+
+    fn terms(&self) -> &Terms {
+        self.kept.terms()
+    }
+
+    fn is_account(&self) {
+        self.kept.is_account();
+    }
+
+    fn now(&self) -> &Books {
+        &self.now
+    }
+
+    fn entry(&self, number: u32) -> Option<Entry> {
+        self.kept.entry(number)
+    }
+
+    fn reversed_by(&self, number: u32) -> Option<u32> {
+        self.kept.reversed_by(number)
+    }
+
+    fn books_at<L: Ledger>(&self, day: Day, steps: &mut Steps<L>) -> Books {
+        folded(&self.kept, &self.ends, day, steps)
+    }
+
+    fn month<L: Ledger>(&self, month: Month, _steps: &mut Steps<L>) -> MonthFacts {
+        let before = end_before(&self.kept, &self.ends, month);
+        let after = end_of(&self.kept, &self.ends, &self.now, month);
+        facts_between(month, &before, &after)
+    }
+}
+
+/// How many months a day's month is after an earlier day's.
+fn months_between(earlier: Day, day: Day) -> usize
+    ensures { result ≡ month_number day - month_number earlier }
+{
+    month_of(day)
+        .number()
+        .saturating_sub(month_of(earlier).number()) as usize
+}
+
+/// The month of the entry with that number.
+fn month_of_entry(kept: &LoanAccount, number: u32) -> Option<Month>
+    ensures { MatchOption (entry_of kept.now.account number) (result ≡ None)
+        (λ entry. result ≡ Some (month_number entry.day)) }
+{
+    match &kept.entry(number) {
+        Some(entry) => Some(month_of(entry.day)),
+        None => None,
+    }
+}

@@ -1,0 +1,152 @@
+//! The books at the ends of months: folding from one to the next.
+
+ghost use Rattle.std.specs.Prelude.{◌≡◌, ◌+◌, ◌-◌, ◌≤◌, length, vec_len, vec_capacity};
+ghost use Rattle.svc_base.specs.Calendar.{month_of as month_number, IsDay};
+ghost use Rattle.svc_spec.specs.Accounts.{IsAccount, live_of, books_of};
+ghost use Rattle.svc_spec.specs.Books.{AreBooks};
+ghost use Rattle.svc_spec.specs.Months.{counted, books_at_end};
+ghost use Rattle.svc_checkpoint.specs.Ends as rule;
+
+use std::sync::ledger::Ledger;
+use svc_apply::start;
+use svc_base::{Day, Month, Steps, last_day, month_of};
+use svc_replay::{LoanAccount, fold_on};
+use svc_types::Books;
+
+/// How many months a month is after the boarded one.
+pub(crate) fn place_of(kept: &LoanAccount, month: Month) -> usize
+    requires { month_number kept.now.account.terms.boarded ≤ month }
+    ensures { month_number kept.now.account.terms.boarded + result ≡ month }
+{
+    (month.number() - month_of(kept.terms().boarded).number()) as usize
+}
+
+/// The books at a day, folded on from the end of the month before; in the boarded month from boarding.
+pub(crate) fn folded<L: Ledger>(
+    kept: &LoanAccount,
+    ends: &[Books],
+    day: Day,
+    steps: &mut Steps<L>,
+) -> Books
+    requires after { kept.now.account.terms.boarded ≤ day }
+    requires until { day ≤ kept.now.account.today }
+    requires count { month_number day ≤ month_number kept.now.account.terms.boarded + length ends.now }
+    requires ends { rule.AreEnds kept.now.account ends.now
+        (month_number day - month_number kept.now.account.terms.boarded) }
+    ensures books { result ≡ books_of kept.now.account day }
+    ensures sound { AreBooks kept.now.account.terms result }
+    ensures steps { steps.new + rule.counted_before kept.now.account (month_number day)
+        ≡ steps.old + counted kept.now.account.terms (live_of kept.now.account) day }
+{
+    kept.is_account();
+    let place = place_of(kept, month_of(day));
+    if place == 0 {
+        return kept.refolded(day, steps);
+    }
+    fold_on(&ends[place - 1], kept.terms(), kept.live(), day, steps)
+}
+
+/// Makes the end of each month from one on anew, and gives the books of the business day.
+pub(crate) fn refreshed<L: Ledger>(
+    kept: &LoanAccount,
+    ends: &mut Vec<Books>,
+    from: Month,
+    steps: &mut Steps<L>,
+) -> Books
+    requires after { month_number kept.now.account.terms.boarded ≤ from }
+    requires until { from ≤ month_number kept.now.account.today }
+    requires count { month_number kept.now.account.terms.boarded + length ends.old.items
+        ≡ month_number kept.now.account.today }
+    requires ends { rule.AreEnds kept.now.account ends.old.items
+        (from - month_number kept.now.account.terms.boarded) }
+    ensures account { IsAccount kept.now.account }
+    ensures ends { rule.AreEnds kept.now.account ends.new.items (length ends.new.items) }
+    ensures count { length ends.new.items ≡ length ends.old.items }
+    ensures len { vec_len ends.new ≡ vec_len ends.old }
+    ensures capacity { vec_capacity ends.new ≡ vec_capacity ends.old }
+    ensures books { result ≡ books_of kept.now.account kept.now.account.today }
+    ensures sound { AreBooks kept.now.account.terms result }
+    ensures steps { steps.new + rule.counted_before kept.now.account from ≡ steps.old
+        + counted kept.now.account.terms (live_of kept.now.account) kept.now.account.today }
+{
+    kept.is_account();
+    let last = month_of(kept.today());
+    let mut month = from;
+    while month < last {
+        let end = folded(kept, ends, last_day(month), steps);
+        let place = place_of(kept, month);
+        ends[place] = end;
+        month = month.plus(1);
+    }
+    folded(kept, ends, kept.today(), steps)
+}
+
+/// Adds the ends of the months from that of some books to the one before a later day, and gives the
+/// books of that day.
+pub(crate) fn pushed<L: Ledger>(
+    kept: &LoanAccount,
+    ends: &mut Vec<Books>,
+    now: &Books,
+    day: Day,
+    steps: &mut Steps<L>,
+) -> Books
+    requires exists { IsDay now.now.day }
+    requires after { kept.now.account.terms.boarded ≤ now.now.day }
+    requires until { now.now.day ≤ day }
+    requires books { now.now ≡ books_of kept.now.account now.now.day }
+    requires count { month_number kept.now.account.terms.boarded + length ends.old.items
+        ≡ month_number now.now.day }
+    requires ends { rule.AreEnds kept.now.account ends.old.items (length ends.old.items) }
+    requires room { vec_len ends.old + (month_number day - month_number now.now.day)
+        ≤ vec_capacity ends.old }
+    ensures count { month_number kept.now.account.terms.boarded + length ends.new.items ≡ month_number day }
+    ensures ends { rule.AreEnds kept.now.account ends.new.items (length ends.new.items) }
+    ensures capacity { vec_capacity ends.new ≡ vec_capacity ends.old }
+    ensures books { result ≡ books_of kept.now.account day }
+    ensures sound { AreBooks kept.now.account.terms result }
+    ensures steps { steps.new + counted kept.now.account.terms (live_of kept.now.account) now.now.day
+        ≡ steps.old + counted kept.now.account.terms (live_of kept.now.account) day }
+{
+    kept.is_account();
+    let last = month_of(day);
+    let mut month = month_of(now.day);
+    let mut books = *now;
+    while month < last {
+        books = fold_on(&books, kept.terms(), kept.live(), last_day(month), steps);
+        ends.push_reserved(books);
+        month = month.plus(1);
+    }
+    fold_on(&books, kept.terms(), kept.live(), day, steps)
+}
+
+/// The books at the end of the month before one, and before the boarded one those at boarding.
+pub(crate) fn end_before(kept: &LoanAccount, ends: &[Books], month: Month) -> Books
+    requires after { month_number kept.now.account.terms.boarded ≤ month }
+    requires until { month ≤ month_number kept.now.account.today }
+    requires count { month ≤ month_number kept.now.account.terms.boarded + length ends.now }
+    requires ends { rule.AreEnds kept.now.account ends.now (length ends.now) }
+    ensures books { result ≡ books_at_end kept.now.account (month - 1) }
+    ensures sound { AreBooks kept.now.account.terms result }
+{
+    kept.is_account();
+    let place = place_of(kept, month);
+    if place == 0 {
+        return start(kept.terms());
+    }
+    ends[place - 1]
+}
+
+/// The books at the end of a month; of the business day's month those now.
+pub(crate) fn end_of(kept: &LoanAccount, ends: &[Books], now: &Books, month: Month) -> Books
+    requires after { month_number kept.now.account.terms.boarded ≤ month }
+    requires until { month ≤ month_number kept.now.account.today }
+    requires checked { rule.AreChecked kept.now.account ends.now now.now }
+    ensures books { result ≡ books_at_end kept.now.account month }
+    ensures sound { AreBooks kept.now.account.terms result }
+{
+    let place = place_of(kept, month);
+    if place < ends.len() {
+        return ends[place];
+    }
+    *now
+}
