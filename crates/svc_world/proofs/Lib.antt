@@ -7,3 +7,4 @@ pub mod LoanListLemmas
 pub mod ChangesLemmas
 pub mod AddUpLemmas
 pub mod CloseLemmas
+pub mod SentSumLemmas
