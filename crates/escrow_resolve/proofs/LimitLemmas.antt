@@ -1,5 +1,5 @@
 -- What a lawful plan settles lies within the parts.
-use Rattle.std.proofs.Common.{◌≡◌, ℕ, zero, suc, ◌≤◌, ◌*◌, None, ℤ, pos, negsuc, ◌+ℤ◌, ◌≤ℤ◌, arith, refl, sym, ◌∙◌, Bool}
+use Rattle.std.proofs.Common.{◌≡◌, ℕ, ◌≤◌, None, ℤ, pos, negsuc, ◌+ℤ◌, ◌≤ℤ◌, arith, sym, ◌∙◌, Bool}
 use Rattle.std.specs.Prelude.{int_div}
 use Rattle.std.proofs.Math.Nat.{div-le_self}
 use Rattle.std.proofs.lemmas.Int.{ints}

@@ -1,5 +1,5 @@
 -- Amounts between -10^15 and 10^15, and sums that stay there.
-use Rattle.std.proofs.Common.{◌≡◌, ℕ, zero, suc, List, [], ◌∷◌, ◌++◌, ℤ, pos, ◌+ℤ◌, take, refl, arith}
+use Rattle.std.proofs.Common.{◌≡◌, ℕ, zero, suc, List, [], ◌∷◌, ◌++◌, ℤ, pos, ◌+ℤ◌, take, arith}
 use Rattle.std.proofs.lemmas.Int.{ints}
 use Rattle.svc_base.specs.Sums.{total_by}
 use Rattle.period_adjust.specs.Conditions.{IsAmount}

@@ -1,7 +1,6 @@
 -- Reports that follow one another: one more of them, and the months that are closed.
-use Rattle.std.proofs.Common.{◌≡◌, ◌≢◌, ℕ, zero, suc, ◌+◌, ◌<◌, ◌≤◌, true, false, List, [], ◌∷◌, ◌++◌, length, get_or, Option, Some, None, IfSome, refl, arith, ap, ◌∙◌}
+use Rattle.std.proofs.Common.{◌≡◌, ℕ, zero, suc, ◌+◌, ◌<◌, ◌≤◌, true, false, List, [], ◌∷◌, ◌++◌, length, Option, Some, None, IfSome, refl, arith, ap}
 use Rattle.std.specs.Prelude.{◌==◌, unwrap_or}
-use Rattle.std.specs.List.{Any}
 use Rattle.std.proofs.lemmas.Bool.Decides.{nat_tests}
 use Rattle.period_adjust.specs.Sealed.{Sealed}
 use Rattle.period_adjust.specs.Conditions.{first_month, last_month, count_sent, IsClosed}
@@ -53,6 +52,14 @@ closed_between (r ∷ (s ∷ rs)) first last month c e f low high =
           let later : s.month ≤ month = grind (arith, nat_tests) in
           closed_later r (s ∷ rs) month (closed_between (s ∷ rs) s.month last month c.1 refl f later high)
     ] refl
+
+closed_below : (rs : List Sealed) (first month : ℕ) (last : Option ℕ) → AreConsecutive rs → first_month rs ≡ Some first → last_month rs ≡ last → first ≤ month → month < month_after last → IsClosed rs month
+closed_below rs first month None c e f low high = absurd (omega arith)
+closed_below rs first month (Some last) c e f low high = closed_between rs first last month c e f low (omega arith)
+
+-- the same, below the month after the last
+pub closed_to_end : (rs : List Sealed) (first month : ℕ) → AreConsecutive rs → first_month rs ≡ Some first → first ≤ month → month < month_after (last_month rs) → IsClosed rs month
+closed_to_end rs first month c e low high = closed_below rs first month (last_month rs) c e refl low high
 
 -- no month before the first is closed, and none after the last
 pub closed_from_first : (rs : List Sealed) (first month : ℕ) → AreConsecutive rs → first_month rs ≡ Some first → IsClosed rs month → first ≤ month

@@ -5,8 +5,8 @@ pub mod AddsUp
 pub mod ChangesLemmas
 pub mod MonthsLemmas
 pub mod SealedLemmas
-pub mod LineLemmas
 pub mod KeptLemmas
 pub mod StateLemmas
 pub mod WorkedLemmas
 pub mod SentLemmas
+pub mod ManyLemmas

@@ -1,40 +1,41 @@
 -- Running sums of each loan: where a loan's stand, and what one more adjustment does.
-use Rattle.std.proofs.Common.{◌≡◌, ◌≢◌, ℕ, zero, suc, ◌+◌, ◌<◌, ◌≤◌, true, false, List, [], ◌∷◌, ◌++◌, length, take, drop, get_or, set, ltb, ℤ, pos, ◌+ℤ◌, refl, arith, ap, sym, ◌∙◌, subst, inl, inr}
+use Rattle.std.proofs.Common.{◌≡◌, ◌≢◌, ℕ, zero, suc, ◌<◌, ◌≤◌, true, false, List, [], ◌∷◌, ◌++◌, length, take, drop, get_or, set, ltb, ℤ, pos, ◌+ℤ◌, refl, arith, ap, sym, ◌∙◌, subst, inl, inr}
 use Rattle.std.specs.Prelude.{◌==◌, if◌then◌else◌, FitsSigned}
 use Rattle.std.specs.Int.{w64}
-use Rattle.std.specs.List.{All, AllPairs, AllWithin, insert}
+use Rattle.std.specs.List.{All, AllWithin, insert}
 use Rattle.std.specs.List.Sorted.{IsPartitionPoint, IsNonDecreasingBy, IsPartitionedBy}
 use Rattle.std.proofs.lemmas.Int.{ints}
 use Rattle.std.proofs.lemmas.Bool.{cases_lt}
 use Rattle.std.proofs.lemmas.Bool.Decides.{nat_tests}
-use Rattle.std.proofs.lemmas.List.{length-set, get_or_default, take_all, take-append-drop, take-append-le}
+use Rattle.std.proofs.lemmas.List.{get_or_default, take_all, take-append-drop, take-append-le}
 use Rattle.std.proofs.Math.Seq.{take-append_seam}
-use Rattle.std.proofs.lemmas.List.Elements.{All-cons, All-append, All-take, All-drop}
-use Rattle.std.proofs.lemmas.List.Kept.{AllPairs-cons}
 use Rattle.std.proofs.lemmas.List.Sorted.{IsPartitionedBy-ltb}
 use Rattle.svc_base.specs.Sums.{total_by}
 use Rattle.svc_base.proofs.SumLemmas.{total_by-zero, total_by-insert, total_by-push}
 use Rattle.period_adjust.specs.declared.adjustment.Adjustment.{Adjustment}
 use Rattle.period_adjust.specs.declared.loan_sums.LoanSums.{LoanSums}
-use Rattle.period_adjust.specs.Sums.{DuePart, Interest, Principal, part_of_adjustment, share, SumsFit}
-use Rattle.period_adjust.specs.Pending.{part_of_running, running, IsRising, IsPlaceOf, IsPlaceFor, IsSumWith, AreRunning}
+use Rattle.period_adjust.specs.Sums.{DuePart, Interest, Principal, part_of_adjustment, share}
+use Rattle.period_adjust.specs.Pending.{part_of_running, running, IsRisingByLoan, AreRunning, SumsFit}
+use Rattle.period_adjust.specs.Places.{IsPlaceOf, IsPlaceFor, IsSumWith}
 use Rattle.period_adjust.proofs.BeforeLemmas.{pairs_head, pairs_tail}
 
-abbrev pub before : LoanSums → LoanSums → Type 0
-before s t = s.loan < t.loan
+-- each one's loan is above that of the one before
+abbrev pub sums_by_loan : LoanSums → LoanSums → Type 0
+sums_by_loan s t = s.loan < t.loan
 
-abbrev pub none : ℕ → LoanSums
-none loan = record { loan = loan; interest = pos 0; principal = pos 0 }
+-- sums of nothing
+abbrev pub zero_sums : ℕ → LoanSums
+zero_sums loan = record { loan = loan; interest = pos 0; principal = pos 0 }
 
 -- Where a loan's sums stand.
 
-rising_loans : (ss : List LoanSums) → IsRising ss → IsNonDecreasingBy (λ s. s.loan) ss
+rising_loans : (ss : List LoanSums) → IsRisingByLoan ss → IsNonDecreasingBy (λ s. s.loan) ss
 rising_loans ss h i j d le lt = elim (cases_lt i j) [
   | inl less ↦ let below : (get_or ss i d).loan < (get_or ss j d).loan = h i j d less lt in omega arith
   | inr more ↦ let same : i ≡ j = omega arith in subst (λ (k : ℕ). (get_or ss i d).loan ≤ (get_or ss k d).loan) same (omega arith)
 ]
 
-pub partitioned : (ss : List LoanSums) (loan : ℕ) → IsRising ss → IsPartitionedBy (λ s. ltb s.loan loan) ss
+pub partitioned : (ss : List LoanSums) (loan : ℕ) → IsRisingByLoan ss → IsPartitionedBy (λ s. ltb s.loan loan) ss
 partitioned ss loan h = IsPartitionedBy-ltb (λ (s : LoanSums). s.loan) ss loan (rising_loans ss h)
 
 abbrev pub IsPoint : List LoanSums → ℕ → ℕ → Type 0
@@ -59,7 +60,7 @@ place_at_end ss loan i point end = record {
 }
 
 -- before another loan
-pub place_between : (ss : List LoanSums) (loan i : ℕ) (d : LoanSums) → IsRising ss → IsPoint ss loan i → i < length ss → (get_or ss i d).loan ≢ loan → IsPlaceFor ss loan i
+pub place_between : (ss : List LoanSums) (loan i : ℕ) (d : LoanSums) → IsRisingByLoan ss → IsPoint ss loan i → i < length ss → (get_or ss i d).loan ≢ loan → IsPlaceFor ss loan i
 place_between ss loan i d up point in' apart =
     let here : loan ≤ (get_or ss i d).loan = from_point ss loan i point i d (omega arith) in' in
     let first : loan < (get_or ss i d).loan = omega arith in
@@ -105,55 +106,33 @@ later_running p loan ss h =
     total_by-zero (running p loan) ss (λ k d l. other_running p loan (get_or ss k d) (λ same. let above : loan < (get_or ss k d).loan = h k d l in absurd (omega arith)))
 
 -- of a loan that has some
-pub running-found : (p : DuePart) (ss : List LoanSums) (loan i : ℕ) (d : LoanSums) → IsRising ss → i < length ss → (get_or ss i d).loan ≡ loan → total_by (running p loan) ss ≡ part_of_running p (get_or ss i d)
+pub running-found : (p : DuePart) (ss : List LoanSums) (loan i : ℕ) (d : LoanSums) → IsRisingByLoan ss → i < length ss → (get_or ss i d).loan ≡ loan → total_by (running p loan) ss ≡ part_of_running p (get_or ss i d)
 running-found p [] loan i d up in' is = absurd (omega arith)
 running-found p (s ∷ ss) loan zero d up in' is =
     let here : running p loan s ≡ part_of_running p s = own_running p loan s is in
-    let above : All (λ (t : LoanSums). loan < t.loan) ss = subst (λ (n : ℕ). All (λ (t : LoanSums). n < t.loan) ss) is (pairs_head before s ss up) in
+    let above : All (λ (t : LoanSums). loan < t.loan) ss = subst (λ (n : ℕ). All (λ (t : LoanSums). n < t.loan) ss) is (pairs_head sums_by_loan s ss up) in
     let rest = later_running p loan ss above in
     omega (arith, ints)
 running-found p (s ∷ ss) loan (suc i) d up in' is =
-    let below : s.loan < (get_or ss i d).loan = pairs_head before s ss up i d (omega arith) in
+    let below : s.loan < (get_or ss i d).loan = pairs_head sums_by_loan s ss up i d (omega arith) in
     let apart : s.loan ≢ loan = λ same. absurd (omega arith) in
     let here : running p loan s ≡ pos 0 = other_running p loan s apart in
-    let rest = running-found p ss loan i d (pairs_tail before s ss up) (omega arith) is in
+    let rest = running-found p ss loan i d (pairs_tail sums_by_loan s ss up) (omega arith) is in
     omega (arith, ints)
 
 -- Sums of 0 that are put in.
 
-all-insert : (P : LoanSums → Type 0) (ss : List LoanSums) (i : ℕ) (x : LoanSums) → P x → All P ss → All P (insert ss i x)
-all-insert P ss i x here all = All-append P (take i ss) (x ∷ drop i ss) (All-take P i ss all) (All-cons P x (drop i ss) here (All-drop P i ss all))
-
-none_running : (p : DuePart) (loan other : ℕ) → running p other (none loan) ≡ pos 0
+none_running : (p : DuePart) (loan other : ℕ) → running p other (zero_sums loan) ≡ pos 0
 none_running Interest loan other = elim (loan == other) as (λ t. (if t then pos 0 else pos 0) ≡ pos 0) [ true ↦ refl | false ↦ refl ]
 none_running Principal loan other = elim (loan == other) as (λ t. (if t then pos 0 else pos 0) ≡ pos 0) [ true ↦ refl | false ↦ refl ]
 
-pub rising-insert : (ss : List LoanSums) (loan i : ℕ) → IsRising ss → IsPlaceFor ss loan i → IsRising (insert ss i (none loan))
-rising-insert ss loan zero up h = AllPairs-cons before (none loan) ss (λ k d l. h.above k d (omega arith) l) up
-rising-insert [] loan (suc i) up h = absurd (omega (arith, h.bound))
-rising-insert (s ∷ ss) loan (suc i) up h =
-    let low : s.loan < loan = h.below 0 s (omega arith) (omega arith) in
-    let rest : IsPlaceFor ss loan i = record {
-      bound = omega (arith, h.bound);
-      below = λ k d l m. h.below (suc k) d (omega arith) (omega arith);
-      above = λ k d l m. h.above (suc k) d (omega arith) (omega arith);
-    } in
-    AllPairs-cons before s (insert ss i (none loan)) (all-insert (λ (t : LoanSums). s.loan < t.loan) ss i (none loan) low (pairs_head before s ss up)) (rising-insert ss loan i (pairs_tail before s ss up) rest)
-
-pub running-insert : (p : DuePart) (other loan : ℕ) (ss : List LoanSums) (i : ℕ) → total_by (running p other) (insert ss i (none loan)) ≡ total_by (running p other) ss
+pub running-insert : (p : DuePart) (other loan : ℕ) (ss : List LoanSums) (i : ℕ) → total_by (running p other) (insert ss i (zero_sums loan)) ≡ total_by (running p other) ss
 running-insert p other loan ss i =
     let whole : total_by (running p other) (take i ss ++ drop i ss) ≡ total_by (running p other) ss = ap (total_by (running p other)) (take-append-drop i ss) in
-    let nothing : running p other (none loan) ≡ pos 0 = none_running p loan other in
-    omega (arith, ints, total_by-insert (running p other) (take i ss) (drop i ss) (none loan))
+    let nothing : running p other (zero_sums loan) ≡ pos 0 = none_running p loan other in
+    omega (arith, ints, total_by-insert (running p other) (take i ss) (drop i ss) (zero_sums loan))
 
 -- One more adjustment.
-
-set_loan : (ss : List LoanSums) (i k : ℕ) (x d : LoanSums) → ((e : LoanSums) → x.loan ≡ (get_or ss i e).loan) → (get_or (set ss i x) k d).loan ≡ (get_or ss k d).loan
-set_loan [] i k x d same = refl
-set_loan (s ∷ ss) zero zero x d same = same d
-set_loan (s ∷ ss) zero (suc k) x d same = refl
-set_loan (s ∷ ss) (suc i) zero x d same = refl
-set_loan (s ∷ ss) (suc i) (suc k) x d same = set_loan ss i k x d same
 
 total_by-set : {A : Type 0} (f : A → ℤ) (xs : List A) (i : ℕ) (d y : A) → i < length xs → total_by f (set xs i y) +ℤ f (get_or xs i d) ≡ total_by f xs +ℤ f y
 total_by-set f [] i d y in' = absurd (omega arith)
@@ -175,14 +154,6 @@ running-sum p loan a x y own sum =
       | false ↦ omega (arith, ints)
     ])
 
-pub rising-set : (ss : List LoanSums) (i : ℕ) (x : LoanSums) → IsRising ss → ((d : LoanSums) → x.loan ≡ (get_or ss i d).loan) → IsRising (set ss i x)
-rising-set ss i x up same j k d less in' =
-    let size : length (set ss i x) ≡ length ss = length-set ss i x in
-    let below : (get_or ss j d).loan < (get_or ss k d).loan = up j k d less (omega arith) in
-    let first = set_loan ss i j x d same in
-    let second = set_loan ss i k x d same in
-    omega arith
-
 pub running-set : (p : DuePart) (loan : ℕ) (a : Adjustment) (ss : List LoanSums) (i : ℕ) (d y : LoanSums) → IsPlaceOf ss a.loan i → IsSumWith (get_or ss i d) a y → total_by (running p loan) (set ss i y) ≡ total_by (running p loan) ss +ℤ share p loan a
 running-set p loan a ss i d y place sum =
     let moved = total_by-set (running p loan) ss i d y place.bound in
@@ -203,7 +174,7 @@ push_fits xs a ss p are fit =
     subst (λ (z : ℤ). FitsSigned w64 z) more fits
 
 -- the sums with it are those of the adjustments with it
-pub push_running : (xs : List Adjustment) (a : Adjustment) (ss ts : List LoanSums) → AreRunning xs ss → IsRising ts → ((p : DuePart) (loan : ℕ) → total_by (running p loan) ts ≡ total_by (running p loan) ss +ℤ share p loan a) → AreRunning (xs ++ a ∷ []) ts
+pub push_running : (xs : List Adjustment) (a : Adjustment) (ss ts : List LoanSums) → AreRunning xs ss → IsRisingByLoan ts → ((p : DuePart) (loan : ℕ) → total_by (running p loan) ts ≡ total_by (running p loan) ss +ℤ share p loan a) → AreRunning (xs ++ a ∷ []) ts
 push_running xs a ss ts are up adds = record {
   rising = up;
   exact = λ p loan. omega (arith, ints, total_by-push (share p loan) xs a, are.exact p loan, adds p loan);

@@ -12,7 +12,8 @@ use Rattle.remit_types.specs.declared.dues.MonthDue.{MonthDue}
 use Rattle.period_adjust.specs.declared.adjustment.Adjustment.{Adjustment}
 use Rattle.period_adjust.specs.declared.report_line.ReportLine.{ReportLine}
 use Rattle.period_adjust.specs.Sealed.{Sealed, Reporting, reporting}
-use Rattle.period_adjust.specs.Sums.{DuePart, Interest, Principal, share, report_of, SumsFit}
+use Rattle.period_adjust.specs.Sums.{DuePart, Interest, Principal, share, report_of}
+use Rattle.period_adjust.specs.Pending.{SumsFit}
 use Rattle.period_adjust.specs.Changes.{is_unchanged, adjustment, change_of, adjustments_of}
 use Rattle.period_adjust.specs.Totals.{adjusted, lined, reported, total, Call, Change, Close, after, after_all, given, given_last, part_of_due, part_of_line}
 use Rattle.period_adjust.specs.Conditions.{IsAmount, IsSmallDue, IsSmallLine, IsClosed, MayChange, MayClose, MayCall, MayCallAll, IsExpected, last_month}

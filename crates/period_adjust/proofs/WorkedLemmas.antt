@@ -14,7 +14,7 @@ use Rattle.period_adjust.specs.Conditions.{IsClosed, IsDueSoFar, MayChange}
 use Rattle.period_adjust.specs.Worked.{worked_line, worked_reports, AreTwoMonths}
 use Rattle.period_adjust.proofs.BeforeLemmas.{by_month}
 
-few_adjustments : (number l : ℕ) (bs later : List MonthDue) → length (adjustments_of number l bs later) ≤ length bs
+pub few_adjustments : (number l : ℕ) (bs later : List MonthDue) → length (adjustments_of number l bs later) ≤ length bs
 few_adjustments number l [] later = omega arith
 few_adjustments number l (b ∷ bs) [] = omega arith
 few_adjustments number l (b ∷ bs) (a ∷ later) =

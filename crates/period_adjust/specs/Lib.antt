@@ -1,8 +1,10 @@
 pub mod Sealed
 pub mod Sums
 pub mod Pending
+pub mod Places
 pub mod Changes
 pub mod Totals
 pub mod Conditions
 pub mod Kept
 pub mod Worked
+pub mod WorkedMany

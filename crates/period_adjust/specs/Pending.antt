@@ -1,7 +1,7 @@
 -- The adjustments that no report has sent, and the running sums that are kept of them.
-use Rattle.std.specs.Prelude.{◌≡◌, ℕ, ◌<◌, ◌≤◌, ◌==◌, if◌then◌else◌, ℤ, pos, ◌+ℤ◌}
-use Rattle.std.specs.Prelude.{List, length, slice_index_or}
-use Rattle.std.specs.List.{AllPairs, AllWithin}
+use Rattle.std.specs.Prelude.{◌≡◌, ℕ, ◌<◌, ◌==◌, if◌then◌else◌, List, take, ℤ, pos, FitsSigned}
+use Rattle.std.specs.Int.{w64}
+use Rattle.std.specs.List.{AllPairs}
 use Rattle.svc_base.specs.Sums.{total_by}
 use Rattle.period_adjust.specs.declared.adjustment.Adjustment.{Adjustment}
 use Rattle.period_adjust.specs.declared.loan_sums.LoanSums.{LoanSums}
@@ -21,27 +21,14 @@ abbrev pub running : DuePart → ℕ → LoanSums → ℤ
 running p loan s = if s.loan == loan then part_of_running p s else pos 0
 
 -- one for each loan at most, rising by loan
-abbrev pub IsRising : List LoanSums → Type 0
-IsRising sums = AllPairs (λ s t. s.loan < t.loan) sums
+abbrev pub IsRisingByLoan : List LoanSums → Type 0
+IsRisingByLoan sums = AllPairs (λ s t. s.loan < t.loan) sums
 
 -- what is kept of adjustments: the sums of each loan
 pub record AreRunning (adjustments : List Adjustment) (sums : List LoanSums) : Type 0 where
-  pub rising : IsRising sums
+  pub rising : IsRisingByLoan sums
   pub exact : (p : DuePart) (loan : ℕ) → total_by (running p loan) sums ≡ total_by (share p loan) adjustments
 
--- the loan's sums stand at that place
-pub record IsPlaceOf (sums : List LoanSums) (loan place : ℕ) : Type 0 where
-  pub bound : place < length sums
-  pub own : (d : LoanSums) → (slice_index_or sums place d).loan ≡ loan
-
--- no sums are the loan's, and at that place they would stand
-pub record IsPlaceFor (sums : List LoanSums) (loan place : ℕ) : Type 0 where
-  pub bound : place ≤ length sums
-  pub below : AllWithin (λ s. s.loan < loan) sums 0 place
-  pub above : AllWithin (λ s. loan < s.loan) sums place (length sums)
-
--- sums with an adjustment more
-pub record IsSumWith (before : LoanSums) (a : Adjustment) (now : LoanSums) : Type 0 where
-  pub own : now.loan ≡ before.loan
-  pub interest : now.interest ≡ before.interest +ℤ a.interest
-  pub principal : now.principal ≡ before.principal +ℤ a.principal
+-- for each loan the sums of the first so many adjustments are numbers of 64 bits
+abbrev pub SumsFit : List Adjustment → Type 0
+SumsFit pending = (k : ℕ) (p : DuePart) (loan : ℕ) → FitsSigned w64 (total_by (share p loan) (take k pending))

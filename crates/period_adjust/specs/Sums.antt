@@ -1,6 +1,5 @@
 -- Sums of adjustments, and the report that they make.
-use Rattle.std.specs.Prelude.{ℕ, ◌==◌, if◌then◌else◌, List, map, take, ℤ, pos, FitsSigned}
-use Rattle.std.specs.Int.{w64}
+use Rattle.std.specs.Prelude.{ℕ, ◌==◌, if◌then◌else◌, List, map, ℤ, pos}
 use Rattle.svc_base.specs.Sums.{total_by}
 use Rattle.period_adjust.specs.declared.adjustment.Adjustment.{Adjustment}
 use Rattle.period_adjust.specs.declared.report_line.ReportLine.{ReportLine}
@@ -31,7 +30,3 @@ line_with pending line =
 abbrev pub report_of : ℕ → List ReportLine → List Adjustment → Sealed
 report_of month dues pending =
     record { month = month; lines = map (line_with pending) dues; adjustments = pending }
-
--- for each loan the sums of the first so many adjustments are numbers of 64 bits
-abbrev pub SumsFit : List Adjustment → Type 0
-SumsFit pending = (k : ℕ) (p : DuePart) (loan : ℕ) → FitsSigned w64 (total_by (share p loan) (take k pending))

@@ -5,7 +5,7 @@ ghost use Rattle.std.specs.List.{All};
 ghost use Rattle.period_adjust.specs.Changes as changes;
 ghost use Rattle.period_adjust.specs.Changes.{is_unchanged, adjustments_of};
 ghost use Rattle.period_adjust.specs.Conditions.{IsSmallDue};
-ghost use Rattle.period_adjust.specs.Sums.{SumsFit};
+ghost use Rattle.period_adjust.specs.Pending.{SumsFit};
 
 use crate::adjustment::Adjustment;
 use crate::pending::Pending;

@@ -5,7 +5,8 @@ ghost use Rattle.std.specs.Prelude.{MatchResult, vec_len, vec_capacity};
 ghost use Rattle.std.specs.Int.{w64};
 ghost use Rattle.svc_base.specs.Sums.{total_by};
 ghost use Rattle.period_adjust.specs.Sums.{DuePart, Interest, Principal, part_of_adjustment, share};
-ghost use Rattle.period_adjust.specs.Pending.{IsRising, running, IsPlaceOf, IsPlaceFor, IsSumWith};
+ghost use Rattle.period_adjust.specs.Pending.{IsRisingByLoan, running};
+ghost use Rattle.period_adjust.specs.Places.{IsPlaceOf, IsPlaceFor, IsSumWith};
 
 use crate::adjustment::Adjustment;
 use svc_base::Cents;
@@ -20,7 +21,7 @@ pub(crate) struct LoanSums {
 
 /// A loan's sums; 0 where none are kept of it.
 pub(crate) fn sums_of(sums: &[LoanSums], loan: u32) -> LoanSums
-    requires { IsRising sums.now }
+    requires { IsRisingByLoan sums.now }
     ensures interest { result.interest ≡ total_by (running Interest loan) sums.now }
     ensures principal { result.principal ≡ total_by (running Principal loan) sums.now }
 {
@@ -32,12 +33,12 @@ pub(crate) fn sums_of(sums: &[LoanSums], loan: u32) -> LoanSums
 
 /// Adds an adjustment to its loan's sums.
 pub(crate) fn add(sums: &mut Vec<LoanSums>, adjustment: &Adjustment)
-    requires rising { IsRising sums.old.items }
+    requires rising { IsRisingByLoan sums.old.items }
     requires room { vec_len sums.old < vec_capacity sums.old }
     requires fits { (part : DuePart) → FitsSigned w64
         (total_by (running part adjustment.now.loan) sums.old.items
         +ℤ part_of_adjustment part adjustment.now) }
-    ensures rising { IsRising sums.new.items }
+    ensures rising { IsRisingByLoan sums.new.items }
     ensures total { (part : DuePart) (loan : ℕ) → total_by (running part loan) sums.new.items ≡
         total_by (running part loan) sums.old.items +ℤ share part loan adjustment.now }
     ensures room { vec_capacity sums.old - vec_len sums.old ≤ vec_capacity sums.new - vec_len sums.new + 1 }
@@ -48,10 +49,10 @@ pub(crate) fn add(sums: &mut Vec<LoanSums>, adjustment: &Adjustment)
 
 /// Where the loan's sums stand. They are put in, as 0, where none are kept of it.
 fn place_of(sums: &mut Vec<LoanSums>, loan: u32) -> usize
-    requires rising { IsRising sums.old.items }
+    requires rising { IsRisingByLoan sums.old.items }
     requires room { vec_len sums.old < vec_capacity sums.old }
     ensures place { IsPlaceOf sums.new.items loan result }
-    ensures rising { IsRising sums.new.items }
+    ensures rising { IsRisingByLoan sums.new.items }
     ensures total { (part : DuePart) (other : ℕ) →
         total_by (running part other) sums.new.items ≡ total_by (running part other) sums.old.items }
     ensures room { vec_capacity sums.old - vec_len sums.old ≤ vec_capacity sums.new - vec_len sums.new + 1 }
@@ -67,11 +68,11 @@ fn place_of(sums: &mut Vec<LoanSums>, loan: u32) -> usize
 
 /// Puts in sums of 0 for a loan of which none are kept.
 fn insert_nothing(sums: &mut Vec<LoanSums>, place: usize, loan: u32)
-    requires rising { IsRising sums.old.items }
+    requires rising { IsRisingByLoan sums.old.items }
     requires place { IsPlaceFor sums.old.items loan place }
     requires room { vec_len sums.old < vec_capacity sums.old }
     ensures place { IsPlaceOf sums.new.items loan place }
-    ensures rising { IsRising sums.new.items }
+    ensures rising { IsRisingByLoan sums.new.items }
     ensures total { (part : DuePart) (other : ℕ) →
         total_by (running part other) sums.new.items ≡ total_by (running part other) sums.old.items }
     ensures room { vec_capacity sums.old - vec_len sums.old ≤ vec_capacity sums.new - vec_len sums.new + 1 }
@@ -81,12 +82,12 @@ fn insert_nothing(sums: &mut Vec<LoanSums>, place: usize, loan: u32)
 
 /// Adds an adjustment to its loan's sums, which stand at that place.
 fn add_at(sums: &mut [LoanSums], place: usize, adjustment: &Adjustment)
-    requires rising { IsRising sums.old }
+    requires rising { IsRisingByLoan sums.old }
     requires place { IsPlaceOf sums.old adjustment.now.loan place }
     requires fits { (part : DuePart) → FitsSigned w64
         (total_by (running part adjustment.now.loan) sums.old
         +ℤ part_of_adjustment part adjustment.now) }
-    ensures rising { IsRising sums.new }
+    ensures rising { IsRisingByLoan sums.new }
     ensures total { (part : DuePart) (loan : ℕ) → total_by (running part loan) sums.new ≡
         total_by (running part loan) sums.old +ℤ share part loan adjustment.now }
 {
@@ -120,7 +121,7 @@ fn nothing(loan: u32) -> LoanSums
 
 /// Where the loan's sums stand, or would stand.
 fn find(sums: &[LoanSums], loan: u32) -> Result<usize, usize>
-    requires { IsRising sums.now }
+    requires { IsRisingByLoan sums.now }
     ensures { MatchResult result (IsPlaceOf sums.now loan) (IsPlaceFor sums.now loan) }
 {
     let place = sums.partition_point(|kept| kept.loan < loan);

@@ -2,7 +2,8 @@
 
 ghost use Rattle.std.specs.Prelude.{◌≡◌, ◌+◌, ◌≤◌, [], ◌∷◌, ◌++◌, OnOk, IsOk};
 ghost use Rattle.svc_base.specs.Sums.{total_by};
-ghost use Rattle.period_adjust.specs.Sums.{Interest, Principal, share, SumsFit};
+ghost use Rattle.period_adjust.specs.Sums.{Interest, Principal, share};
+ghost use Rattle.period_adjust.specs.Pending.{SumsFit};
 
 use crate::adjustment::Adjustment;
 use crate::loan_sums::{LoanSums, add, sums_of};

@@ -8,6 +8,8 @@ ghost use Rattle.period_adjust.specs.Totals as totals;
 ghost use Rattle.period_adjust.specs.Totals.{Close};
 ghost use Rattle.period_adjust.specs.Worked as worked;
 
+mod many;
+
 use super::*;
 use std::alloc::Global;
 use std::process::Abort;

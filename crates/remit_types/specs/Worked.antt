@@ -25,8 +25,9 @@ april = 12 * 2024 + 3
 abbrev pub may : ℕ
 may = 12 * 2024 + 4
 
-abbrev pub loan : RemitType → ℕ → ℕ → Terms
-loan kind fee term =
+-- the loan with another fee or term
+abbrev pub loan_with : RemitType → ℕ → ℕ → Terms
+loan_with kind fee term =
     record {
       boarded = 31 * (12 * 2023 + 11) + 14;
       principal = pos 20_000_000;
@@ -43,8 +44,8 @@ loan kind fee term =
     }
 
 -- the loan as it stands above
-abbrev pub level : RemitType → Terms
-level kind = loan kind 250 360
+abbrev pub worked_loan : RemitType → Terms
+worked_loan kind = loan_with kind 250 360
 
 -- what a month did: the balance at its end, and what was curtailed and collected in it
 abbrev pub facts : ℕ → ℤ → ℤ → ℤ → ℤ → Bool → MonthFacts

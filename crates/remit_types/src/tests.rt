@@ -12,7 +12,7 @@ use svc_types::RemitType::{AA, SA, SS};
 
 /// 200,000.00 at 6%, of which 0.25% is the fee, first due in 2024-02.
 #[tactic(auto, using(svc_base::specs::DayLemmas::month_length_least), unfolding(svc_base::specs::Money::month_interest))]
-fn level_loan() -> Terms
+fn worked_loan() -> Terms
     ensures sound { IsSound result }
     ensures principal { result.principal ≡ pos 20_000_000 }
 {
@@ -111,7 +111,7 @@ fn paid_off(kind: RemitType) -> Row {
 /// What `due` says of some months from the boarded month on.
 fn check_rows(rt: &impl Abort, start: RemitType, rows: &[Row]) {
     let before = boarding(start);
-    let terms = level_loan();
+    let terms = worked_loan();
     let mut carry = first(&terms);
     for row in before.iter().chain(rows) {
         let (year, month) = row.month;

@@ -10,10 +10,11 @@ use Rattle.svc_types.specs.declared.books.Books.{Books}
 use Rattle.svc_types.specs.declared.books.Installment.{Installment}
 use Rattle.svc_types.specs.declared.account.Entry.{Entry}
 use Rattle.svc_types.specs.declared.account.Act.TheVariants as act
+use Rattle.svc_types.specs.declared.account.Designation.TheVariants.{Regular}
 use Rattle.svc_spec.specs.Installments.{open_installment}
 use Rattle.svc_spec.specs.Events.{books_at, late_day}
 use Rattle.svc_spec.specs.Entries.{AreEntries}
-use Rattle.svc_spec.specs.Books.{IsSum}
+use Rattle.svc_spec.specs.Books.{IsEntryAmount}
 use Rattle.serv_top.specs.declared.form.Command.{Command}
 use Rattle.serv_top.specs.declared.form.Command.TheVariants as command
 use Rattle.serv_top.specs.declared.loan.Loan.{Loan}
@@ -118,7 +119,7 @@ command_verdict w key c = if nat_le 1_000_000 (length w.keys) || is_known w.keys
 
 -- a payment as the entry of a command
 abbrev pub payment : ℕ → ℕ → ℤ → Entry
-payment number day c = record { number = number; day = day; act = act.Pay c }
+payment number day c = record { number = number; day = day; act = act.Pay c Regular }
 
 -- a loan with one more entry
 abbrev pub with_entry : Entry → Loan → Loan
@@ -177,4 +178,4 @@ pub record IsWorld (w : World) : Type 0 where
 abbrev pub MayFollow : ℕ → List Loan → Command → Type 0
 MayFollow today loans (command.Day d) = today ≤ d
 MayFollow today loans (command.Board id t) = IsSound t × (t.boarded ≤ today) × (length loans < 10_000)
-MayFollow today loans (command.Pay id day c) = (day ≡ today) × IsSum c × ((l : Loan) → find_loan loans id ≡ Some l → length l.entries < 4_096) × IsSome (find_loan loans id)
+MayFollow today loans (command.Pay id day c) = (day ≡ today) × IsEntryAmount c × ((l : Loan) → find_loan loans id ≡ Some l → length l.entries < 4_096) × IsSome (find_loan loans id)

@@ -6,7 +6,7 @@ ghost use Rattle.svc_base.specs.Calendar.{IsReadDay};
 ghost use Rattle.svc_types.specs.Terms.{IsSound};
 ghost use Rattle.std.specs.Bool.{OnFalse, OnTrue};
 ghost use Rattle.svc_types.specs.declared.account.Entry.{Entry};
-ghost use Rattle.svc_spec.specs.Books.{AreBooks, IsSum};
+ghost use Rattle.svc_spec.specs.Books.{AreBooks, IsEntryAmount};
 ghost use Rattle.svc_spec.specs.Events.{books_at, late_day as late_day_of};
 ghost use Rattle.serv_top.specs.Answers.{IsPayable};
 ghost use Rattle.serv_top.specs.Forms.{IsCommand};
@@ -218,7 +218,7 @@ pub(crate) fn pay_verdict<L: Ledger>(
     ensures value { result ≡ world.pay_verdict_on today loan.now day cents }
     ensures room { result ≡ Verdict.Accepted → length loan.now.entries < 4_096 }
     ensures today { result ≡ Verdict.Accepted → day ≡ today }
-    ensures amount { result ≡ Verdict.Accepted → IsSum cents }
+    ensures amount { result ≡ Verdict.Accepted → IsEntryAmount cents }
 {
     if loan.entries.items.len() >= ENTRIES {
         return Verdict::NotBuilt;
@@ -267,7 +267,7 @@ fn whole_verdict<L: Ledger>(today: Day, loan: &Loan, cents: Cents, steps: &mut S
 #[tactic(auto, using(svc_base::proofs::CentsRules::cents))]
 fn is_payment(cents: Cents) -> bool
     ensures value { result ≡ world.is_payment cents }
-    ensures amount { OnTrue result (IsSum cents) }
+    ensures amount { OnTrue result (IsEntryAmount cents) }
 {
     cents >= 1 && cents <= 10_000_000_000
 }

@@ -18,7 +18,7 @@ use std::alloc::Global;
 use std::marker::Model;
 use std::sync::ledger::Ledger;
 use svc_base::{Cents, Day, Month, OutOfMemory, Steps, first_day};
-use svc_types::{Act, Entry, Key};
+use svc_types::{Act, Designation, Entry, Key};
 
 /// The running state of a session: it stands for what was accepted, as what it holds.
 #[derive(Drop)]
@@ -219,7 +219,7 @@ fn add_payment(loan: &mut Loan, number: u32, day: Day, cents: Cents) -> Result<(
     loan.entries.items.push(Entry {
         number,
         day,
-        act: Act::Pay(cents),
+        act: Act::Pay(cents, Designation::Regular),
     })?;
     Ok(())
 }

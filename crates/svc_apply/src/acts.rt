@@ -3,15 +3,15 @@
 ghost use Rattle.std.specs.Prelude.{◌≡◌, ◌+◌, pos, ◌<ℤ◌, ◌≤ℤ◌, ◌+ℤ◌, ◌-ℤ◌};
 ghost use Rattle.svc_base.specs.Calendar.{IsReadDay};
 ghost use Rattle.svc_types.specs.Terms.{IsSound};
-ghost use Rattle.svc_spec.specs.Books.{AreBooks, HaveSigns, IsAct, IsSum, IsPlan, IsWhat};
+ghost use Rattle.svc_spec.specs.Books.{AreBooks, HaveSigns, IsAct, IsEntryAmount, IsPlan, IsWhat};
 ghost use Rattle.svc_spec.specs.Payoff.{payoff_sum as payoff_sum_of};
 ghost use Rattle.svc_spec.specs.Step as rule;
-ghost use Rattle.svc_apply.specs.Room.{AreNear, AreSums, HasRoom, MayApply};
+ghost use Rattle.svc_apply.specs.Conditions.{AreNear, AreSums, MaySettle, MayApply};
 
 use crate::payoff::{escrow_advanced, payoff_days, payoff_sum};
 use crate::settle::{is_overdue, settle};
 use std::sync::ledger::Ledger;
-use svc_base::{Cents, Day, Steps, day_interest, share_bp};
+use svc_base::{Cents, Day, Steps, day_interest, month_of, share_bp};
 use svc_types::{Act, Books, Designation, EscrowPlan, Settled, Terms, What};
 
 /// What happens on a day, but for the settling that follows. It counts one step for each installment
@@ -74,7 +74,7 @@ fn pay<L: Ledger>(
     requires terms { IsSound terms.now }
     requires boarded { IsReadDay terms.now.boarded }
     requires books { AreBooks terms.now books.old }
-    requires amount { IsSum cents }
+    requires amount { IsEntryAmount cents }
     ensures books { books.new ≡ rule.paid terms.now day cents to books.old }
     ensures steps { steps.new + books.old.next ≡ steps.old + books.new.next }
 {
@@ -82,7 +82,7 @@ fn pay<L: Ledger>(
     match to {
         Designation::Regular => {}
         Designation::Principal | Designation::Escrow => {
-            settle(books, terms, day.in_month().number(), day, steps);
+            settle(books, terms, month_of(day).number(), day, steps);
             apply_rest(books, terms, day, cents, to);
         }
     }
@@ -94,9 +94,9 @@ fn apply_rest(books: &mut Books, terms: &Terms, day: Day, cents: Cents, to: Desi
     requires terms { IsSound terms.now }
     requires boarded { IsReadDay terms.now.boarded }
     requires signs { HaveSigns terms.now books.old }
-    requires room { HasRoom books.old }
+    requires sums { MaySettle books.old }
     requires curtailed { books.old.curtailed ≤ℤ pos 1_000_000_000_000_000_000 }
-    requires amount { IsSum cents }
+    requires amount { IsEntryAmount cents }
     ensures { books.new ≡ rule.rest_applied terms.now day cents to books.old }
 {
     if books.upb <= 0 {
@@ -168,7 +168,7 @@ fn add_late(books: &mut Books, cents: Cents)
 /// Money that waits in suspense until it is applied.
 fn pay_in(books: &mut Books, cents: Cents)
     requires sums { AreSums books.old }
-    requires amount { IsSum cents }
+    requires amount { IsEntryAmount cents }
     ensures books { books.new ≡ rule.paid_in cents books.old }
     ensures near { AreNear books.new }
 {
@@ -178,7 +178,7 @@ fn pay_in(books: &mut Books, cents: Cents)
 /// A payment on the principal alone; what exceeds the balance waits.
 fn curtail(books: &mut Books, cents: Cents)
     requires sums { AreSums books.old }
-    requires amount { IsSum cents }
+    requires amount { IsEntryAmount cents }
     ensures { books.new ≡ rule.curtailed cents books.old }
 {
     pay_in(books, cents);
@@ -232,20 +232,20 @@ fn pay_off(books: &mut Books, terms: &Terms, day: Day, asked: Cents)
 /// A payment into escrow; on a satisfied loan it waits.
 fn deposit(books: &mut Books, cents: Cents)
     requires sums { AreSums books.old }
-    requires amount { IsSum cents }
+    requires amount { IsEntryAmount cents }
     ensures { books.new ≡ rule.deposited cents books.old }
 {
-    if books.upb > 0 {
-        books.escrow += cents;
+    if books.upb <= 0 {
+        pay_in(books, cents);
         return;
     }
-    pay_in(books, cents);
+    books.escrow += cents;
 }
 
 /// A bill paid from escrow, below 0 too.
 fn disburse(books: &mut Books, cents: Cents)
     requires sums { AreSums books.old }
-    requires amount { IsSum cents }
+    requires amount { IsEntryAmount cents }
     ensures { books.new ≡ record books.old { escrow = books.old.escrow -ℤ cents } }
 {
     books.escrow -= cents;
@@ -254,7 +254,7 @@ fn disburse(books: &mut Books, cents: Cents)
 /// A payment out to the borrower: from escrow, and on a satisfied loan from suspense first.
 fn refund(books: &mut Books, cents: Cents)
     requires sums { AreSums books.old }
-    requires amount { IsSum cents }
+    requires amount { IsEntryAmount cents }
     ensures { books.new ≡ rule.refunded cents books.old }
 {
     let taken = from_suspense(books, cents);
@@ -265,7 +265,7 @@ fn refund(books: &mut Books, cents: Cents)
 /// What a refund takes from suspense.
 fn from_suspense(books: &Books, cents: Cents) -> Cents
     requires sums { AreSums books.now }
-    requires amount { IsSum cents }
+    requires amount { IsEntryAmount cents }
     ensures value { result ≡ rule.from_suspense cents books.now }
     ensures low { pos 0 ≤ℤ result }
     ensures suspense { result ≤ℤ books.now.suspense }
@@ -280,7 +280,7 @@ fn from_suspense(books: &Books, cents: Cents) -> Cents
 /// Late charges that are given up.
 fn waive(books: &mut Books, cents: Cents)
     requires sums { AreSums books.old }
-    requires amount { IsSum cents }
+    requires amount { IsEntryAmount cents }
     ensures { books.new ≡ rule.waived cents books.old }
 {
     books.late_owed -= books.late_owed.min(cents);
@@ -290,7 +290,7 @@ fn waive(books: &mut Books, cents: Cents)
 /// both start in the same month.
 fn analyse(books: &mut Books, settled: &Settled)
     requires sums { AreSums books.old }
-    requires refund { IsSum settled.now.refund }
+    requires refund { IsEntryAmount settled.now.refund }
     requires plan { IsPlan settled.now.plan }
     ensures { books.new ≡ rule.analysed settled.now books.old }
 {

@@ -3,7 +3,8 @@
 ghost use Rattle.std.specs.Prelude.{◌≡◌, ◌+◌, ◌-◌, ◌≤◌, pos, ◌+ℤ◌};
 ghost use Rattle.svc_base.specs.Calendar.{IsReadDay};
 ghost use Rattle.svc_types.specs.Terms.{IsSound};
-ghost use Rattle.svc_spec.specs.Books.{AreBooks, AreWithin, IsWhat, boarding_plan as boarding_plan_of, total, start as start_of};
+ghost use Rattle.svc_spec.specs.Books.{AreBooks, AreWithin, IsWhat, total};
+ghost use Rattle.svc_spec.specs.Books.{boarding_plan as boarding_plan_of, start as start_of};
 ghost use Rattle.svc_spec.specs.Step as rule;
 
 use crate::acts::happen;
@@ -73,7 +74,7 @@ pub fn fold_step<L: Ledger>(books: &mut Books, terms: &Terms, event: &Event, ste
     settle(
         books,
         terms,
-        event.day.in_month().number() + 1,
+        month_of(event.day).number() + 1,
         event.day,
         steps,
     );

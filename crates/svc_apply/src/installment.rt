@@ -4,9 +4,9 @@ ghost use Rattle.std.specs.Prelude.{◌≡◌, ◌+◌, ◌≤◌, pos, ◌<ℤ�
 ghost use Rattle.svc_base.specs.Calendar.{IsReadDay};
 ghost use Rattle.svc_base.specs.Money.{IsAmount};
 ghost use Rattle.svc_types.specs.Terms.{IsSound};
-ghost use Rattle.svc_spec.specs.Books.{AreBooks, HaveSigns, IsPlan, IsSum};
+ghost use Rattle.svc_spec.specs.Books.{AreBooks, HaveSigns, IsPlan, IsEntryAmount};
 ghost use Rattle.svc_spec.specs.Installments as rule;
-ghost use Rattle.svc_apply.specs.Room.{HasParts};
+ghost use Rattle.svc_apply.specs.Conditions.{HasParts};
 
 use svc_base::{Cents, Month, add_months, first_day, month_interest};
 use svc_types::{Books, EscrowPlan, Installment, Terms};
@@ -108,9 +108,9 @@ fn escrow_of_plan(plan: &EscrowPlan, month: Month) -> Cents
 /// An amount in the months in which it is asked.
 fn asked(start: Month, months: u32, month: Month, amount: Cents) -> Cents
     requires months { months ≤ 60 }
-    requires amount { IsSum amount }
+    requires amount { IsEntryAmount amount }
     ensures value { result ≡ rule.asked start months month amount }
-    ensures bound { IsSum result }
+    ensures bound { IsEntryAmount result }
 {
     let (start, month) = (start.number(), month.number());
     if start <= month && month < start + months {

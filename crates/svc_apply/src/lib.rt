@@ -11,7 +11,10 @@ mod settle;
 pub use fold::{fold_step, start};
 pub use installment::open_installment;
 pub use payoff::{available, is_current, payoff_due};
-pub use rows::{worked_charges, worked_escrow, worked_payments, worked_payoffs};
+pub use rows::{
+    due_by_the_month, worked_charges, worked_designations, worked_escrow, worked_last_payments,
+    worked_payments, worked_payoffs,
+};
 pub use svc_types::Installment;
 
 #[cfg(test)]

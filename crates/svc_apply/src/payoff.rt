@@ -5,7 +5,7 @@ ghost use Rattle.svc_base.specs.Calendar.{IsReadDay};
 ghost use Rattle.svc_types.specs.Terms.{IsSound};
 ghost use Rattle.svc_spec.specs.Books.{AreBooks, AreWithin, HaveSigns};
 ghost use Rattle.svc_spec.specs.Payoff as rule;
-ghost use Rattle.svc_apply.specs.Room.{AreNear};
+ghost use Rattle.svc_apply.specs.Conditions.{AreNear};
 
 use crate::installment::due_month;
 use svc_base::{Cents, Day, add_days, day_interest, days360, first_day};

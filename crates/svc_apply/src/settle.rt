@@ -6,7 +6,7 @@ ghost use Rattle.svc_types.specs.Terms.{IsSound};
 ghost use Rattle.svc_spec.specs.Books.{HaveSigns};
 ghost use Rattle.svc_spec.specs.Installments as installments;
 ghost use Rattle.svc_spec.specs.Settling as rule;
-ghost use Rattle.svc_apply.specs.Room.{HasRoom, HasParts};
+ghost use Rattle.svc_apply.specs.Conditions.{MaySettle, HasParts};
 
 use crate::installment::{due_month, installment};
 use std::sync::ledger::Ledger;
@@ -25,7 +25,7 @@ pub(crate) fn settle<L: Ledger>(
     requires terms { IsSound terms.now }
     requires boarded { IsReadDay terms.now.boarded }
     requires signs { HaveSigns terms.now books.old }
-    requires room { HasRoom books.old }
+    requires sums { MaySettle books.old }
     ensures books { books.new ≡ rule.settled_by terms.now by day books.old }
     ensures steps { steps.new + books.old.next ≡ steps.old + books.new.next }
 {
@@ -39,11 +39,11 @@ fn pay_installments<L: Ledger>(books: &mut Books, terms: &Terms, by: u32, steps:
     requires terms { IsSound terms.now }
     requires boarded { IsReadDay terms.now.boarded }
     requires signs { HaveSigns terms.now books.old }
-    requires room { HasRoom books.old }
+    requires sums { MaySettle books.old }
     ensures books { books.new ≡ rule.moved terms.now (rule.moves terms.now by books.old) books.old }
     ensures steps { steps.new ≡ steps.old + rule.moves terms.now by books.old }
     ensures signs { HaveSigns terms.now books.new }
-    ensures room { HasRoom books.new }
+    ensures sums { MaySettle books.new }
 {
     while let Some(open) = movable(books, terms, by) {
         pay_installment(books, &open);
@@ -59,7 +59,8 @@ fn movable(books: &Books, terms: &Terms, by: u32) -> Option<Installment>
     ensures movable { is_some result ≡ rule.is_movable terms.now by books.now }
     ensures value { IfSome result (λ found. found ≡ installments.installment terms.now books.now) }
     ensures parts { IfSome result (λ found. HasParts found books.now.upb) }
-    ensures covered { IfSome result (λ found. (found.interest +ℤ found.principal +ℤ found.escrow) ≤ℤ books.now.suspense) }
+    ensures covered { IfSome result (λ found.
+        (found.interest +ℤ found.principal +ℤ found.escrow) ≤ℤ books.now.suspense) }
 {
     if books.upb <= 0 {
         return None;
@@ -85,7 +86,7 @@ fn sum_of(due: &Installment, upb: Cents) -> Cents
 
 /// Moves the parts of an installment out of suspense.
 fn pay_installment(books: &mut Books, due: &Installment)
-    requires room { HasRoom books.old }
+    requires sums { MaySettle books.old }
     requires covered { (due.now.interest +ℤ due.now.principal +ℤ due.now.escrow) ≤ℤ books.old.suspense }
     requires parts { HasParts due.now books.old.upb }
     requires next { due.now.k ≤ 480 }
@@ -105,7 +106,7 @@ fn take_late(books: &mut Books, terms: &Terms, day: Day)
     requires terms { IsSound terms.now }
     requires boarded { IsReadDay terms.now.boarded }
     requires signs { HaveSigns terms.now books.old }
-    requires room { HasRoom books.old }
+    requires sums { MaySettle books.old }
     ensures { books.new ≡ rule.late_taken terms.now day books.old }
 {
     if is_overdue(books, terms, day) {
@@ -127,7 +128,7 @@ pub(crate) fn is_overdue(books: &Books, terms: &Terms, day: Day) -> bool
 fn pay_late(books: &mut Books)
     requires suspense { pos 0 ≤ℤ books.old.suspense }
     requires late_owed { pos 0 ≤ℤ books.old.late_owed }
-    requires room { HasRoom books.old }
+    requires sums { MaySettle books.old }
     ensures { books.new ≡ rule.late_paid books.old }
 {
     let paid = books.suspense.min(books.late_owed);

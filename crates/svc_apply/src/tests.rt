@@ -1,9 +1,9 @@
 //! The books of a loan after a few events, by rows that were worked out by hand.
 
-ghost use Rattle.std.specs.Prelude.{◌≡◌, ◌≤◌, ◌<◌, IfSome, IsTrue, length};
+ghost use Rattle.std.specs.Prelude.{◌≡◌, ◌≤◌, ◌<◌, IfSome, IsTrue, length, pos, ◌≤ℤ◌};
 ghost use Rattle.svc_base.specs.Calendar.{IsReadDay};
 ghost use Rattle.svc_types.specs.Terms.{IsSound};
-ghost use Rattle.svc_spec.specs.Books.{AreBooks, IsAct, IsPlan, IsSum, IsWhat};
+ghost use Rattle.svc_spec.specs.Books.{AreBooks, IsAct, IsPlan, IsEntryAmount, IsWhat};
 
 use crate::{available, fold_step, is_current, open_installment, payoff_due, start};
 use std::marker::Brand;
@@ -53,8 +53,8 @@ fn loan(boarded: Day, first: Month, term: u32, escrow: Cents) -> Option<Terms>
 
 /// Whether an entry may name the amount.
 #[tactic(auto, using(std::proofs::lemmas::Int::ints))]
-fn is_sum(cents: Cents) -> bool
-    ensures { IsTrue result → IsSum cents }
+fn is_entry_amount(cents: Cents) -> bool
+    ensures { IsTrue result → IsEntryAmount cents }
 {
     if cents < 0 {
         return false;
@@ -64,21 +64,21 @@ fn is_sum(cents: Cents) -> bool
 
 /// Whether a plan may ask the amount for so many months.
 fn is_part(cents: Cents, months: u32) -> bool
-    ensures { IsTrue result → IsSum cents × months ≤ 60 }
+    ensures { IsTrue result → IsEntryAmount cents × months ≤ 60 }
 {
     if months > 60 {
         return false;
     }
-    is_sum(cents)
+    is_entry_amount(cents)
 }
 
 fn is_plan(plan: &EscrowPlan) -> bool
     ensures { IsTrue result → IsPlan plan.now }
 {
-    if !is_sum(plan.base) {
+    if !is_entry_amount(plan.base) {
         return false;
     }
-    if !is_sum(plan.credit) {
+    if !is_entry_amount(plan.credit) {
         return false;
     }
     if !is_part(plan.short, plan.short_months) {
@@ -88,22 +88,23 @@ fn is_plan(plan: &EscrowPlan) -> bool
 }
 
 fn is_settled(settled: &Settled) -> bool
-    ensures { IsTrue result → IsSum settled.now.refund × IsSum settled.now.within30 × IsPlan settled.now.plan }
+    ensures { IsTrue result
+        → IsEntryAmount settled.now.refund × IsEntryAmount settled.now.within30 × IsPlan settled.now.plan }
 {
-    is_sum(settled.refund) && is_sum(settled.within30) && is_plan(&settled.plan)
+    is_entry_amount(settled.refund) && is_entry_amount(settled.within30) && is_plan(&settled.plan)
 }
 
 fn is_act(act: &Act) -> bool
     ensures { IsTrue result → IsAct act.now }
 {
     match act {
-        Act::Pay(cents, _) => is_sum(*cents),
-        Act::Curtail(cents) => is_sum(*cents),
-        Act::Payoff(cents) => is_sum(*cents),
-        Act::Deposit(cents) => is_sum(*cents),
-        Act::Disburse(cents, _) => is_sum(*cents),
-        Act::Refund(cents) => is_sum(*cents),
-        Act::Waive(cents) => is_sum(*cents),
+        Act::Pay(cents, _) => is_entry_amount(*cents),
+        Act::Curtail(cents) => is_entry_amount(*cents),
+        Act::Payoff(cents) => is_entry_amount(*cents),
+        Act::Deposit(cents) => is_entry_amount(*cents),
+        Act::Disburse(cents, _) => is_entry_amount(*cents),
+        Act::Refund(cents) => is_entry_amount(*cents),
+        Act::Waive(cents) => is_entry_amount(*cents),
         Act::Analyse(settled) => is_settled(settled),
     }
 }
@@ -205,6 +206,18 @@ fn on(month: u32, place: u32, act: Act) -> Event
     }
 }
 
+fn regular(cents: Cents) -> Act {
+    Act::Pay(cents, Designation::Regular)
+}
+
+fn with_principal(cents: Cents) -> Act {
+    Act::Pay(cents, Designation::Principal)
+}
+
+fn with_escrow(cents: Cents) -> Act {
+    Act::Pay(cents, Designation::Escrow)
+}
+
 fn month_mark(month: u32) -> Event
     requires first { 1 ≤ month }
     requires last { month ≤ 12 }
@@ -289,20 +302,17 @@ fn installments_wait_until_they_are_whole(rt: HostRuntime) {
         suspense: 119_909,
         ..BOARDED
     };
-    let short = [on(2, 1, Act::Pay(119_909, Designation::Regular))];
+    let short = [on(2, 1, regular(119_909))];
     assert_eq!(rt; after(&short), Some(waiting));
-    let whole = [
-        on(2, 1, Act::Pay(119_909, Designation::Regular)),
-        on(2, 1, Act::Pay(1, Designation::Regular)),
-    ];
+    let whole = [on(2, 1, regular(119_909)), on(2, 1, regular(1))];
     assert_eq!(rt; after(&whole), Some(ONE_PAID));
-    let both = [on(2, 1, Act::Pay(239_820, Designation::Regular))];
+    let both = [on(2, 1, regular(239_820))];
     assert_eq!(rt; after(&both), Some(TWO_PAID));
     let ahead = Row {
         suspense: 119_910,
         ..TWO_PAID
     };
-    let three = [on(2, 1, Act::Pay(359_730, Designation::Regular))];
+    let three = [on(2, 1, regular(359_730))];
     assert_eq!(rt; after(&three), Some(ahead));
     let third_paid = Row {
         upb: 19_939_970,
@@ -312,10 +322,7 @@ fn installments_wait_until_they_are_whole(rt: HostRuntime) {
         principal: 60_030,
         ..BOARDED
     };
-    let marked = [
-        on(2, 1, Act::Pay(359_730, Designation::Regular)),
-        month_mark(3),
-    ];
+    let marked = [on(2, 1, regular(359_730)), month_mark(3)];
     assert_eq!(rt; after(&marked), Some(third_paid));
 }
 
@@ -325,16 +332,12 @@ fn late_charges(rt: HostRuntime) {
         late_owed: 5_996,
         ..ONE_PAID
     };
-    let charged = [
-        on(2, 1, Act::Pay(119_910, Designation::Regular)),
-        late(2, 17, 1),
-        late(3, 17, 2),
-    ];
+    let charged = [on(2, 1, regular(119_910)), late(2, 17, 1), late(3, 17, 2)];
     assert_eq!(rt; after(&charged), Some(owing));
     let paid = [
-        on(2, 1, Act::Pay(119_910, Designation::Regular)),
+        on(2, 1, regular(119_910)),
         late(3, 17, 2),
-        on(3, 20, Act::Pay(125_906, Designation::Regular)),
+        on(3, 20, regular(125_906)),
     ];
     let all_paid = Row {
         late_paid: 5_996,
@@ -342,7 +345,7 @@ fn late_charges(rt: HostRuntime) {
     };
     assert_eq!(rt; after(&paid), Some(all_paid));
     let waived = [
-        on(2, 1, Act::Pay(119_910, Designation::Regular)),
+        on(2, 1, regular(119_910)),
         late(3, 17, 2),
         on(3, 20, Act::Waive(5_996)),
     ];
@@ -364,10 +367,10 @@ fn satisfied_with(suspense: Cents) -> Row {
 
 #[test]
 fn a_payoff(rt: HostRuntime) {
-    let paid = [on(2, 1, Act::Pay(119_910, Designation::Regular))];
+    let paid = [on(2, 1, regular(119_910))];
     assert_eq!(rt; payoff_after(&paid, day(2024, 2, 16)), Some(20_030_040));
     let paid_off = [
-        on(2, 1, Act::Pay(119_910, Designation::Regular)),
+        on(2, 1, regular(119_910)),
         on(2, 16, Act::Payoff(20_030_040)),
     ];
     assert_eq!(rt; after(&paid_off), Some(satisfied_with(0)));
@@ -377,12 +380,12 @@ fn a_payoff(rt: HostRuntime) {
         ..TWO_PAID
     };
     let short = [
-        on(2, 1, Act::Pay(119_910, Designation::Regular)),
+        on(2, 1, regular(119_910)),
         on(2, 16, Act::Payoff(20_030_039)),
     ];
     assert_eq!(rt; after(&short), Some(waiting));
     let deposited = [
-        on(2, 1, Act::Pay(119_910, Designation::Regular)),
+        on(2, 1, regular(119_910)),
         on(2, 16, Act::Payoff(20_030_040)),
         late(3, 17, 2),
         on(3, 20, Act::Deposit(500)),
@@ -393,10 +396,7 @@ fn a_payoff(rt: HostRuntime) {
 
 #[test]
 fn a_curtailment(rt: HostRuntime) {
-    let curtailed = [
-        on(2, 1, Act::Pay(119_910, Designation::Regular)),
-        on(2, 10, Act::Curtail(100_000)),
-    ];
+    let curtailed = [on(2, 1, regular(119_910)), on(2, 10, Act::Curtail(100_000))];
     let lower = Row {
         upb: 19_880_090,
         principal: 119_910,
@@ -404,6 +404,127 @@ fn a_curtailment(rt: HostRuntime) {
         ..ONE_PAID
     };
     assert_eq!(rt; after(&curtailed), Some(lower));
+}
+
+/// The books of the loan after a payment on the day on which its first installment is due.
+fn after_first(act: Act) -> Option<Row> {
+    after(&[on(2, 1, act)])
+}
+
+/// The first installment is paid, and so much principal ahead of its time.
+fn one_paid_ahead(ahead: Cents) -> Row
+    requires low { pos 0 ≤ℤ ahead }
+    requires high { ahead ≤ℤ pos 19_980_090 }
+{
+    Row {
+        upb: 19_980_090 - ahead,
+        principal: 19_910 + ahead,
+        curtailed: ahead,
+        ..ONE_PAID
+    }
+}
+
+/// The first installment is still due, and 500.00 wait.
+const STILL_DUE: Row = Row {
+    suspense: 50_000,
+    ..BOARDED
+};
+
+#[test]
+fn what_a_payment_leaves_goes_where_it_is_designated(rt: HostRuntime) {
+    let waiting = Row {
+        suspense: 50_000,
+        ..ONE_PAID
+    };
+    let in_escrow = Row {
+        escrow: 50_000,
+        ..ONE_PAID
+    };
+    assert_eq!(rt;
+        after_first(with_principal(169_910)),
+        Some(one_paid_ahead(50_000))
+    );
+    assert_eq!(rt; after_first(with_escrow(169_910)), Some(in_escrow));
+    assert_eq!(rt; after_first(regular(169_910)), Some(waiting));
+    assert_eq!(rt;
+        after_first(with_principal(239_820)),
+        Some(one_paid_ahead(119_910))
+    );
+    assert_eq!(rt; after_first(regular(239_820)), Some(TWO_PAID));
+    assert_eq!(rt;
+        after_first(with_principal(119_911)),
+        Some(one_paid_ahead(1))
+    );
+    assert_eq!(rt; after_first(with_principal(50_000)), Some(STILL_DUE));
+    assert_eq!(rt; after_first(with_escrow(50_000)), Some(STILL_DUE));
+}
+
+#[test]
+fn installments_and_late_charges_come_before_what_is_designated(rt: HostRuntime) {
+    let late_waiting = Row {
+        suspense: 50_000,
+        ..ONE_PAID
+    };
+    assert_eq!(rt;
+        after(&[on(3, 10, with_principal(169_910))]),
+        Some(late_waiting)
+    );
+    let all_paid = Row {
+        escrow: 50_000,
+        late_paid: 5_996,
+        ..TWO_PAID
+    };
+    let charged = [
+        on(2, 1, regular(119_910)),
+        late(3, 17, 2),
+        on(3, 20, with_escrow(175_906)),
+    ];
+    assert_eq!(rt; after(&charged), Some(all_paid));
+    let ahead = Row {
+        escrow: 10_000,
+        suspense: 60_180,
+        ..TWO_PAID
+    };
+    let from_a_waiting_sum = [on(2, 1, regular(300_000)), on(2, 10, with_escrow(10_000))];
+    assert_eq!(rt; after(&from_a_waiting_sum), Some(ahead));
+    let third_paid = Row {
+        upb: 19_939_970,
+        next: 4,
+        escrow: 10_000,
+        interest: 299_700,
+        fee: 12_488,
+        principal: 60_030,
+        ..BOARDED
+    };
+    let then_the_next_installment = [on(2, 1, regular(359_730)), on(3, 5, with_escrow(10_000))];
+    assert_eq!(rt; after(&then_the_next_installment), Some(third_paid));
+}
+
+/// The loan is satisfied by extra principal on the day of its first installment.
+fn satisfied_ahead(suspense: Cents) -> Row {
+    Row {
+        suspense,
+        satisfied: Some(day(2024, 2, 1)),
+        ..one_paid_ahead(19_980_090)
+    }
+}
+
+#[test]
+fn extra_principal_may_satisfy_the_loan(rt: HostRuntime) {
+    assert_eq!(rt;
+        after_first(with_principal(20_100_000)),
+        Some(satisfied_ahead(0))
+    );
+    assert_eq!(rt;
+        after_first(with_principal(20_100_001)),
+        Some(satisfied_ahead(1))
+    );
+    let afterwards = [
+        on(2, 1, with_principal(20_100_000)),
+        on(2, 20, with_principal(500)),
+        on(2, 21, with_escrow(100)),
+    ];
+    assert_eq!(rt; after(&afterwards), Some(satisfied_ahead(600)));
 }
 
 /// The row after some events of the loan with another number of installments.
@@ -425,13 +546,13 @@ fn the_last_installment_takes_all_of_the_balance(rt: HostRuntime) {
         satisfied: Some(day(2024, 2, 1)),
         ..BOARDED
     };
-    let paid = [on(2, 1, Act::Pay(20_100_000, Designation::Regular))];
+    let paid = [on(2, 1, regular(20_100_000))];
     assert_eq!(rt; after_of_term(1, &paid), Some(one));
     let waiting = Row {
         suspense: 20_099_999,
         ..BOARDED
     };
-    let short = [on(2, 1, Act::Pay(20_099_999, Designation::Regular))];
+    let short = [on(2, 1, regular(20_099_999))];
     assert_eq!(rt; after_of_term(1, &short), Some(waiting));
     let two = Row {
         upb: 0,
@@ -442,10 +563,7 @@ fn the_last_installment_takes_all_of_the_balance(rt: HostRuntime) {
         satisfied: Some(day(2024, 3, 1)),
         ..BOARDED
     };
-    let both = [
-        on(2, 1, Act::Pay(119_910, Designation::Regular)),
-        on(3, 1, Act::Pay(20_079_990, Designation::Regular)),
-    ];
+    let both = [on(2, 1, regular(119_910)), on(3, 1, regular(20_079_990))];
     assert_eq!(rt; after_of_term(2, &both), Some(two));
 }
 
@@ -481,7 +599,7 @@ fn escrow_balances(rt: HostRuntime) {
         on(6, 15, Act::Refund(5_000)),
     ];
     assert_eq!(rt; escrow_balance(&refund), Some(104_000));
-    let payment = [on(6, 20, Act::Pay(132_910, Designation::Regular))];
+    let payment = [on(6, 20, regular(132_910))];
     assert_eq!(rt; escrow_balance(&payment), Some(13_000));
     let payoff = [
         on(6, 10, Act::Deposit(150_000)),
@@ -582,12 +700,12 @@ fn refundable_after(events: &[Event]) -> Option<Cents>
 
 #[test]
 fn what_may_be_refunded(rt: HostRuntime) {
-    let paid = [on(2, 1, Act::Pay(119_910, Designation::Regular))];
+    let paid = [on(2, 1, regular(119_910))];
     assert_eq!(rt; refundable_after(&paid), Some(0));
     let deposited = [on(2, 1, Act::Deposit(109_000))];
     assert_eq!(rt; refundable_after(&deposited), Some(109_000));
     let satisfied = [
-        on(2, 1, Act::Pay(119_910, Designation::Regular)),
+        on(2, 1, regular(119_910)),
         on(2, 16, Act::Payoff(20_030_040)),
         on(2, 20, Act::Deposit(500)),
     ];
@@ -607,7 +725,7 @@ fn thirty_days_past_due_are_current(rt: HostRuntime) {
     assert_eq!(rt; is_current_after(&[], day(2024, 3, 2)), Some(true));
     assert_eq!(rt; is_current_after(&[], day(2024, 3, 3)), Some(false));
     let paid_off = [
-        on(2, 1, Act::Pay(119_910, Designation::Regular)),
+        on(2, 1, regular(119_910)),
         on(2, 16, Act::Payoff(20_030_040)),
     ];
     assert_eq!(rt; is_current_after(&paid_off, day(2025, 2, 1)), Some(true));

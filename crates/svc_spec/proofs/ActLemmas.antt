@@ -1,37 +1,32 @@
 -- What the acts and marks keep: the signs of the numbers, and all money.
-use Rattle.std.proofs.Common.{◌≡◌, ℕ, zero, suc, ◌+◌, ◌≤◌, ◌<◌, Bool, true, false, cond, arith, refl, sym, ap, subst, ◌∙◌, ◌⊎◌, ⊎_elim}
-use Rattle.std.specs.Prelude.{ℤ, pos, ◌+ℤ◌, ◌-ℤ◌, ◌≤ℤ◌, ◌<ℤ◌, ◌&&◌, ◌==◌, not, int_lt, int_le, nat_le, is_some, Option, Some, if◌then◌else◌}
-use Rattle.std.specs.Int.{int_min, int_max}
+use Rattle.std.proofs.Common.{◌≡◌, ℕ, true, false, arith, refl, ◌∙◌, ◌⊎◌, ⊎_elim}
+use Rattle.std.specs.Prelude.{ℤ, pos, ◌+ℤ◌, ◌≤ℤ◌, ◌&&◌, ◌==◌, not, int_lt, int_le, nat_le, if◌then◌else◌}
+use Rattle.std.specs.Int.{int_min}
 use Rattle.std.proofs.lemmas.Int.{ints, clamps}
-use Rattle.svc_base.specs.Calendar.{month_of, IsDay, IsReadDay, months_end}
-use Rattle.svc_base.specs.Money.{month_interest, day_interest, share_bp, IsAmount}
-use Rattle.svc_base.proofs.MoneyLemmas.{month_interest_low, month_interest_rises, day_interest_low, day_interest_rises, share_bp_low}
-use Rattle.svc_base.proofs.CentsRules.{int_le-true, int_le-false, int_lt-true, int_lt-false, from_int_le, from_not_int_le, from_int_lt, from_not_int_lt}
+use Rattle.svc_base.specs.Calendar.{month_of}
+use Rattle.svc_base.specs.Money.{day_interest, share_bp}
+use Rattle.svc_base.proofs.MoneyLemmas.{day_interest_low, share_bp_low}
+use Rattle.svc_base.proofs.CentsRules.{from_int_le}
 use Rattle.svc_types.specs.declared.terms.Terms.{Terms}
-use Rattle.svc_types.specs.declared.escrow.EscrowPlan.{EscrowPlan}
 use Rattle.svc_types.specs.declared.escrow.Settled.{Settled}
 use Rattle.svc_types.specs.declared.books.Books.{Books}
 use Rattle.svc_types.specs.declared.account.Designation.{Designation}
 use Rattle.svc_types.specs.declared.account.Designation.TheVariants.{Regular, Principal, Escrow}
-use Rattle.svc_types.specs.declared.account.Act.{Act}
 use Rattle.svc_types.specs.declared.account.Act.TheVariants.{Pay, Curtail, Payoff, Deposit, Disburse, Refund, Waive, Analyse}
-use Rattle.svc_types.specs.declared.account.Event.{Event}
 use Rattle.svc_types.specs.declared.account.What.{What}
 use Rattle.svc_types.specs.declared.account.What.TheVariants as what
 use Rattle.svc_types.specs.Terms.{IsSound}
-use Rattle.svc_spec.specs.Installments.{interest_part, fee_part, whole_part, principal_part, escrow_part, due_month}
 use Rattle.svc_spec.specs.Settling.{is_overdue, due_settled}
-use Rattle.svc_spec.specs.Payoff.{payoff_sum, payoff_principal, payoff_days, escrow_advanced}
-use Rattle.svc_spec.specs.Step.{paid_in, charged, to_principal, to_escrow, applied, rest_applied, paid, curtailed, paid_off, payoff_tried, deposited, from_suspense, refunded, waived, analysed, acted, happened, step, brought, paid_out, brought_by, paid_out_by}
-use Rattle.svc_spec.specs.Books.{IsSum, IsPlan, HaveSigns, AreWithin, AreBooks, IsAct, IsWhat, total}
-use Rattle.svc_spec.proofs.InstallmentLemmas.{IsBalance, principal_part_bounds, escrow_part_bounds}
+use Rattle.svc_spec.specs.Payoff.{payoff_sum, payoff_principal, payoff_days}
+use Rattle.svc_spec.specs.Step.{paid_in, charged, to_principal, to_escrow, applied, rest_applied, paid, curtailed, paid_off, payoff_tried, deposited, from_suspense, refunded, waived, analysed, happened, brought_by, paid_out_by}
+use Rattle.svc_spec.specs.Books.{IsEntryAmount, IsPlan, HaveSigns, IsWhat, total}
 use Rattle.svc_spec.proofs.SettlingLemmas.{both}
 use Rattle.svc_spec.proofs.SettledLemmas.{Falls, StaysPaid, stays_paid, falls_stays, settled_signs, settled_total, settled_satisfied}
 
 le_refl : (z : ℤ) → z ≤ℤ z
 le_refl z = omega (arith, ints)
 
-pub paid_in_signs : (t : Terms) (c : ℤ) (b : Books) → IsSum c → HaveSigns t b → HaveSigns t (paid_in c b)
+pub paid_in_signs : (t : Terms) (c : ℤ) (b : Books) → IsEntryAmount c → HaveSigns t b → HaveSigns t (paid_in c b)
 paid_in_signs t c b a h = let suspense = h.suspense in let low = a.low in record { upb_low = h.upb_low; upb_high = h.upb_high; next_low = h.next_low; next_high = h.next_high; suspense = omega (arith, ints); late_owed = h.late_owed; interest = h.interest; fee = h.fee; principal = h.principal; curtailed = h.curtailed; late_paid = h.late_paid; plan = h.plan; earlier = h.earlier }
 
 paid_in_total : (c : ℤ) (b : Books) → total (paid_in c b) ≡ total b +ℤ c
@@ -107,19 +102,19 @@ applied_falls Regular x b low upb = record { upb = le_refl b.upb; satisfied = re
 applied_falls Principal x b low upb = to_principal_falls x b low upb
 applied_falls Escrow x b low upb = to_escrow_falls x b
 
-curtailed_signs : (t : Terms) (c : ℤ) (b : Books) → IsSum c → HaveSigns t b → HaveSigns t (curtailed c b)
+curtailed_signs : (t : Terms) (c : ℤ) (b : Books) → IsEntryAmount c → HaveSigns t b → HaveSigns t (curtailed c b)
 curtailed_signs t c b a h = let suspense = h.suspense in to_principal_signs t c (paid_in c b) a.low (omega (arith, ints)) (paid_in_signs t c b a h)
 
 curtailed_total : (c : ℤ) (b : Books) → total (curtailed c b) ≡ total b +ℤ c
 curtailed_total c b = to_principal_total c (paid_in c b) ∙ paid_in_total c b
 
-curtailed_falls : (c : ℤ) (b : Books) → IsSum c → pos 0 ≤ℤ b.upb → Falls b (curtailed c b)
+curtailed_falls : (c : ℤ) (b : Books) → IsEntryAmount c → pos 0 ≤ℤ b.upb → Falls b (curtailed c b)
 curtailed_falls c b a low = let f = to_principal_falls c (paid_in c b) a.low low in record { upb = f.upb; satisfied = f.satisfied }
 
 -- ---- payments
 
 -- what no amount within suspense that is applied changes, the rest of a payment does not
-pub rest_applied_keeps : (t : Terms) (d : ℕ) (c : ℤ) (to : Designation) (b : Books) (P : Books → Type 0) → IsSum c → pos 0 ≤ℤ b.suspense → ((x : ℤ) → pos 0 ≤ℤ x → x ≤ℤ b.suspense → P (applied to x b)) → P b → P (rest_applied t d c to b)
+pub rest_applied_keeps : (t : Terms) (d : ℕ) (c : ℤ) (to : Designation) (b : Books) (P : Books → Type 0) → IsEntryAmount c → pos 0 ≤ℤ b.suspense → ((x : ℤ) → pos 0 ≤ℤ x → x ≤ℤ b.suspense → P (applied to x b)) → P b → P (rest_applied t d c to b)
 unfolding rest_applied
 rest_applied_keeps t d c to b P a low keep p =
     let c_low = a.low in
@@ -129,15 +124,18 @@ rest_applied_keeps t d c to b P a low keep p =
     ]
 
 -- what money that waits brings, and settling and applying keep, holds after a payment
-pub paid_keeps : (t : Terms) (d : ℕ) (c : ℤ) (to : Designation) (b : Books) (P : Books → Type 0) → IsSound t → IsSum c → HaveSigns t b → P (paid_in c b) → ((x : Books) → HaveSigns t x → P x → P (due_settled t d x)) → ((to : Designation) (x : ℤ) (y : Books) → pos 0 ≤ℤ x → x ≤ℤ y.suspense → HaveSigns t y → P y → P (applied to x y)) → P (paid t d c to b)
+pub paid_keeps : (t : Terms) (d : ℕ) (c : ℤ) (to : Designation) (b : Books) (P : Books → Type 0) → IsSound t → IsEntryAmount c → HaveSigns t b → P (paid_in c b) → ((x : Books) → HaveSigns t x → P x → P (due_settled t d x)) → ((to : Designation) (x : ℤ) (y : Books) → pos 0 ≤ℤ x → x ≤ℤ y.suspense → HaveSigns t y → P y → P (applied to x y)) → P (paid t d c to b)
 paid_keeps t d c to b P s a h p settle apply = cases to
   where
     signs : HaveSigns t (due_settled t d (paid_in c b))
     signs = settled_signs t (month_of d) d (paid_in c b) s (paid_in_signs t c b a h)
+
     due : P (due_settled t d (paid_in c b))
     due = settle (paid_in c b) (paid_in_signs t c b a h) p
+
     rest : (to : Designation) → P (rest_applied t d c to (due_settled t d (paid_in c b)))
     rest to = rest_applied_keeps t d c to (due_settled t d (paid_in c b)) P a signs.suspense (λ x low within. apply to x (due_settled t d (paid_in c b)) low within signs due) due
+
     cases : (to : Designation) → P (paid t d c to b)
     cases Regular = p
     cases Principal = rest Principal
@@ -146,13 +144,13 @@ paid_keeps t d c to b P s a h p settle apply = cases to
 pub paid-designated : (t : Terms) (d : ℕ) (c : ℤ) (to : Designation) (b : Books) → (to ≡ Principal) ⊎ (to ≡ Escrow) → paid t d c to b ≡ rest_applied t d c to (due_settled t d (paid_in c b))
 paid-designated t d c to b h = ⊎_elim (λ e. rw e) (λ e. rw e) h
 
-paid_signs : (t : Terms) (d : ℕ) (c : ℤ) (to : Designation) (b : Books) → IsSound t → IsSum c → HaveSigns t b → HaveSigns t (paid t d c to b)
+paid_signs : (t : Terms) (d : ℕ) (c : ℤ) (to : Designation) (b : Books) → IsSound t → IsEntryAmount c → HaveSigns t b → HaveSigns t (paid t d c to b)
 paid_signs t d c to b s a h = paid_keeps t d c to b (HaveSigns t) s a h (paid_in_signs t c b a h) (λ x hx p. settled_signs t (month_of d) d x s hx) (λ to x y low within hy p. applied_signs t to x y low within hy)
 
-paid_total : (t : Terms) (d : ℕ) (c : ℤ) (to : Designation) (b : Books) → IsSound t → IsSum c → HaveSigns t b → total (paid t d c to b) ≡ total b +ℤ c
+paid_total : (t : Terms) (d : ℕ) (c : ℤ) (to : Designation) (b : Books) → IsSound t → IsEntryAmount c → HaveSigns t b → total (paid t d c to b) ≡ total b +ℤ c
 paid_total t d c to b s a h = paid_keeps t d c to b (λ x. total x ≡ total b +ℤ c) s a h (paid_in_total c b) (λ x hx e. settled_total t (month_of d) d x s hx ∙ e) (λ to x y low within hy e. applied_total to x y ∙ e)
 
-paid_stays : (t : Terms) (d : ℕ) (c : ℤ) (to : Designation) (b : Books) → IsSound t → IsSum c → HaveSigns t b → StaysPaid b → StaysPaid (paid t d c to b)
+paid_stays : (t : Terms) (d : ℕ) (c : ℤ) (to : Designation) (b : Books) → IsSound t → IsEntryAmount c → HaveSigns t b → StaysPaid b → StaysPaid (paid t d c to b)
 paid_stays t d c to b s a h stays =
     paid_keeps t d c to b StaysPaid s a h (falls_stays b (paid_in c b) stays (record { upb = le_refl b.upb; satisfied = refl })) (λ x hx p. stays_paid (due_settled t d x) (settled_satisfied t (month_of d) d x s hx p)) (λ to x y low within hy p. falls_stays y (applied to x y) p (applied_falls to x y low hy.upb_low))
 
@@ -206,7 +204,7 @@ payoff_tried_falls t d b low =
 
 -- ---- deposits, refunds, waivers, analyses
 
-deposited_signs : (t : Terms) (c : ℤ) (b : Books) → IsSum c → HaveSigns t b → HaveSigns t (deposited c b)
+deposited_signs : (t : Terms) (c : ℤ) (b : Books) → IsEntryAmount c → HaveSigns t b → HaveSigns t (deposited c b)
 unfolding deposited
 deposited_signs t c b a h =
     elim (int_lt (pos 0) b.upb) as (λ v. HaveSigns t (if v then record b { escrow = b.escrow +ℤ c } else record b { suspense = b.suspense +ℤ c })) [
@@ -225,7 +223,7 @@ deposited_falls c b =
     elim (int_lt (pos 0) b.upb) as (λ v. Falls b (if v then record b { escrow = b.escrow +ℤ c } else record b { suspense = b.suspense +ℤ c })) [ true ↦ record { upb = le_refl b.upb; satisfied = refl } | false ↦ record { upb = le_refl b.upb; satisfied = refl } ]
 
 -- what a refund takes from suspense is there
-pub from_suspense_bounds : (c : ℤ) (b : Books) → IsSum c → pos 0 ≤ℤ b.suspense → (pos 0 ≤ℤ from_suspense c b) × (from_suspense c b ≤ℤ b.suspense) × (from_suspense c b ≤ℤ c)
+pub from_suspense_bounds : (c : ℤ) (b : Books) → IsEntryAmount c → pos 0 ≤ℤ b.suspense → (pos 0 ≤ℤ from_suspense c b) × (from_suspense c b ≤ℤ b.suspense) × (from_suspense c b ≤ℤ c)
 unfolding from_suspense
 from_suspense_bounds c b a low =
     let c_low = a.low in
@@ -234,7 +232,7 @@ from_suspense_bounds c b a low =
       | false ↦ (omega (arith, ints, clamps), omega (arith, ints, clamps), omega (arith, ints, clamps))
     ]
 
-refunded_signs : (t : Terms) (c : ℤ) (b : Books) → IsSum c → HaveSigns t b → HaveSigns t (refunded c b)
+refunded_signs : (t : Terms) (c : ℤ) (b : Books) → IsEntryAmount c → HaveSigns t b → HaveSigns t (refunded c b)
 unfolding refunded
 refunded_signs t c b a h =
     let taken = from_suspense_bounds c b a h.suspense in
@@ -245,7 +243,7 @@ refunded_total : (c : ℤ) (b : Books) → total (refunded c b) +ℤ c ≡ total
 unfolding refunded
 refunded_total c b = omega (arith, ints)
 
-waived_signs : (t : Terms) (c : ℤ) (b : Books) → IsSum c → HaveSigns t b → HaveSigns t (waived c b)
+waived_signs : (t : Terms) (c : ℤ) (b : Books) → IsEntryAmount c → HaveSigns t b → HaveSigns t (waived c b)
 waived_signs t c b a h =
     let owed = h.late_owed in
     let c_low = a.low in

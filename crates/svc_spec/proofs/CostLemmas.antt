@@ -12,8 +12,7 @@ use Rattle.svc_types.specs.declared.account.Entry.{Entry}
 use Rattle.svc_types.specs.declared.account.Event.{Event}
 use Rattle.svc_types.proofs.OrderLemmas.{live_all}
 use Rattle.svc_spec.specs.Installments.{due_month, due_day}
-use Rattle.svc_spec.specs.Settling.{greatest, due_count, can_move, moves, marked}
-use Rattle.svc_spec.specs.Step.{happened, step}
+use Rattle.svc_spec.specs.Step.{step}
 use Rattle.svc_spec.specs.Books.{start}
 use Rattle.svc_spec.specs.Events.{month_mark, month_marks_from, month_marks, late_day, late_mark, late_marks_from, late_marks, up_to, event_of, entry_events, insert_event, by_day, events_to, folded, books_at}
 use Rattle.svc_spec.specs.Accounts.{Account, live_of, books_of, IsAccount}
@@ -38,7 +37,7 @@ pub months_length : (m n : ℕ) → length (month_marks_from m n) ≡ n
 months_length m zero = refl
 months_length m (suc n) = omega (arith, months_length (m + 1) n)
 
--- the grace of an installment ends behind its due day
+-- the grace of an installment ends after its due day
 pub late_within : (t : Terms) (k d : ℕ) → late_day t k ≤ d → due_month t k ≤ month_of d
 late_within t k d le = omega (arith, day_after_least (due_day t k) (t.grace + 1))
 
@@ -53,7 +52,7 @@ lates_length t k (suc n) d low =
       | false ↦ λ e. omega (arith, rest)
     ] refl
 
--- at most one for each month behind the boarded month, one for each installment that is due, and
+-- at most one for each month after the boarded month, one for each installment that is due, and
 -- one for each entry
 events_length : (t : Terms) (live : List Entry) (d : ℕ) → length (events_to t live d) ≤ (month_of d - month_of t.boarded) + (month_of d + 1 - t.first) + length live
 unfolding events_to
@@ -97,7 +96,7 @@ up_to_by d (x ∷ xs) =
 pub events_by : (t : Terms) (live : List Entry) (d : ℕ) → t.boarded ≤ d → All (λ e. e.day ≤ d) (events_to t live d)
 events_by t live d after = events_all (λ e. e.day ≤ d) t live d (months_by (month_of t.boarded + 1) (month_of d - month_of t.boarded) d (omega arith)) (up_to_by d (late_marks_from t 1 t.term)) (up_to_by d (map event_of live))
 
--- the books at a day have no installment satisfied that is due behind the next month
+-- the books at a day have no installment satisfied that is due after the next month
 pub books_reach : (t : Terms) (live : List Entry) (d : ℕ) → t.boarded ≤ d → (books_at t live d).next ≤ reached t d
 unfolding books_at
 books_reach t live d after = folded_reaches t d (start t) (events_to t live d) (omega (arith, start_next t)) (events_by t live d after) (omega (arith, start_next t))

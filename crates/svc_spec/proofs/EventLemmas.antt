@@ -42,7 +42,7 @@ insert_first : (e : Event) (xs : List Event) → All (λ x. e.day ≤ x.day) xs 
 insert_first e [] h = refl
 insert_first e (x ∷ xs) h = rw (nat_le-true e.day x.day (All-head (λ x. e.day ≤ x.day) x xs h))
 
--- an event that no earlier one stands behind, and only later ones before, is the first by day
+-- an event that no earlier one stands after, and only later ones before, is the first by day
 pub by_day_first : (e : Event) (front back : List Event) → All (λ x. e.day < x.day) front → All (λ x. e.day ≤ x.day) back → by_day (front ++ e ∷ back) ≡ e ∷ by_day (front ++ back)
 by_day_first e [] back later h = insert_first e (by_day back) (by_day_all (λ x. e.day ≤ x.day) back h)
 by_day_first e (f ∷ front) back later h =
@@ -125,7 +125,7 @@ pub months_since : (m n x : ℕ) → x ≤ first_day m → All (λ e. x ≤ e.da
 months_since m zero x h = λ k d lt. absurd (omega arith)
 months_since m (suc n) x h = All-cons (λ e. x ≤ e.day) (month_mark m) (month_marks_from (m + 1) n) h (months_since (m + 1) n x (omega arith))
 
--- up to 29 days behind the first day of a month are not past the like of the next month
+-- up to 29 days after the first day of a month are not past the like of the next month
 late_step : (m n : ℕ) → n ≤ 29 → day_after (first_day m) n ≤ day_after (first_day (m + 1)) n
 late_step m n few =
     let least = month_length_least m in
@@ -178,7 +178,7 @@ pub record CanFold (t : Terms) (b : Books) (es : List Event) : Type 0 where
   pub room : weights es ≤ 4_600
   pub bounded : AreBounded (4_600 - weights es) b
 
--- the books behind the first of them are within the limits
+-- the books after the first of them are within the limits
 pub can_fold_within : (t : Terms) (b : Books) (e : Event) (es : List Event) → IsSound t → CanFold t b (e ∷ es) → AreWithin (step t e b)
 can_fold_within t b e es s h =
     let a : IsWhat e.what = All-head (λ e. IsWhat e.what) e es h.whats in
@@ -203,7 +203,7 @@ can_fold_step t b e es s h =
       bounded = subst (λ n. AreBounded n (step t e b)) same (step_bounded t e (4_600 - weights (e ∷ es)) b s a h.books.signs h.bounded);
     }
 
--- the books behind any first part of the events are books of the terms, and take the others
+-- the books after any first part of the events are books of the terms, and take the others
 pub can_fold_part : (t : Terms) (b : Books) (front back : List Event) → IsSound t → CanFold t b (front ++ back) → CanFold t (folded t b front) back
 can_fold_part t b [] back s h = h
 can_fold_part t b (e ∷ front) back s h = can_fold_part t (step t e b) front back s (can_fold_step t b e (front ++ back) s h)
@@ -266,6 +266,6 @@ can_fold_start t live d s h few =
       bounded = bounded_more 0 (4_600 - weights (events_to t live d)) (start t) (omega arith) (start_bounded t);
     }
 
--- the books behind any first part of a loan's events are books of its terms, and take the others
+-- the books after any first part of a loan's events are books of its terms, and take the others
 pub can_fold_events : (t : Terms) (live : List Entry) (d : ℕ) (front back : List Event) → IsSound t → AreEntries t live → length live ≤ 4_096 → events_to t live d ≡ front ++ back → CanFold t (folded t (start t) front) back
 can_fold_events t live d front back s h few e = can_fold_part t (start t) front back s (subst (CanFold t (start t)) e (can_fold_start t live d s h few))

@@ -22,7 +22,7 @@ use Rattle.svc_spec.specs.Installments.{due_month}
 use Rattle.svc_spec.specs.Payoff.{payoff_sum, escrow_advanced}
 use Rattle.svc_spec.specs.Settling.{moved_one, late_paid, late_taken, is_overdue, marked, settled_by, settled, due_settled}
 use Rattle.svc_spec.specs.Step.{paid_in, charged, to_principal, to_escrow, applied, paid, curtailed, paid_off, payoff_tried, deposited, from_suspense, refunded, analysed, happened, step, paid_out, paid_out_by}
-use Rattle.svc_spec.specs.Books.{IsSum, HaveSigns, AreBooks, IsWhat, start}
+use Rattle.svc_spec.specs.Books.{IsEntryAmount, HaveSigns, AreBooks, IsWhat, start}
 use Rattle.svc_spec.specs.Events.{events_to, folded, books_at}
 use Rattle.svc_spec.specs.Accounts.{Account, live_of, books_of, IsAccount}
 use Rattle.svc_spec.specs.Totals as totals
@@ -68,7 +68,7 @@ applied_escrow Regular x b low = omega (arith, ints)
 applied_escrow Principal x b low = omega (arith, ints)
 applied_escrow Escrow x b low = omega (arith, ints)
 
-paid_escrow : (t : Terms) (d : ℕ) (c : ℤ) (to : Designation) (b : Books) → IsSound t → IsSum c → HaveSigns t b → b.escrow ≤ℤ (paid t d c to b).escrow
+paid_escrow : (t : Terms) (d : ℕ) (c : ℤ) (to : Designation) (b : Books) → IsSound t → IsEntryAmount c → HaveSigns t b → b.escrow ≤ℤ (paid t d c to b).escrow
 paid_escrow t d c to b s a h =
     paid_keeps t d c to b (λ y. b.escrow ≤ℤ y.escrow) s a h (omega (arith, ints)) (λ y hy k. settled_escrow t (month_of d) d b.escrow y s hy k) (λ to x y low within hy k. let one = applied_escrow to x y low in omega (arith, ints))
 
@@ -80,7 +80,7 @@ payoff_tried_escrow t d b =
       | false ↦ omega (arith, ints)
     ]
 
-deposited_escrow : (c : ℤ) (b : Books) → IsSum c → b.escrow ≤ℤ (deposited c b).escrow
+deposited_escrow : (c : ℤ) (b : Books) → IsEntryAmount c → b.escrow ≤ℤ (deposited c b).escrow
 unfolding deposited
 deposited_escrow c b a =
     let low = a.low in

@@ -1,13 +1,13 @@
 -- Bounds of the parts of an installment.
-use Rattle.std.proofs.Common.{◌≡◌, ℕ, zero, suc, ◌+◌, ◌≤◌, true, false, Bool, arith, refl, subst}
-use Rattle.std.specs.Prelude.{ℤ, pos, ◌+ℤ◌, ◌-ℤ◌, ◌≤ℤ◌, ◌<ℤ◌, ◌==◌, nat_le, if◌then◌else◌}
+use Rattle.std.proofs.Common.{ℕ, true, false, arith}
+use Rattle.std.specs.Prelude.{ℤ, pos, ◌-ℤ◌, ◌≤ℤ◌, ◌==◌, nat_le, if◌then◌else◌}
 use Rattle.std.proofs.lemmas.Int.{ints, clamps}
-use Rattle.svc_base.proofs.MoneyLemmas.{month_interest_low, month_interest_most, month_interest_rises}
+use Rattle.svc_base.proofs.MoneyLemmas.{month_interest_low, month_interest_rises}
 use Rattle.svc_types.specs.declared.terms.Terms.{Terms}
 use Rattle.svc_types.specs.declared.escrow.EscrowPlan.{EscrowPlan}
 use Rattle.svc_types.specs.Terms.{IsSound}
-use Rattle.svc_spec.specs.Installments.{interest_part, fee_part, level_principal, principal_part, asked, is_asked, escrow_of_plan, escrow_part, plan_in_force, whole_part, due_month}
-use Rattle.svc_spec.specs.Books.{IsSum, IsPlan}
+use Rattle.svc_spec.specs.Installments.{level_principal, principal_part, asked, is_asked, escrow_of_plan, escrow_part, whole_part, due_month}
+use Rattle.svc_spec.specs.Books.{IsEntryAmount, IsPlan}
 
 -- a balance of a loan
 pub record IsBalance (t : Terms) (u : ℤ) : Type 0 where
@@ -29,9 +29,9 @@ principal_part_bounds t u k s h =
       | false ↦ level_principal_bounds t u s h
     ]
 
-pub asked_bounds : (start months m : ℕ) (z : ℤ) → IsSum z → IsSum (asked start months m z)
+pub asked_bounds : (start months m : ℕ) (z : ℤ) → IsEntryAmount z → IsEntryAmount (asked start months m z)
 asked_bounds start months m z h =
-    elim (is_asked start months m) as (λ v. IsSum (if v then z else pos 0)) [ true ↦ h | false ↦ record { low = omega (arith, ints); high = omega (arith, ints) } ]
+    elim (is_asked start months m) as (λ v. IsEntryAmount (if v then z else pos 0)) [ true ↦ h | false ↦ record { low = omega (arith, ints); high = omega (arith, ints) } ]
 
 -- what a plan asks lies from 0 to three such amounts
 pub escrow_of_plan_bounds : (p : EscrowPlan) (m : ℕ) → IsPlan p → (pos 0 ≤ℤ escrow_of_plan p m) × (escrow_of_plan p m ≤ℤ pos 300_000_000_000_000)

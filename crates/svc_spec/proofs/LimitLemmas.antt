@@ -1,14 +1,12 @@
 -- How far the sums of the books can have come after some events: all money that they hold was brought
 -- in, and escrow is short by no more than was paid out.
-use Rattle.std.proofs.Common.{◌≡◌, ℕ, zero, suc, ◌+◌, ◌*◌, ◌-◌, ◌≤◌, ◌<◌, Bool, true, false, cond, arith, refl, sym, ap, subst, ◌∙◌}
-use Rattle.std.specs.Prelude.{ℤ, pos, ◌+ℤ◌, ◌-ℤ◌, ◌≤ℤ◌, ◌<ℤ◌, ◌&&◌, ◌==◌, int_lt, int_le, nat_le, is_some, is_none, Option, Some, None, if◌then◌else◌}
-use Rattle.std.specs.Int.{int_min, int_max}
+use Rattle.std.proofs.Common.{ℕ, ◌+◌, ◌*◌, ◌≤◌, true, false, arith}
+use Rattle.std.specs.Prelude.{ℤ, pos, ◌+ℤ◌, ◌-ℤ◌, ◌≤ℤ◌, ◌&&◌, int_lt, int_le, nat_le, is_none, Some, if◌then◌else◌}
 use Rattle.std.proofs.lemmas.Int.{ints, clamps}
 use Rattle.svc_base.specs.Calendar.{month_of}
-use Rattle.svc_base.specs.Money.{month_interest, day_interest, share_bp, IsAmount}
+use Rattle.svc_base.specs.Money.{share_bp, IsAmount}
 use Rattle.svc_base.proofs.MoneyLemmas.{month_interest_low, month_interest_rises, day_interest_rises, share_bp_most}
 use Rattle.svc_types.specs.declared.terms.Terms.{Terms}
-use Rattle.svc_types.specs.declared.escrow.EscrowPlan.{EscrowPlan}
 use Rattle.svc_types.specs.declared.escrow.Settled.{Settled}
 use Rattle.svc_types.specs.declared.books.Books.{Books}
 use Rattle.svc_types.specs.declared.account.Designation.{Designation}
@@ -19,11 +17,11 @@ use Rattle.svc_types.specs.declared.account.Event.{Event}
 use Rattle.svc_types.specs.declared.account.What.{What}
 use Rattle.svc_types.specs.declared.account.What.TheVariants as what
 use Rattle.svc_types.specs.Terms.{IsSound}
-use Rattle.svc_spec.specs.Installments.{principal_part, escrow_part, due_month}
-use Rattle.svc_spec.specs.Settling.{moved_one, late_paid, late_taken, is_overdue, marked, settled_by, settled, due_settled}
-use Rattle.svc_spec.specs.Payoff.{payoff_sum, payoff_days, escrow_advanced}
-use Rattle.svc_spec.specs.Step.{paid_in, charged, to_principal, to_escrow, applied, paid, curtailed, paid_off, payoff_tried, deposited, from_suspense, refunded, waived, analysed, acted, happened, step, brought, paid_out, brought_by, paid_out_by}
-use Rattle.svc_spec.specs.Books.{IsSum, IsPlan, HaveSigns, AreWithin, AreBooks, IsAct, IsWhat, total, start}
+use Rattle.svc_spec.specs.Installments.{due_month}
+use Rattle.svc_spec.specs.Settling.{moved_one, late_paid, late_taken, is_overdue, marked, settled_by, settled}
+use Rattle.svc_spec.specs.Payoff.{payoff_sum, payoff_days}
+use Rattle.svc_spec.specs.Step.{paid_in, charged, to_principal, to_escrow, applied, paid, curtailed, paid_off, payoff_tried, deposited, refunded, waived, analysed, happened, step, brought_by, paid_out_by}
+use Rattle.svc_spec.specs.Books.{IsEntryAmount, HaveSigns, AreWithin, IsAct, IsWhat, total, start}
 use Rattle.svc_spec.proofs.InstallmentLemmas.{IsBalance, principal_part_bounds, escrow_part_bounds}
 use Rattle.svc_spec.proofs.SettledLemmas.{settled_keeps, settled_signs}
 use Rattle.svc_spec.proofs.ActLemmas.{from_suspense_bounds, paid_in_signs, paid_keeps}
@@ -140,7 +138,7 @@ payoff_tried_backed t d n b s signs h =
       | false ↦ record { escrow = omega (arith, ints); fee = h.fee; curtailed = h.curtailed; late_owed = omega (arith, ints) }
     ]
 
-deposited_backed : (c : ℤ) (n : ℕ) (b : Books) → IsSum c → AreBacked n b → AreBacked (n + 1) (deposited c b)
+deposited_backed : (c : ℤ) (n : ℕ) (b : Books) → IsEntryAmount c → AreBacked n b → AreBacked (n + 1) (deposited c b)
 unfolding deposited
 deposited_backed c n b a h =
     let c_low = a.low in
@@ -151,7 +149,7 @@ deposited_backed c n b a h =
       | false ↦ record { escrow = omega (arith, ints); fee = h.fee; curtailed = h.curtailed; late_owed = omega (arith, ints) }
     ]
 
-refunded_backed : (t : Terms) (c : ℤ) (n : ℕ) (b : Books) → IsSum c → HaveSigns t b → AreBacked n b → AreBacked (n + 1) (refunded c b)
+refunded_backed : (t : Terms) (c : ℤ) (n : ℕ) (b : Books) → IsEntryAmount c → HaveSigns t b → AreBacked n b → AreBacked (n + 1) (refunded c b)
 unfolding refunded
 refunded_backed t c n b a signs h =
     let taken = from_suspense_bounds c b a signs.suspense in
@@ -160,7 +158,7 @@ refunded_backed t c n b a signs h =
     let owed = h.late_owed in
     record { escrow = omega (arith, ints); fee = h.fee; curtailed = h.curtailed; late_owed = omega (arith, ints) }
 
-waived_backed : (t : Terms) (c : ℤ) (n : ℕ) (b : Books) → IsSum c → HaveSigns t b → AreBacked n b → AreBacked (n + 1) (waived c b)
+waived_backed : (t : Terms) (c : ℤ) (n : ℕ) (b : Books) → IsEntryAmount c → HaveSigns t b → AreBacked n b → AreBacked (n + 1) (waived c b)
 waived_backed t c n b a signs h =
     let c_low = a.low in
     let before = signs.late_owed in
@@ -168,7 +166,7 @@ waived_backed t c n b a signs h =
     let owed = h.late_owed in
     record { escrow = omega (arith, ints); fee = h.fee; curtailed = h.curtailed; late_owed = omega (arith, ints, clamps) }
 
-analysed_backed : (s : Settled) (n : ℕ) (b : Books) → IsSum s.refund → AreBacked n b → AreBacked (n + 1) (analysed s b)
+analysed_backed : (s : Settled) (n : ℕ) (b : Books) → IsEntryAmount s.refund → AreBacked n b → AreBacked (n + 1) (analysed s b)
 unfolding analysed
 analysed_backed s n b a h =
     let high = a.high in
@@ -176,14 +174,14 @@ analysed_backed s n b a h =
     let owed = h.late_owed in
     record { escrow = omega (arith, ints); fee = h.fee; curtailed = h.curtailed; late_owed = omega (arith, ints) }
 
-disbursed_backed : (c : ℤ) (n : ℕ) (b : Books) → IsSum c → AreBacked n b → AreBacked (n + 1) (record b { escrow = b.escrow -ℤ c })
+disbursed_backed : (c : ℤ) (n : ℕ) (b : Books) → IsEntryAmount c → AreBacked n b → AreBacked (n + 1) (record b { escrow = b.escrow -ℤ c })
 disbursed_backed c n b a h =
     let high = a.high in
     let escrow = h.escrow in
     let owed = h.late_owed in
     record { escrow = omega (arith, ints); fee = h.fee; curtailed = h.curtailed; late_owed = omega (arith, ints) }
 
-paid_backed : (t : Terms) (d : ℕ) (c : ℤ) (to : Designation) (n : ℕ) (b : Books) → IsSound t → IsSum c → HaveSigns t b → AreBacked n b → AreBacked n (paid t d c to b)
+paid_backed : (t : Terms) (d : ℕ) (c : ℤ) (to : Designation) (n : ℕ) (b : Books) → IsSound t → IsEntryAmount c → HaveSigns t b → AreBacked n b → AreBacked n (paid t d c to b)
 paid_backed t d c to n b s a signs h = paid_keeps t d c to b (AreBacked n) s a signs (paid_in_keeps c n b h) (λ x hx k. settled_backed t (month_of d) d n x s hx k) (λ to x y low within hy k. applied_backed to x n y low k)
 
 backed_more : (n : ℕ) (b : Books) → AreBacked n b → AreBacked (n + 1) b

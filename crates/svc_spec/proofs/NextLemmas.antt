@@ -1,6 +1,6 @@
 -- Which installment is open after some events.
-use Rattle.std.proofs.Common.{◌≡◌, ℕ, ◌+◌, ◌-◌, ◌≤◌, true, false, List, [], ◌∷◌, ◌++◌, length, arith, refl, sym, append-nil}
-use Rattle.std.specs.Prelude.{ℤ, pos, ◌+ℤ◌, ◌-ℤ◌, ◌&&◌, not, max, int_lt, int_le, nat_le, if◌then◌else◌}
+use Rattle.std.proofs.Common.{◌≡◌, ℕ, ◌+◌, ◌≤◌, true, false, List, [], ◌∷◌, length, arith, refl}
+use Rattle.std.specs.Prelude.{ℤ, pos, ◌+ℤ◌, ◌&&◌, not, int_lt, int_le, nat_le, if◌then◌else◌}
 use Rattle.std.specs.Int.{int_min}
 use Rattle.std.proofs.lemmas.List.Elements.{All-head}
 use Rattle.svc_base.specs.Calendar.{month_of}
@@ -15,10 +15,10 @@ use Rattle.svc_types.specs.declared.account.Event.{Event}
 use Rattle.svc_types.specs.declared.account.What.{What}
 use Rattle.svc_types.specs.declared.account.What.TheVariants as what
 use Rattle.svc_types.specs.Terms.{IsSound}
-use Rattle.svc_spec.specs.Settling.{is_overdue, marked, settled, due_settled}
+use Rattle.svc_spec.specs.Settling.{is_overdue, marked, due_settled}
 use Rattle.svc_spec.specs.Payoff.{payoff_sum}
-use Rattle.svc_spec.specs.Step.{paid_in, charged, to_principal, to_escrow, applied, rest_applied, paid, curtailed, paid_off, payoff_tried, deposited, refunded, analysed, happened, step}
-use Rattle.svc_spec.specs.Books.{IsSum, HaveSigns, IsWhat, start}
+use Rattle.svc_spec.specs.Step.{paid_in, charged, to_principal, to_escrow, applied, rest_applied, paid, paid_off, payoff_tried, deposited, refunded, analysed, happened, step}
+use Rattle.svc_spec.specs.Books.{IsEntryAmount, HaveSigns, IsWhat, start}
 use Rattle.svc_spec.specs.Events.{events_to, folded, books_at}
 use Rattle.svc_spec.specs.Accounts.{Account, live_of, books_of, IsAccount}
 use Rattle.svc_spec.proofs.SettledLemmas.{Advances, advances_none, marked_next, settled_advances, settled_last}
@@ -97,7 +97,7 @@ step_advances t e b =
 
 -- ---- the number of the open installment lies from 1 to one more than the term
 
-paid_last : (t : Terms) (d : ℕ) (c : ℤ) (to : Designation) (b : Books) → IsSound t → IsSum c → HaveSigns t b → b.next ≤ t.term + 1 → (paid t d c to b).next ≤ t.term + 1
+paid_last : (t : Terms) (d : ℕ) (c : ℤ) (to : Designation) (b : Books) → IsSound t → IsEntryAmount c → HaveSigns t b → b.next ≤ t.term + 1 → (paid t d c to b).next ≤ t.term + 1
 paid_last t d c Regular b s a h le = le
 paid_last t d c Principal b s a h le = rw (rest_applied_next t d c Principal (due_settled t d (paid_in c b))) (settled_last t (month_of d) d (paid_in c b) s (paid_in_signs t c b a h) le)
 paid_last t d c Escrow b s a h le = rw (rest_applied_next t d c Escrow (due_settled t d (paid_in c b))) (settled_last t (month_of d) d (paid_in c b) s (paid_in_signs t c b a h) le)

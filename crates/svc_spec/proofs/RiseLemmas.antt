@@ -17,10 +17,10 @@ use Rattle.svc_types.specs.declared.account.Event.{Event}
 use Rattle.svc_types.specs.declared.account.What.{What}
 use Rattle.svc_types.specs.declared.account.What.TheVariants as what
 use Rattle.svc_types.specs.Terms.{IsSound}
-use Rattle.svc_spec.specs.Settling.{moved_one, late_paid, late_taken, is_overdue, marked, settled_by, settled, due_settled}
+use Rattle.svc_spec.specs.Settling.{moved_one, late_paid, late_taken, is_overdue, marked, settled_by}
 use Rattle.svc_spec.specs.Payoff.{payoff_sum, payoff_days}
 use Rattle.svc_spec.specs.Step.{paid_in, charged, to_principal, to_escrow, applied, paid, curtailed, paid_off, payoff_tried, deposited, refunded, analysed, happened, step}
-use Rattle.svc_spec.specs.Books.{IsSum, HaveSigns, AreBooks, IsWhat, start}
+use Rattle.svc_spec.specs.Books.{IsEntryAmount, HaveSigns, AreBooks, IsWhat, start}
 use Rattle.svc_spec.specs.Events.{events_to, folded, books_at}
 use Rattle.svc_spec.specs.Accounts.{Account, live_of, books_of, IsAccount}
 use Rattle.svc_spec.specs.Months.{end_day, books_at_end, month_facts, AreFacts}
@@ -113,7 +113,7 @@ deposited_rose c b = elim (int_lt (pos 0) b.upb) as (λ v. Rose b (if v then rec
 paid_in_rose : (c : ℤ) (b : Books) → Rose b (paid_in c b)
 paid_in_rose c b = record { curtailed = omega (arith, ints); interest = omega (arith, ints); fee = omega (arith, ints) }
 
-paid_rose : (t : Terms) (d : ℕ) (c : ℤ) (to : Designation) (b : Books) → IsSound t → IsSum c → HaveSigns t b → Rose b (paid t d c to b)
+paid_rose : (t : Terms) (d : ℕ) (c : ℤ) (to : Designation) (b : Books) → IsSound t → IsEntryAmount c → HaveSigns t b → Rose b (paid t d c to b)
 paid_rose t d c to b s a h = paid_keeps t d c to b (Rose b) s a h (paid_in_rose c b) (λ x hx k. settled_rose t (month_of d) d b x s hx k) (λ to x y low within hy k. rose_on b y (applied to x y) k (applied_rose to x y low hy.upb_low))
 
 happened_rose : (t : Terms) (d : ℕ) (w : What) (b : Books) → IsSound t → IsWhat w → HaveSigns t b → Rose b (happened t d w b)

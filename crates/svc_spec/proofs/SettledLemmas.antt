@@ -1,13 +1,12 @@
 -- What a whole settling keeps, whatever its limit: the signs of the numbers, all money, that only
 -- satisfied loans have a balance of 0, and which installments can be satisfied.
-use Rattle.std.proofs.Common.{◌≡◌, ℕ, zero, suc, ◌+◌, ◌-◌, ◌≤◌, Bool, true, false, arith, refl, sym, ◌∙◌}
-use Rattle.std.specs.Prelude.{ℤ, pos, ◌+ℤ◌, ◌≤ℤ◌, ◌<ℤ◌, ◌&&◌, int_le, max, is_some, is_none, Option, Some, None, if◌then◌else◌}
-use Rattle.std.proofs.lemmas.Int.{ints, clamps}
+use Rattle.std.proofs.Common.{◌≡◌, ℕ, zero, suc, ◌+◌, ◌-◌, ◌≤◌, true, false, arith, refl, sym, ◌∙◌}
+use Rattle.std.specs.Prelude.{pos, ◌≤ℤ◌, ◌&&◌, int_le, max, is_some, is_none, Some, None, if◌then◌else◌}
+use Rattle.std.proofs.lemmas.Int.{ints}
 use Rattle.svc_base.proofs.CentsRules.{from_int_le, from_not_int_le}
 use Rattle.svc_types.specs.declared.terms.Terms.{Terms}
 use Rattle.svc_types.specs.declared.books.Books.{Books}
 use Rattle.svc_types.specs.Terms.{IsSound}
-use Rattle.svc_spec.specs.Installments.{due_month}
 use Rattle.svc_spec.specs.Settling.{moves, moved_one, moved, late_paid, late_taken, is_overdue, marked, settled_by}
 use Rattle.svc_spec.specs.Books.{HaveSigns, total}
 use Rattle.svc_spec.proofs.InstallmentLemmas.{IsBalance, principal_part_bounds}

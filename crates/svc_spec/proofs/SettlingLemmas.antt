@@ -1,14 +1,15 @@
 -- The greatest number of installments is one more than what is left after the first of them.
-use Rattle.std.proofs.Common.{◌≡◌, ℕ, zero, suc, ◌+◌, ◌-◌, ◌<◌, ◌≤◌, Bool, true, false, cond, arith, refl, sym, ap, subst, ◌∙◌, ⊎_elim}
+use Rattle.std.proofs.Common.{◌≡◌, ℕ, zero, suc, ◌-◌, ◌<◌, ◌≤◌, Bool, true, false, cond, arith, refl, sym, ap, ◌∙◌}
 use Rattle.std.specs.Prelude.{ℤ, pos, ◌+ℤ◌, ◌-ℤ◌, ◌≤ℤ◌, ◌<ℤ◌, ◌&&◌, ◌==◌, ◌≢◌, int_lt, int_le, nat_le, if◌then◌else◌}
-use Rattle.std.proofs.lemmas.Int.{ints, clamps}
+use Rattle.std.proofs.lemmas.Int.{ints}
 use Rattle.svc_base.proofs.CentsRules.{int_le-true, int_le-false, int_lt-true, int_lt-false, from_int_le, from_not_int_le}
 use Rattle.svc_types.specs.declared.terms.Terms.{Terms}
 use Rattle.svc_types.specs.declared.escrow.EscrowPlan.{EscrowPlan}
 use Rattle.svc_types.specs.declared.books.Books.{Books}
 use Rattle.svc_types.specs.declared.books.Installment.{Installment}
 use Rattle.svc_types.specs.Terms.{IsSound}
-use Rattle.svc_spec.specs.Installments.{whole_part, principal_part, due_month, installment}
+use Rattle.svc_base.specs.Calendar.{month_of}
+use Rattle.svc_spec.specs.Installments.{whole_part, principal_part, due_month, due_day, installment}
 use Rattle.svc_spec.specs.Settling.{greatest, need, they_exist, due_count, can_move, is_movable, moves, moved_one, moved, paid_installment}
 use Rattle.svc_spec.specs.Books.{IsPlan, HaveSigns}
 use Rattle.svc_spec.proofs.InstallmentLemmas.{IsBalance, whole_part_low, balance_left}
@@ -165,6 +166,14 @@ greatest_most p (suc n) = elim (p (suc n)) as (λ v. (if v then suc n else great
 pub moves_most : (t : Terms) (by : ℕ) (b : Books) → moves t by b ≤ due_count t by b.next
 unfolding moves
 moves_most t by b = greatest_most (can_move t b) (due_count t by b.next)
+
+-- installments are due on first days of months: what is due on or before a day is due by its month
+pub due_by_month : (t : Terms) (k d : ℕ) → nat_le (due_day t k) d ≡ nat_le (due_month t k) (month_of d)
+due_by_month t k d =
+    elim (nat_le (due_month t k) (month_of d)) as (λ v. nat_le (due_month t k) (month_of d) ≡ v → nat_le (due_day t k) d ≡ v) [
+      | true ↦ λ e. let due = from_nat_le (due_month t k) (month_of d) e in nat_le-true (due_day t k) d (omega arith)
+      | false ↦ λ e. let later = from_not_nat_le (due_month t k) (month_of d) e in nat_le-false (due_day t k) d (omega arith)
+    ] refl
 
 -- ---- the books that moving leaves
 

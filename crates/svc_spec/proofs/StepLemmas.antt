@@ -1,29 +1,17 @@
 -- What a step keeps: the signs of the numbers, that only satisfied loans have a balance of 0, and
 -- all money.
-use Rattle.std.proofs.Common.{◌≡◌, ℕ, zero, suc, ◌+◌, ◌≤◌, ◌<◌, Bool, true, false, cond, arith, refl, sym, ap, subst, ◌∙◌}
-use Rattle.std.specs.Prelude.{ℤ, pos, ◌+ℤ◌, ◌-ℤ◌, ◌≤ℤ◌, ◌<ℤ◌, ◌&&◌, ◌==◌, int_lt, int_le, nat_le, is_some, is_none, Option, Some, None, if◌then◌else◌}
-use Rattle.std.specs.Int.{int_min, int_max}
+use Rattle.std.proofs.Common.{◌≡◌, ℕ, zero, suc, ◌≤◌, true, false, arith, refl, sym, ◌∙◌}
+use Rattle.std.specs.Prelude.{pos, ◌-ℤ◌, ◌≤ℤ◌, ◌<ℤ◌, ◌&&◌, ◌==◌, int_lt, int_le, nat_le, is_none, Some, if◌then◌else◌}
 use Rattle.std.proofs.lemmas.Int.{ints, clamps}
-use Rattle.svc_base.specs.Calendar.{month_of, IsDay, IsReadDay, months_end}
-use Rattle.svc_base.specs.Money.{month_interest, IsAmount}
-use Rattle.svc_base.proofs.MoneyLemmas.{month_interest_low, month_interest_rises, day_interest_low, day_interest_rises, share_bp_low}
-use Rattle.svc_base.proofs.CentsRules.{int_le-true, int_le-false, int_lt-true, int_lt-false, from_int_le, from_not_int_le, from_int_lt, from_not_int_lt}
+use Rattle.svc_base.proofs.MoneyLemmas.{month_interest_low}
+use Rattle.svc_base.proofs.CentsRules.{from_int_le, from_int_lt}
 use Rattle.svc_types.specs.declared.terms.Terms.{Terms}
-use Rattle.svc_types.specs.declared.escrow.EscrowPlan.{EscrowPlan}
-use Rattle.svc_types.specs.declared.escrow.Settled.{Settled}
 use Rattle.svc_types.specs.declared.books.Books.{Books}
-use Rattle.svc_types.specs.declared.account.Act.{Act}
-use Rattle.svc_types.specs.declared.account.Act.TheVariants.{Pay, Curtail, Payoff, Deposit, Disburse, Refund, Waive, Analyse}
-use Rattle.svc_types.specs.declared.account.Event.{Event}
-use Rattle.svc_types.specs.declared.account.What.{What}
-use Rattle.svc_types.specs.declared.account.What.TheVariants as what
 use Rattle.svc_types.specs.Terms.{IsSound}
-use Rattle.svc_spec.specs.Installments.{interest_part, fee_part, whole_part, principal_part, escrow_part, due_month}
-use Rattle.svc_spec.specs.Settling.{is_movable, moves, moved_one, moved, late_paid, late_taken, is_overdue, marked, settled}
-use Rattle.svc_spec.specs.Payoff.{payoff_sum, payoff_principal, payoff_days, escrow_advanced}
-use Rattle.svc_spec.specs.Step.{paid_in, charged, curtailed, paid_off, payoff_tried, deposited, from_suspense, refunded, waived, analysed, acted, happened, step, brought, paid_out, brought_by, paid_out_by}
-use Rattle.svc_spec.specs.Books.{IsSum, IsPlan, HaveSigns, AreWithin, AreBooks, IsAct, IsWhat, total}
-use Rattle.svc_spec.proofs.InstallmentLemmas.{IsBalance, principal_part_bounds, escrow_part_bounds}
+use Rattle.svc_spec.specs.Installments.{whole_part, principal_part, due_month}
+use Rattle.svc_spec.specs.Settling.{is_movable, moves, moved_one, moved, late_paid, late_taken, is_overdue, marked}
+use Rattle.svc_spec.specs.Books.{HaveSigns, total}
+use Rattle.svc_spec.proofs.InstallmentLemmas.{IsBalance, principal_part_bounds}
 use Rattle.svc_spec.proofs.SettlingLemmas.{is_movable-is, moves_more, moves_none, both, from_nat_eq, from_not_nat_eq}
 
 -- ---- one installment

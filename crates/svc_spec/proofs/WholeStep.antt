@@ -1,30 +1,18 @@
 -- What a whole step keeps: books stay books of their terms, and all money.
-use Rattle.std.proofs.Common.{◌≡◌, ℕ, zero, suc, ◌+◌, ◌≤◌, ◌<◌, Bool, true, false, cond, arith, refl, sym, ap, subst, ◌∙◌}
-use Rattle.std.specs.Prelude.{ℤ, pos, ◌+ℤ◌, ◌-ℤ◌, ◌≤ℤ◌, ◌<ℤ◌, ◌&&◌, ◌==◌, int_lt, int_le, nat_le, is_some, is_none, Option, Some, None, if◌then◌else◌}
-use Rattle.std.specs.Int.{int_min, int_max}
-use Rattle.std.proofs.lemmas.Int.{ints, clamps}
-use Rattle.svc_base.specs.Calendar.{month_of, IsDay, IsReadDay, months_end}
-use Rattle.svc_base.specs.Money.{month_interest, day_interest, share_bp, IsAmount}
-use Rattle.svc_base.proofs.MoneyLemmas.{month_interest_low, month_interest_rises, day_interest_low, day_interest_rises, share_bp_low}
-use Rattle.svc_base.proofs.CentsRules.{int_le-true, int_le-false, int_lt-true, int_lt-false, from_int_le, from_not_int_le, from_int_lt, from_not_int_lt}
+use Rattle.std.proofs.Common.{◌≡◌, ℕ, ◌+◌, arith, sym}
+use Rattle.std.specs.Prelude.{pos, ◌+ℤ◌}
+use Rattle.std.proofs.lemmas.Int.{ints}
+use Rattle.svc_base.specs.Calendar.{month_of}
+use Rattle.svc_base.proofs.CentsRules.{int_le-false}
 use Rattle.svc_types.specs.declared.terms.Terms.{Terms}
-use Rattle.svc_types.specs.declared.escrow.EscrowPlan.{EscrowPlan}
-use Rattle.svc_types.specs.declared.escrow.Settled.{Settled}
 use Rattle.svc_types.specs.declared.books.Books.{Books}
-use Rattle.svc_types.specs.declared.account.Act.{Act}
-use Rattle.svc_types.specs.declared.account.Act.TheVariants.{Pay, Curtail, Payoff, Deposit, Disburse, Refund, Waive, Analyse}
 use Rattle.svc_types.specs.declared.account.Event.{Event}
 use Rattle.svc_types.specs.declared.account.What.{What}
-use Rattle.svc_types.specs.declared.account.What.TheVariants as what
 use Rattle.svc_types.specs.Terms.{IsSound}
-use Rattle.svc_spec.specs.Installments.{interest_part, fee_part, whole_part, principal_part, escrow_part, due_month}
-use Rattle.svc_spec.specs.Settling.{is_movable, moves, moved_one, moved, late_paid, late_taken, is_overdue, marked, settled}
-use Rattle.svc_spec.specs.Payoff.{payoff_sum, payoff_principal, payoff_days, escrow_advanced}
-use Rattle.svc_spec.specs.Step.{paid_in, charged, curtailed, paid_off, payoff_tried, deposited, from_suspense, refunded, waived, analysed, acted, happened, step, brought, paid_out, brought_by, paid_out_by}
-use Rattle.svc_spec.specs.Books.{IsSum, IsPlan, HaveSigns, AreWithin, AreBooks, IsAct, IsWhat, total, boarding_plan, start}
-use Rattle.svc_spec.proofs.InstallmentLemmas.{IsBalance, principal_part_bounds, escrow_part_bounds}
-use Rattle.svc_spec.proofs.SettlingLemmas.{moves_more, moves_none, both, from_nat_eq, from_not_nat_eq}
-use Rattle.svc_spec.proofs.StepLemmas.{CanPay, moved_one_signs, moved_one_total, moved_keeps, late_taken_signs, late_taken_total, marked_signs, marked_total}
+use Rattle.svc_spec.specs.Settling.{marked, settled}
+use Rattle.svc_spec.specs.Step.{happened, step, brought_by, paid_out_by}
+use Rattle.svc_spec.specs.Books.{IsEntryAmount, IsPlan, HaveSigns, AreWithin, AreBooks, IsWhat, total, boarding_plan, start}
+use Rattle.svc_spec.proofs.StepLemmas.{marked_signs, marked_total}
 use Rattle.svc_spec.proofs.SettledLemmas.{stays_paid, marked_satisfied, settled_signs, settled_total, settled_satisfied}
 use Rattle.svc_spec.proofs.ActLemmas.{happened_signs, happened_total, happened_stays}
 
@@ -61,8 +49,8 @@ start_books t s =
     let low = s.principal_low in
     let high = s.principal_high in
     let term = s.term_low in
-    let none : IsSum (pos 0) = record { low = omega (arith, ints); high = omega (arith, ints) } in
-    let escrow : IsSum t.escrow = let a = s.escrow_low in let z = s.escrow_high in record { low = omega (arith, ints); high = omega (arith, ints) } in
+    let none : IsEntryAmount (pos 0) = record { low = omega (arith, ints); high = omega (arith, ints) } in
+    let escrow : IsEntryAmount t.escrow = let a = s.escrow_low in let z = s.escrow_high in record { low = omega (arith, ints); high = omega (arith, ints) } in
     let plan : IsPlan (boarding_plan t) = record { base = escrow; credit = none; short = none; short_months = omega arith; deficient = none; deficient_months = omega arith } in
     record {
       signs = record { upb_low = omega (arith, ints); upb_high = omega (arith, ints); next_low = λ owed. omega arith; next_high = λ owed. term; suspense = omega (arith, ints); late_owed = omega (arith, ints); interest = omega (arith, ints); fee = omega (arith, ints); principal = omega (arith, ints); curtailed = omega (arith, ints); late_paid = omega (arith, ints); plan = plan; earlier = plan };

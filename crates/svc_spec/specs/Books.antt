@@ -1,28 +1,27 @@
 -- What holds of all books, where they begin, and which events they take.
-use Rattle.std.specs.Prelude.{◌≡◌, ℕ, ◌+◌, ◌≤◌, ◌<◌, Bool, is_some, Option, Some, None, ℤ, pos, ◌+ℤ◌, ◌≤ℤ◌, ◌<ℤ◌, int_le, if◌then◌else◌}
-use Rattle.svc_base.specs.Calendar.{month_of, IsDay}
+use Rattle.std.specs.Prelude.{◌≡◌, ◌≤◌, is_some, None, ℤ, pos, ◌+ℤ◌, ◌≤ℤ◌, ◌<ℤ◌, int_le}
+use Rattle.svc_base.specs.Calendar.{month_of}
 use Rattle.svc_types.specs.declared.terms.Terms.{Terms}
 use Rattle.svc_types.specs.declared.escrow.EscrowPlan.{EscrowPlan}
-use Rattle.svc_types.specs.declared.escrow.Settled.{Settled}
 use Rattle.svc_types.specs.declared.books.Books.{Books}
 use Rattle.svc_types.specs.declared.account.Act.{Act}
-use Rattle.svc_types.specs.declared.account.Act.TheVariants.{Pay, Curtail, Payoff, Deposit, Disburse, Refund, Waive, Analyse}
-use Rattle.svc_types.specs.declared.account.Event.{Event}
+use Rattle.svc_types.specs.declared.account.Act.TheVariants.{Pay, Curtail, Payoff, Deposit}
+use Rattle.svc_types.specs.declared.account.Act.TheVariants.{Disburse, Refund, Waive, Analyse}
 use Rattle.svc_types.specs.declared.account.What.{What}
 use Rattle.svc_types.specs.declared.account.What.TheVariants as what
 
 -- an amount that an entry or a plan may name: 0 to 10^14 cents
-pub record IsSum (z : ℤ) : Type 0 where
+pub record IsEntryAmount (z : ℤ) : Type 0 where
   pub low : pos 0 ≤ℤ z
   pub high : z ≤ℤ pos 100_000_000_000_000
 
 -- a plan of the books
 pub record IsPlan (p : EscrowPlan) : Type 0 where
-  pub base : IsSum p.base
-  pub credit : IsSum p.credit
-  pub short : IsSum p.short
+  pub base : IsEntryAmount p.base
+  pub credit : IsEntryAmount p.credit
+  pub short : IsEntryAmount p.short
   pub short_months : p.short_months ≤ 60
-  pub deficient : IsSum p.deficient
+  pub deficient : IsEntryAmount p.deficient
   pub deficient_months : p.deficient_months ≤ 60
 
 -- what holds of the numbers of a loan's books, whatever its sums have come to
@@ -92,14 +91,14 @@ start t = record {
 
 -- an act whose amounts a step takes
 abbrev pub IsAct : Act → Type 0
-IsAct (Pay c to) = IsSum c
-IsAct (Curtail c) = IsSum c
-IsAct (Payoff c) = IsSum c
-IsAct (Deposit c) = IsSum c
-IsAct (Disburse c line) = IsSum c
-IsAct (Refund c) = IsSum c
-IsAct (Waive c) = IsSum c
-IsAct (Analyse s) = IsSum s.refund × IsSum s.within30 × IsPlan s.plan
+IsAct (Pay c to) = IsEntryAmount c
+IsAct (Curtail c) = IsEntryAmount c
+IsAct (Payoff c) = IsEntryAmount c
+IsAct (Deposit c) = IsEntryAmount c
+IsAct (Disburse c line) = IsEntryAmount c
+IsAct (Refund c) = IsEntryAmount c
+IsAct (Waive c) = IsEntryAmount c
+IsAct (Analyse s) = IsEntryAmount s.refund × IsEntryAmount s.within30 × IsPlan s.plan
 
 abbrev pub IsWhat : What → Type 0
 IsWhat what.MonthMark = Unit {0}

@@ -44,7 +44,9 @@ asked start months m amount = if is_asked start months m then amount else pos 0
 -- what a plan asks for escrow in month m: the base, what a shortage and a deficiency add, less the
 -- credit of a surplus in the first year; never below 0
 unfoldable pub escrow_of_plan : EscrowPlan → ℕ → ℤ
-escrow_of_plan p m = int_max (pos 0) (p.base +ℤ asked p.start p.short_months m p.short +ℤ asked p.start p.deficient_months m p.deficient -ℤ asked p.start 12 m p.credit)
+escrow_of_plan p m =
+    int_max (pos 0) (p.base +ℤ asked p.start p.short_months m p.short
+    +ℤ asked p.start p.deficient_months m p.deficient -ℤ asked p.start 12 m p.credit)
 
 -- the plan in force for an installment due in month m
 abbrev pub plan_in_force : EscrowPlan → EscrowPlan → ℕ → EscrowPlan
@@ -56,7 +58,8 @@ escrow_part plan earlier m = escrow_of_plan (plan_in_force plan earlier m) m
 
 -- all that installment k asks of a balance
 abbrev pub whole_part : Terms → EscrowPlan → EscrowPlan → ℤ → ℕ → ℤ
-whole_part t plan earlier upb k = interest_part t upb +ℤ principal_part t upb k +ℤ escrow_part plan earlier (due_month t k)
+whole_part t plan earlier upb k =
+    interest_part t upb +ℤ principal_part t upb k +ℤ escrow_part plan earlier (due_month t k)
 
 -- the open installment, with its parts
 abbrev pub installment : Terms → Books → Installment

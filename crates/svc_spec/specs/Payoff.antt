@@ -1,5 +1,5 @@
 -- What satisfies a loan on a day.
-use Rattle.std.specs.Prelude.{ℕ, ◌+◌, ◌-◌, nat_le, Bool, ◌||◌, ℤ, pos, neg_ℤ, ◌+ℤ◌, ◌-ℤ◌, int_lt, int_le, if◌then◌else◌}
+use Rattle.std.specs.Prelude.{ℕ, ◌-◌, nat_le, Bool, ◌||◌, ℤ, pos, ◌+ℤ◌, ◌-ℤ◌, int_lt, int_le, if◌then◌else◌}
 use Rattle.std.specs.Int.{int_max}
 use Rattle.svc_base.specs.Calendar.{first_day, days360, day_after}
 use Rattle.svc_base.specs.Money.{day_interest}
@@ -17,7 +17,8 @@ payoff_days t day b = days360 (paid_through t b) day
 
 -- balance and interest, where the loan is not satisfied
 unfoldable pub payoff_principal : Terms → ℕ → Books → ℤ
-payoff_principal t day b = if int_lt (pos 0) b.upb then b.upb +ℤ day_interest b.upb t.rate (payoff_days t day b) else pos 0
+payoff_principal t day b =
+    if int_lt (pos 0) b.upb then b.upb +ℤ day_interest b.upb t.rate (payoff_days t day b) else pos 0
 
 -- what the servicer has advanced for escrow
 abbrev pub escrow_advanced : Books → ℤ
@@ -33,7 +34,8 @@ payoff_due t day b = int_max (pos 0) (payoff_sum t day b -ℤ b.suspense)
 
 -- what may be refunded to the borrower
 unfoldable pub available : Books → ℤ
-available b = if int_lt (pos 0) b.upb then int_max (pos 0) b.escrow else int_max (pos 0) (b.suspense +ℤ b.escrow)
+available b =
+    if int_lt (pos 0) b.upb then int_max (pos 0) b.escrow else int_max (pos 0) (b.suspense +ℤ b.escrow)
 
 -- the borrower is current: satisfied, or the open installment's due day plus 30 is not past
 unfoldable pub is_current : Terms → ℕ → Books → Bool

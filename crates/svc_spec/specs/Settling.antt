@@ -1,12 +1,12 @@
 -- Settling: what suspense pays by itself, after every event.
-use Rattle.std.specs.Prelude.{ℕ, zero, suc, ◌+◌, ◌-◌, ◌==◌, ◌&&◌, Bool, true, not, nat_le, Option, Some, is_none, ℤ, pos, ◌+ℤ◌, ◌-ℤ◌, int_lt, int_le, if◌then◌else◌}
-use Rattle.std.specs.Int.{int_min, int_max}
+use Rattle.std.specs.Prelude.{ℕ, zero, suc, ◌+◌, ◌-◌, ◌&&◌, Bool, true, nat_le, Some, is_none, ℤ, pos, ◌+ℤ◌, ◌-ℤ◌, int_lt, int_le, if◌then◌else◌}
+use Rattle.std.specs.Int.{int_min}
 use Rattle.svc_base.specs.Calendar.{month_of}
 use Rattle.svc_types.specs.declared.terms.Terms.{Terms}
 use Rattle.svc_types.specs.declared.escrow.EscrowPlan.{EscrowPlan}
 use Rattle.svc_types.specs.declared.books.Books.{Books}
 use Rattle.svc_types.specs.declared.books.Installment.{Installment}
-use Rattle.svc_spec.specs.Installments.{due_month, due_day, interest_part, fee_part, principal_part, escrow_part, whole_part, installment}
+use Rattle.svc_spec.specs.Installments.{due_month, due_day, principal_part, whole_part, installment}
 
 -- the greatest number up to n that passes the test, and 0 where none does
 abbrev pub greatest : (ℕ → Bool) → ℕ → ℕ
@@ -17,7 +17,7 @@ greatest p (suc n) = if p (suc n) then suc n else greatest p n
 unfoldable pub need : Terms → EscrowPlan → EscrowPlan → ℤ → ℕ → ℕ → ℤ
 need t plan earlier upb k zero = pos 0
 need t plan earlier upb k (suc j) =
-  whole_part t plan earlier upb k +ℤ need t plan earlier (upb -ℤ principal_part t upb k) (suc k) j
+    whole_part t plan earlier upb k +ℤ need t plan earlier (upb -ℤ principal_part t upb k) (suc k) j
 
 -- whether the next j installments from k on exist: each has a balance to pay
 unfoldable pub they_exist : Terms → ℤ → ℕ → ℕ → Bool

@@ -1,6 +1,6 @@
 -- One step of the books: what an event does, and the settling that follows it.
 use Rattle.std.specs.Prelude.{ℕ, ◌==◌, ◌&&◌, not, nat_le, ℤ, pos, ◌+ℤ◌, ◌-ℤ◌, int_lt, int_le, if◌then◌else◌}
-use Rattle.std.specs.Int.{int_min, int_max}
+use Rattle.std.specs.Int.{int_min}
 use Rattle.svc_base.specs.Money.{share_bp, day_interest}
 use Rattle.svc_types.specs.declared.terms.Terms.{Terms}
 use Rattle.svc_types.specs.declared.escrow.EscrowPlan.{EscrowPlan}
@@ -9,7 +9,8 @@ use Rattle.svc_types.specs.declared.books.Books.{Books}
 use Rattle.svc_types.specs.declared.account.Designation.{Designation}
 use Rattle.svc_types.specs.declared.account.Designation.TheVariants.{Regular, Principal, Escrow}
 use Rattle.svc_types.specs.declared.account.Act.{Act}
-use Rattle.svc_types.specs.declared.account.Act.TheVariants.{Pay, Curtail, Payoff, Deposit, Disburse, Refund, Waive, Analyse}
+use Rattle.svc_types.specs.declared.account.Act.TheVariants.{Pay, Curtail, Payoff, Deposit}
+use Rattle.svc_types.specs.declared.account.Act.TheVariants.{Disburse, Refund, Waive, Analyse}
 use Rattle.svc_types.specs.declared.account.Event.{Event}
 use Rattle.svc_types.specs.declared.account.What.{What}
 use Rattle.svc_types.specs.declared.account.What.TheVariants as what
@@ -22,7 +23,10 @@ paid_in c b = record b { suspense = b.suspense +ℤ c }
 
 -- a late charge for installment k, where it is still open
 unfoldable pub charged : Terms → ℕ → Books → Books
-charged t k b = if int_lt (pos 0) b.upb && nat_le b.next k then record b { late_owed = b.late_owed +ℤ share_bp t.pi t.late } else b
+charged t k b =
+    if int_lt (pos 0) b.upb && nat_le b.next k
+    then record b { late_owed = b.late_owed +ℤ share_bp t.pi t.late }
+    else b
 
 -- so much of suspense applied to principal ahead of its time, as far as the balance goes
 unfoldable pub to_principal : ℤ → Books → Books
@@ -50,7 +54,7 @@ applied Escrow x b = to_escrow x b
 -- before the day and the loan is not satisfied
 unfoldable pub rest_applied : Terms → ℕ → ℤ → Designation → Books → Books
 rest_applied t day c to b =
-  if int_lt (pos 0) b.upb && not (is_overdue t day b) then applied to (int_min c b.suspense) b else b
+    if int_lt (pos 0) b.upb && not (is_overdue t day b) then applied to (int_min c b.suspense) b else b
 
 -- a payment: a regular one waits; after a designated one what is due on or before the day is
 -- settled, and then the rest is applied
@@ -78,11 +82,15 @@ paid_off t day b = record b {
 
 -- a payoff happens where suspense covers it; else its money waits
 unfoldable pub payoff_tried : Terms → ℕ → Books → Books
-payoff_tried t day b = if int_lt (pos 0) b.upb && int_le (payoff_sum t day b) b.suspense then paid_off t day b else b
+payoff_tried t day b =
+    if int_lt (pos 0) b.upb && int_le (payoff_sum t day b) b.suspense then paid_off t day b else b
 
 -- a deposit into escrow; on a satisfied loan it waits
 unfoldable pub deposited : ℤ → Books → Books
-deposited c b = if int_lt (pos 0) b.upb then record b { escrow = b.escrow +ℤ c } else record b { suspense = b.suspense +ℤ c }
+deposited c b =
+    if int_lt (pos 0) b.upb
+    then record b { escrow = b.escrow +ℤ c }
+    else record b { suspense = b.suspense +ℤ c }
 
 -- what a refund takes from suspense: on a satisfied loan, as far as it goes
 unfoldable pub from_suspense : ℤ → Books → ℤ

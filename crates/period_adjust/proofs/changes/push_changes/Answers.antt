@@ -1,6 +1,6 @@
-use Rattle.std.proofs.Common.{◌≡◌, ℕ, ◌+◌, ◌<◌, ◌++◌, List, length, drop, arith, ap, sym, ◌∙◌, subst, append_assoc, length-append}
+use Rattle.std.proofs.Common.{◌+◌, ◌<◌, ◌++◌, List, length, drop, arith, ap, sym, ◌∙◌, subst, append_assoc, length-append}
 use Rattle.period_adjust.specs.declared.adjustment.Adjustment.{Adjustment}
-use Rattle.period_adjust.specs.Sums.{SumsFit}
+use Rattle.period_adjust.specs.Pending.{SumsFit}
 use Rattle.period_adjust.specs.Changes.{change_of, adjustments_of}
 use Rattle.period_adjust.proofs.ChangesLemmas.{adjustments_of-step}
 use Rattle.period_adjust.proofs.RunningLemmas.{fits_front}

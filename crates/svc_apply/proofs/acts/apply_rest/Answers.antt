@@ -6,8 +6,8 @@ use Rattle.svc_base.proofs.CentsRules.{int_lt-true, int_lt-false}
 use Rattle.svc_types.specs.declared.books.Books.{Books}
 use Rattle.svc_spec.specs.Settling.{is_overdue}
 use Rattle.svc_spec.specs.Step.{applied, rest_applied}
-use Rattle.svc_apply.specs.Room.{MayApply}
-use Rattle.svc_apply.proofs.RoomLemmas.{rest_may_apply}
+use Rattle.svc_apply.specs.Conditions.{MayApply}
+use Rattle.svc_apply.proofs.ConditionLemmas.{rest_may_apply}
 use Rattle.svc_apply.proofs.acts.apply_rest.Goals as goal
 
 pub returns-then-books-le0 : goal.returns-then-books-le0
@@ -23,10 +23,10 @@ returns-then-is_overdue c =
 pub apply-requires : goal.apply-requires
 apply-requires c =
     let b = c.args.books.now in
-    let may = rest_may_apply c.args.terms.now c.args.cents b c.requires.terms c.requires.amount c.requires.signs c.requires.room c.requires.curtailed in
+    let may = rest_may_apply c.args.terms.now c.args.cents b c.requires.terms c.requires.amount c.requires.signs c.requires.sums c.requires.curtailed in
     let suspense = c.requires.signs.suspense in
     let fits : FitsSigned w64 c.args.cents = c.ranges.cents in
-    let fits' : FitsSigned w64 b.suspense = let room = c.requires.room in omega (arith, ints) in
+    let fits' : FitsSigned w64 b.suspense = let sums = c.requires.sums in omega (arith, ints) in
     let fits'' : FitsSigned w64 c.min.result = omega (arith, ints) in
     let rest : c.min.result ≡ int_min c.args.cents b.suspense = simp to_z-of_z at c.min.ensures.value in
     let may' : MayApply c.min.result b = subst (λ x. MayApply x b) (sym rest) may in
@@ -38,7 +38,7 @@ returns c =
     let b = c.args.books.now in
     let due : is_overdue c.args.terms.now c.args.day b ≡ false = sym c.is_overdue.ensures ∙ c.if-is_overdue.false in
     let fits : FitsSigned w64 c.args.cents = c.ranges.cents in
-    let fits' : FitsSigned w64 b.suspense = let room = c.requires.room in let suspense = c.requires.signs.suspense in omega (arith, ints) in
+    let fits' : FitsSigned w64 b.suspense = let sums = c.requires.sums in let suspense = c.requires.signs.suspense in omega (arith, ints) in
     let fits'' : FitsSigned w64 c.min.result = omega (arith, ints) in
     let rest : c.min.result ≡ int_min c.args.cents b.suspense = simp to_z-of_z at c.min.ensures.value in
     let done : c.apply.new.books ≡ applied c.args.to c.min.result b = simp to_z-of_z at c.apply.ensures in

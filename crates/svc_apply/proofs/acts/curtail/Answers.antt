@@ -2,8 +2,8 @@ use Rattle.std.proofs.Common.{◌≡◌, sym, subst, refl, arith, FitsSigned, w6
 use Rattle.std.proofs.lemmas.Int.{ints, to_z-of_z}
 use Rattle.svc_types.specs.declared.books.Books.{Books}
 use Rattle.svc_spec.specs.Step.{paid_in}
-use Rattle.svc_apply.specs.Room.{MayApply}
-use Rattle.svc_apply.proofs.RoomLemmas.{curtailment_may_apply}
+use Rattle.svc_apply.specs.Conditions.{MayApply}
+use Rattle.svc_apply.proofs.ConditionLemmas.{curtailment_may_apply}
 use Rattle.svc_apply.proofs.acts.curtail.Goals as goal
 
 pub to_principal-requires : goal.to_principal-requires

@@ -1,14 +1,14 @@
 use Rattle.std.proofs.Common.{◌≡◌, ap, arith, FitsSigned, w64}
 use Rattle.std.proofs.lemmas.Int.{ints, to_z-of_z}
 use Rattle.svc_types.specs.declared.books.Books.{Books}
-use Rattle.svc_spec.specs.Books.{IsSum}
+use Rattle.svc_spec.specs.Books.{IsEntryAmount}
 use Rattle.svc_spec.specs.Step.{paid}
 use Rattle.svc_spec.proofs.NextLemmas.{to_principal_next, payoff_tried_next, deposited_next, refunded_next, analysed_next}
 use Rattle.svc_apply.proofs.acts.post.Goals as goal
 
 pub returns-in-Pay-clause-books : goal.returns-in-Pay-clause-books
 returns-in-Pay-clause-books g c =
-    let amount : IsSum c.in-Pay.cents = rw c.in-Pay.is at c.requires.act in
+    let amount : IsEntryAmount c.in-Pay.cents = rw c.in-Pay.is at c.requires.act in
     let fits : FitsSigned w64 c.in-Pay.cents = omega (arith, ints) in
     let done : c.pay.new.books ≡ paid c.args.terms.now c.args.day c.in-Pay.cents c.in-Pay.to c.args.books.now = simp to_z-of_z at c.pay.ensures.books in
     rw c.in-Pay.is done

@@ -7,7 +7,7 @@ use Rattle.svc_spec.specs.Settling.{marked, settled}
 use Rattle.svc_spec.specs.Step.{step, happened, paid_out_by}
 use Rattle.svc_spec.proofs.WholeStep.{step_books, step_total, happened_marked_signs}
 use Rattle.svc_spec.proofs.SettledLemmas.{marked_next}
-use Rattle.svc_apply.proofs.RoomLemmas.{event_room}
+use Rattle.svc_apply.proofs.ConditionLemmas.{event_may_settle}
 use Rattle.svc_apply.proofs.fold.fold_step.Goals as goal
 
 pub settle-requires-clause-signs : goal.settle-requires-clause-signs
@@ -17,12 +17,12 @@ settle-requires-clause-signs g c =
     let mark : c.mark_satisfied.new.books ≡ marked e.day (happened c.args.terms.now e.day e.what b) = cc in
     rw mark (happened_marked_signs c.args.terms.now e.day e.what b c.requires.terms c.requires.amounts c.requires.books.signs)
 
-pub settle-requires-clause-room : goal.settle-requires-clause-room
-settle-requires-clause-room g c =
+pub settle-requires-clause-sums : goal.settle-requires-clause-sums
+settle-requires-clause-sums g c =
     let e = c.args.event.now in
     let b = c.args.books.now in
     let mark : c.mark_satisfied.new.books ≡ marked e.day (happened c.args.terms.now e.day e.what b) = cc in
-    rw mark (event_room c.args.terms.now e.day e.what b c.requires.terms c.requires.amounts c.requires.books)
+    rw mark (event_may_settle c.args.terms.now e.day e.what b c.requires.terms c.requires.amounts c.requires.books)
 
 pub returns-clause-step : goal.returns-clause-step
 unfolding step

@@ -10,4 +10,4 @@ use Rattle.svc_apply.proofs.rows.worked_payments.Goals as goal
 
 pub returns : goal.returns
 unfolding month_length day_after month_interest day_interest share_bp principal_part level_principal escrow_part escrow_of_plan need they_exist moves moved moved_one late_taken marked settled_by payoff_principal payoff_sum step charged to_principal to_escrow rest_applied paid_off payoff_tried deposited from_suspense refunded analysed start
-returns c = record { first = refl; cent_short = refl; cent_later = refl; late_payment = refl; curtailment = refl; curtailed = refl; one_installment = refl; two_at_once = refl }
+returns c = record { first = refl; cent_short = refl; cent_later = refl; late_payment = refl; curtailment = refl; one_installment = refl; two_at_once = refl }

@@ -6,7 +6,7 @@ use Rattle.svc_apply.proofs.settle.pay_installment.Goals as goal
 pub returns : goal.returns
 returns c =
     let parts = c.requires.parts in
-    let room = c.requires.room in
+    let sums = c.requires.sums in
     same_books _ _ refl (omega (arith, ints)) (omega arith) (omega (arith, ints)) (omega (arith, ints)) refl (omega (arith, ints)) (omega (arith, ints)) (omega (arith, ints)) refl refl refl refl refl
 
 pub overflow_sub-books : goal.overflow_sub-books

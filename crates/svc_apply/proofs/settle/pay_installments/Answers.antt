@@ -5,8 +5,8 @@ use Rattle.svc_spec.specs.Books.{HaveSigns}
 use Rattle.svc_spec.specs.Settling.{is_movable, moved_one}
 use Rattle.svc_spec.proofs.SettlingLemmas.{moves_more, moves_none, moved-more, moved-none, moved_one-is}
 use Rattle.svc_spec.proofs.StepLemmas.{can_pay, moved_one_signs}
-use Rattle.svc_apply.specs.Room.{HasRoom}
-use Rattle.svc_apply.proofs.RoomLemmas.{moved_one_room}
+use Rattle.svc_apply.specs.Conditions.{MaySettle}
+use Rattle.svc_apply.proofs.ConditionLemmas.{moved_one_may_settle}
 use Rattle.svc_apply.proofs.settle.pay_installments.Goals as goal
 
 pub loop-open-preserved : goal.loop-open-preserved
@@ -15,17 +15,17 @@ loop-open-preserved g c =
     let t = c.args.terms.now in
     let by = c.args.by in
     let before = c.loop-open.invariant in
-    let m : is_movable t by b ≡ true = sym c.in-Some.ensures.movable in
+    let m : is_movable t by b ≡ true = sym {b = is_movable t by b} c.in-Some.ensures.movable in
     let one : c.pay_installment.new.books ≡ moved_one t b = c.pay_installment.ensures ∙ moved_one-is t c.in-Some.open b c.in-Some.ensures.value in
     let can = can_pay t by b m in
     let low = before.signs.next_low can.owed in
     let signs : HaveSigns t (moved_one t b) = moved_one_signs t b c.requires.terms before.signs can in
-    let room : HasRoom (moved_one t b) = moved_one_room t b c.requires.terms before.signs can before.room in
+    let sums : MaySettle (moved_one t b) = moved_one_may_settle t b c.requires.terms before.signs can before.sums in
     let more = moves_more t by b low m in
     let P : Books → Type 0 = λ x. HaveSigns t x in
     record {
       signs = subst P (sym one) signs;
-      room = subst HasRoom (sym one) room;
+      sums = subst MaySettle (sym one) sums;
       rest = rw one (moved-more t by b low m ∙ before.rest);
       count = rw one (omega arith);
     }

@@ -1,7 +1,6 @@
 use Rattle.std.proofs.Common.{◌≡◌, [], ◌∷◌, ◌++◌, List, ap, sym, subst}
 use Rattle.period_adjust.specs.declared.adjustment.Adjustment.{Adjustment}
-use Rattle.period_adjust.specs.Sums.{SumsFit}
-use Rattle.period_adjust.specs.Pending.{PendingList, AreRunning}
+use Rattle.period_adjust.specs.Pending.{PendingList, AreRunning, SumsFit}
 use Rattle.period_adjust.proofs.RunningLemmas.{push_fits, push_running}
 use Rattle.period_adjust.proofs.pending.Pending.push.Goals as goal
 

@@ -1,7 +1,7 @@
 use Rattle.std.proofs.Common.{◌≡◌, ◌+◌, ◌++◌, List, length, ap, sym, subst, arith}
 use Rattle.period_adjust.specs.declared.adjustment.Adjustment.{Adjustment}
 use Rattle.period_adjust.specs.Sealed.{State, Reporting, reporting}
-use Rattle.period_adjust.specs.Sums.{SumsFit}
+use Rattle.period_adjust.specs.Pending.{SumsFit}
 use Rattle.period_adjust.specs.Changes.{adjustments_of}
 use Rattle.period_adjust.specs.Conditions.{MayChange}
 use Rattle.period_adjust.proofs.ChangesLemmas.{length-adjustments_of}

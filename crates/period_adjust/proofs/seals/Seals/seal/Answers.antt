@@ -1,9 +1,7 @@
-use Rattle.std.proofs.Common.{◌≡◌, ◌∷◌, [], ◌++◌, ◌∙◌, List, map, ap, sym, subst}
-use Rattle.period_adjust.specs.declared.adjustment.Adjustment.{Adjustment}
+use Rattle.std.proofs.Common.{◌≡◌, ◌∷◌, [], ◌++◌, ◌∙◌, map, ap, sym, subst}
 use Rattle.period_adjust.specs.Sealed.{Sealed, State, Reporting, reporting}
-use Rattle.period_adjust.specs.Sums.{SumsFit, line_with, report_of}
+use Rattle.period_adjust.specs.Sums.{line_with, report_of}
 use Rattle.period_adjust.specs.Conditions.{MayClose}
-use Rattle.period_adjust.proofs.SealedLemmas.{sums_fit}
 use Rattle.period_adjust.proofs.StateLemmas.{same_report, kept_closed}
 use Rattle.period_adjust.proofs.seals.Seals.seal.Goals as goal
 

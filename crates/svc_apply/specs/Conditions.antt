@@ -5,7 +5,7 @@ use Rattle.svc_spec.specs.Books.{AreWithin}
 use Rattle.svc_types.specs.declared.books.Installment.{Installment}
 
 -- each sum may take all of suspense, and none but escrow is below 0
-pub record HasRoom (b : Books) : Type 0 where
+pub record MaySettle (b : Books) : Type 0 where
   pub upb_low : pos 0 ≤ℤ b.upb
   pub suspense : b.suspense ≤ℤ pos 4_000_000_000_000_000_000
   pub interest_low : pos 0 ≤ℤ b.interest
