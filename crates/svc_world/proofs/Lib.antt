@@ -8,3 +8,4 @@ pub mod ChangesLemmas
 pub mod AddUpLemmas
 pub mod CloseLemmas
 pub mod SentSumLemmas
+pub mod CashLemmas
