@@ -9,3 +9,4 @@ pub mod AddUpLemmas
 pub mod CloseLemmas
 pub mod SentSumLemmas
 pub mod CashLemmas
+pub mod RemittedLemmas
