@@ -90,6 +90,7 @@ pub record AreHoldings (b : Books) : Type 0 where
   pub curtailed : IsUpTo 40_960_000_000_000 b.curtailed
   pub late_paid : IsUpTo 40_960_000_000_000 b.late_paid
   pub all : IsUpTo 40_960_000_000_000 (b.suspense +ℤ b.interest +ℤ b.principal +ℤ b.late_paid)
+  pub with_escrow : (b.suspense +ℤ b.escrow) ≤ℤ pos 40_960_000_000_000
 
 pub account_holdings : (a : Account) → IsLimited a → AreHoldings (books_of a a.today)
 account_holdings a h =
@@ -115,4 +116,5 @@ account_holdings a h =
       curtailed = record { low = s5; high = omega (arith, ints) };
       late_paid = record { low = s6; high = omega (arith, ints) };
       all = record { low = omega (arith, ints); high = omega (arith, ints) };
+      with_escrow = omega (arith, ints);
     }

@@ -7,3 +7,6 @@ pub mod LoanListLemmas
 pub mod ChangesLemmas
 pub mod AddUpLemmas
 pub mod CloseLemmas
+pub mod SentSumLemmas
+pub mod CashLemmas
+pub mod RemittedLemmas
