@@ -1,0 +1,17 @@
+//! What lies outside of the program: where input comes from, where output goes, connections, and the
+//! disk; each as a trait, in memory, and over the machine.
+#![tactic(auto)]
+
+mod disk;
+mod doors;
+mod failed;
+mod link;
+mod sink;
+mod source;
+
+pub use disk::Disk;
+pub use doors::Doors;
+pub use failed::Failed;
+pub use link::Link;
+pub use sink::{CalmSink, MemSink, Sink, WriteSink, write_whole};
+pub use source::{CalmSource, MemSource, ReadSource, Source, read_some};
