@@ -7,7 +7,7 @@ Holds at bytes old new = new ≡ take at old ++ bytes ++ drop (at + length bytes
 
 -- after a write of n bytes that a crash or a fault may cut short: any bytes in its range, the same elsewhere, and the
 -- old length or the new one
-pub record Torn (at n : ℕ) (old new : List ℕ) : Type 0 where
+pub record TornAt (at n : ℕ) (old new : List ℕ) : Type 0 where
   pub before : take at new ≡ take at old
   pub after : drop (at + n) new ≡ drop (at + n) old
   pub size : (length new ≡ length old) ⊎ (length new ≡ max (length old) (at + n))

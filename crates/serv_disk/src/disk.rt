@@ -2,7 +2,7 @@
 
 ghost use Rattle.std.specs.Prelude.{◌≡◌, ℕ, ◌+◌, ◌≤◌, List, Option, None, Some, IsSome, IfOk, OnOk, OnErr, length, take, drop};
 ghost use Rattle.serv_disk.specs.Faults.{HasCause};
-ghost use Rattle.serv_disk.specs.Disks.{Holds, Torn, Cut, Told, Each, After, Only, Elapses};
+ghost use Rattle.serv_disk.specs.Disks.{Holds, TornAt, Cut, Told, Each, After, Only, Elapses};
 
 use crate::failed::Failed;
 
@@ -47,8 +47,8 @@ pub trait Disk {
     fn write_at(&mut self, at: u64, bytes: &[u8]) -> Result<(), Failed>
         requires { (s : List ℕ) → seen self.old ≡ Some s → at ≤ length s }
         ensures written { OnOk result (Told (seen self.old) (seen self.new) (Holds at bytes.now)) }
-        ensures failed { OnErr result (Told (seen self.old) (seen self.new) (Torn at (length bytes.now))) }
-        ensures crash { Each (images self.new) (After (Torn at (length bytes.now)) (images self.old)) }
+        ensures failed { OnErr result (Told (seen self.old) (seen self.new) (TornAt at (length bytes.now))) }
+        ensures crash { Each (images self.new) (After (TornAt at (length bytes.now)) (images self.old)) }
         ensures time { Elapses (moment self.old) (moment self.new) (images_since self.old) (images_since self.new) (images self.new) }
         ensures cause { HasCause (faults self.old) (faults self.new) result };
 
