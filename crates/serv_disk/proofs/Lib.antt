@@ -1,2 +1,5 @@
+pub mod CrashLemmas
+pub mod KeptLemmas
 pub mod Moments
 pub mod Pieces
+pub mod TearLemmas

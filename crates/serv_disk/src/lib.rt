@@ -5,13 +5,19 @@
 mod disk;
 mod doors;
 mod failed;
+mod kept;
 mod link;
+mod mem_disk;
 mod sink;
 mod source;
+mod tearing;
+mod torn;
 
 pub use disk::Disk;
 pub use doors::Doors;
 pub use failed::Failed;
 pub use link::Link;
+pub use mem_disk::MemDisk;
 pub use sink::{CalmSink, MemSink, Sink, WriteSink, write_whole};
 pub use source::{CalmSource, MemSource, ReadSource, Source, read_some};
+pub use torn::Torn;
