@@ -1,6 +1,6 @@
 -- One call more of those that a disk in memory keeps.
 use Rattle.std.proofs.Common.{◌≡◌, ℕ, ◌+◌, ◌≤◌, List, [], ◌∷◌, ◌++◌, length, take, drop, sym, ap, subst, ◌∙◌, refl, arith, length-drop, length-append}
-use Rattle.std.proofs.lemmas.List.{append_assoc, append-nil, take-append-le, drop-append-le, take_all, nil_from_length}
+use Rattle.std.proofs.lemmas.List.{append-nil, take-append-le, drop-append-le, take_all, nil_from_length}
 use Rattle.serv_disk.specs.DiskCalls.{DiskCall, Wrote, Shortened, Synced, now_of, synced_of, written, AreWithin}
 use Rattle.serv_disk.specs.Kept.{bytes_of, call_of, calls_of, bytes_in, IsKept}
 use Rattle.serv_disk.specs.declared.kept.Step.{Step}

@@ -1,4 +1,5 @@
 pub mod CrashLemmas
+pub mod DiskLemmas
 pub mod KeptLemmas
 pub mod Moments
 pub mod Pieces

@@ -1,9 +1,6 @@
 -- Bytes laid over a file within its length, by places.
-use Rattle.std.proofs.Common.{◌≡◌, ◌⊎◌, ℕ, ◌+◌, ◌-◌, ◌<◌, ◌≤◌, min, max, List, [], ◌∷◌, ◌++◌, length, get_or, take, drop, sym, ap, subst, ◌∙◌, refl, inl, inr, ⊎_elim, rules, arith, length-append, length-drop, length-take}
-use Rattle.std.specs.Prelude.{replicate}
-use Rattle.std.proofs.lemmas.List.{places, same_lists, length-replicate, get_or-replicate, get_or-take, get_or-drop, get_or_append_left, get_or-append-add, get_or-append_right}
-use Rattle.std.proofs.lemmas.Bool.{cases_lt}
-use Rattle.std.proofs.lemmas.Slice.{put_mid-paste}
+use Rattle.std.proofs.Common.{◌≡◌, ℕ, ◌+◌, ◌-◌, ◌<◌, ◌≤◌, min, max, List, ◌++◌, length, get_or, take, drop, sym, ap, ◌∙◌, arith, length-append, length-drop, length-take}
+use Rattle.std.proofs.lemmas.List.{places, same_lists, length-replicate}
 use borrow.Rule.Slice.PartMut.{put_mid}
 use Rattle.serv_disk.specs.Crashes.{laid, sized}
 use Rattle.serv_disk.specs.DiskCalls.{written}

@@ -1,5 +1,5 @@
 -- The content that a crash of a disk in memory leaves, by its choice.
-use Rattle.std.specs.Prelude.{ℕ, ◌-◌, Bool, List, [], ◌∷◌, ◌++◌, length, take, drop, min, max, if◌then◌else◌, replicate}
+use Rattle.std.specs.Prelude.{ℕ, ◌-◌, Bool, List, [], ◌∷◌, ◌++◌, length, take, min, max, if◌then◌else◌, replicate}
 use Rattle.serv_disk.specs.DiskCalls.{DiskCall, Wrote, Shortened, Synced, written, now_of, synced_of}
 use Rattle.serv_disk.specs.declared.torn.Torn.{Torn}
 use Rattle.serv_disk.specs.declared.torn.Torn.TheVariants.{Old, New, Zero, Ones}

@@ -1,6 +1,6 @@
 -- What the trait asks of a disk in memory.
-use Rattle.std.specs.Prelude.{◌≡◌, ◌⊎◌, ℕ, ◌+◌, ◌≤◌, List, [], ◌∷◌, ◌++◌, length, take, drop, refl}
-use Rattle.std.proofs.Common.{inl, inr, ⊎_elim, arith}
+use Rattle.std.specs.Prelude.{◌≡◌, ℕ, List, [], ◌∷◌, length, refl, Some}
+use Rattle.std.proofs.Common.{inl, inr, subst, arith}
 use Rattle.serv_disk.specs.DiskCalls.{DiskCall, Wrote, Shortened, Synced, now_of, IsImage, IsSince}
 
 -- this moment is one of those since an earlier one
@@ -20,3 +20,7 @@ now_image first [] = refl
 now_image first (Wrote at bytes ∷ older) = inl refl
 now_image first (Shortened n ∷ older) = inl refl
 now_image first (Synced ∷ older) = refl
+
+-- the same by what is told
+pub some_image : (first : List ℕ) (calls : List DiskCall) (s : List ℕ) → Some (now_of first calls) ≡ Some s → IsImage first calls s
+some_image first calls s told = subst (IsImage first calls) (cc) (now_image first calls)

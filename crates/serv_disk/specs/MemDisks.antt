@@ -1,5 +1,5 @@
 -- What contracts see of a disk in memory.
-use Rattle.std.specs.Prelude.{ℕ, ◌<◌, ◌⊎◌, List, Option, IfSome, Contains}
+use Rattle.std.specs.Prelude.{ℕ, ◌<◌, ◌⊎◌, List, Option, MatchOption, Contains}
 use Rattle.serv_disk.specs.DiskCalls.{DiskCall, now_of}
 
 -- the content at first and the calls that were made, the newest first; the room for further calls and bytes that is
@@ -22,4 +22,4 @@ content_of disk = now_of disk.first disk.made
 
 -- the list or the stop lets the newest call fail
 abbrev pub IsLetFail : DiskState → Type 0
-IsLetFail disk = Contains disk.fails disk.calls ⊎ IfSome disk.stop (λ last. last < disk.calls)
+IsLetFail disk = Contains disk.fails disk.calls ⊎ MatchOption disk.stop ⊥ (λ last. last < disk.calls)

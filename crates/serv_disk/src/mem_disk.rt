@@ -1,10 +1,10 @@
 //! A disk in memory.
 
-ghost use Rattle.std.specs.Prelude.{◌≡◌, ℕ, ◌+◌, ◌-◌, ◌^◌, ◌≤◌, ◌<◌, ◌⊎◌, ◌↔◌, List, Option, None, Some, [], ◌∷◌, IsTrue, IsOk, IsErr, is_ok, OnOk, OnErr, IfOk, IfErr, length, take, drop, max, min, if◌then◌else◌, Contains};
+ghost use Rattle.std.specs.Prelude.{◌≡◌, ℕ, ◌+◌, ◌-◌, ◌^◌, ◌≤◌, ◌<◌, ◌⊎◌, ◌↔◌, List, Option, None, Some, [], ◌∷◌, IsTrue, IsOk, IsErr, is_ok, OnOk, OnErr, IfOk, MatchOption, length, take, drop, max, min, if◌then◌else◌, Contains};
 ghost use Rattle.serv_disk.specs.DiskCalls.{DiskCall, Wrote, Shortened, Synced, IsImage, IsSince};
 ghost use Rattle.serv_disk.specs.Crashes.{crashed};
 ghost use Rattle.serv_disk.specs.Disks.{Holds, TornAt, Cut, Told, Each, After, Only, Elapses};
-ghost use Rattle.serv_disk.specs.Faults.{HasCause};
+ghost use Rattle.serv_disk.specs.Faults.{HasCause, HasRisen};
 ghost use Rattle.serv_disk.specs.Objects.{raised};
 ghost use Rattle.serv_disk.specs.MemDisks.{DiskState, content_of, IsLetFail};
 
@@ -110,4 +110,188 @@ impl MemDisk {
     {
         self.longest
     }
+}
+
+/// Whether a call comes after the stop.
+fn is_past(stop: Option<u64>, call: u64) -> bool
+    ensures { IsTrue result ↔ MatchOption stop ⊥ (λ last. last < call) }
+{
+    match stop {
+        Some(last) => last < call,
+        None => false,
+    }
+}
+
+impl MemDisk {
+    /// Counts a call, and says whether it is to fail.
+    fn count(&mut self) -> bool
+        ensures calls { self.new ≡ record self.old { calls = raised self.old.calls } }
+        ensures fails { IsTrue result ↔ IsLetFail self.new }
+    {
+        self.calls = self.calls.saturating_add(1);
+        is_among(&self.fails, self.calls) || is_past(self.stop, self.calls)
+    }
+
+    /// Raises the count of faults.
+    fn fail(&mut self) -> Failed
+        ensures faults { self.new ≡ record self.old { faults = raised self.old.faults } }
+        ensures risen { HasRisen self.old.faults self.new.faults }
+        ensures later { self.old.faults ≤ self.new.faults }
+    {
+        self.faults = self.faults.saturating_add(1);
+        Failed
+    }
+
+    /// Ends a call that is to fail or not.
+    fn end(&mut self, fails: bool) -> Result<(), Failed>
+        ensures fails { IsErr result ↔ IsTrue fails }
+        ensures cause { HasCause self.old.faults self.new.faults result }
+        ensures faults { self.new ≡ record self.old { faults = (if is_ok result then self.old.faults else raised self.old.faults) } }
+    {
+        if fails {
+            return Err(self.fail());
+        }
+        Ok(())
+    }
+}
+
+impl Disk for MemDisk {
+    ghost use Rattle.std.specs.Prelude.{ℕ, length, Some, List, refl};
+    ghost use Rattle.serv_disk.specs.DiskCalls.{IsImage, IsSince, now_of};
+    ghost use Rattle.serv_disk.specs.MemDisks.{content_of, IsLetFail};
+    ghost use Rattle.serv_disk.specs.Objects.{raised};
+    ghost use Rattle.serv_disk.specs.DiskLaws.{since_now, now_only, now_image, some_image};
+
+    ghost seen = { λ d. Some (now_of d.first d.made) };
+
+    ghost images = { λ d c. IsImage d.first d.made c };
+
+    ghost moment = { λ d. length d.made };
+
+    ghost images_since = { λ d t c. IsSince d.first d.made t c };
+
+    ghost faults = { λ d. d.faults };
+
+    fn len(&mut self) -> Result<u64, Failed>
+        ensures number { IfOk result (λ n. (s : List ℕ) → Some (content_of self.old) ≡ Some s → n ≡ length s) }
+        ensures kept { Some (content_of self.new) ≡ Some (content_of self.old) }
+        ensures crash { Each (IsImage self.new.first self.new.made) (IsImage self.old.first self.old.made) }
+        ensures time { Elapses (length self.old.made) (length self.new.made) (IsSince self.old.first self.old.made) (IsSince self.new.first self.new.made) (IsImage self.new.first self.new.made) }
+        ensures cause { HasCause self.old.faults self.new.faults result }
+
+        // It fails exactly where its number is in the list or past the stop.
+        ensures fails { IsErr result ↔ IsLetFail self.new }
+        ensures calls { self.new ≡ record self.old { calls = raised self.old.calls; faults = self.new.faults } }
+        ensures faults { self.new.faults ≡ (if is_ok result then self.old.faults else raised self.old.faults) }
+        ensures exact { IfOk result (λ n. n ≡ length (content_of self.old)) }
+    {
+        let fails = self.count();
+        self.end(fails)?;
+        Ok(self.content().len() as u64)
+    }
+
+    fn read(&mut self, at: u64, buf: &mut [u8]) -> Result<(), Failed>
+        requires { at + length buf.old ≤ length (content_of self.old) }
+        ensures bytes { OnOk result ((s : List ℕ) → Some (content_of self.old) ≡ Some s → buf.new ≡ take (length buf.old) (drop at s)) }
+        ensures kept { Some (content_of self.new) ≡ Some (content_of self.old) }
+        ensures crash { Each (IsImage self.new.first self.new.made) (IsImage self.old.first self.old.made) }
+        ensures time { Elapses (length self.old.made) (length self.new.made) (IsSince self.old.first self.old.made) (IsSince self.new.first self.new.made) (IsImage self.new.first self.new.made) }
+        ensures cause { HasCause self.old.faults self.new.faults result }
+
+        // It fails exactly where its number is in the list or past the stop.
+        ensures fails { IsErr result ↔ IsLetFail self.new }
+        ensures calls { self.new ≡ record self.old { calls = raised self.old.calls; faults = self.new.faults; longest = max self.old.longest (length buf.old) } }
+        ensures faults { self.new.faults ≡ (if is_ok result then self.old.faults else raised self.old.faults) }
+        ensures exact { OnOk result (buf.new ≡ take (length buf.old) (drop at (content_of self.old))) }
+        ensures untouched { OnErr result (buf.new ≡ buf.old) }
+    {
+        self.longest = self.longest.max(buf.len() as u64);
+        let fails = self.count();
+        self.end(fails)?;
+        let at = at as usize;
+        buf.copy_from_slice(&self.content()[at..at + buf.len()]);
+        Ok(())
+    }
+
+    fn write_at(&mut self, at: u64, bytes: &[u8]) -> Result<(), Failed>
+        requires { at ≤ length (content_of self.old) }
+        ensures written { OnOk result (Told (Some (content_of self.old)) (Some (content_of self.new)) (Holds at bytes.now)) }
+        ensures failed { OnErr result (Told (Some (content_of self.old)) (Some (content_of self.new)) (TornAt at (length bytes.now))) }
+        ensures crash { Each (IsImage self.new.first self.new.made) (After (TornAt at (length bytes.now)) (IsImage self.old.first self.old.made)) }
+        ensures time { Elapses (length self.old.made) (length self.new.made) (IsSince self.old.first self.old.made) (IsSince self.new.first self.new.made) (IsImage self.new.first self.new.made) }
+        ensures cause { HasCause self.old.faults self.new.faults result }
+
+        // With room it fails exactly where its number is in the list or past the stop, and is made.
+        ensures listed { IsLetFail self.new → IsErr result }
+        ensures with_room { 1 ≤ self.old.room_calls → length bytes.now ≤ self.old.room → (IsErr result → IsLetFail self.new) × (self.new.made ≡ Wrote at bytes.now ∷ self.old.made) }
+        ensures made { OnOk result (self.new.made ≡ Wrote at bytes.now ∷ self.old.made) }
+        ensures refused { OnErr result ((self.new.made ≡ Wrote at bytes.now ∷ self.old.made) ⊎ (self.new.made ≡ self.old.made)) }
+        ensures room_left { (self.old.room_calls ≤ self.new.room_calls + 1) × (self.old.room ≤ self.new.room + length bytes.now) }
+        ensures calls { self.new ≡ record self.old { made = self.new.made; room_calls = self.new.room_calls; room = self.new.room; calls = raised self.old.calls; faults = self.new.faults } }
+        ensures faults { self.new.faults ≡ (if is_ok result then self.old.faults else raised self.old.faults) }
+    {
+        let fails = self.count();
+        if self.kept.reserve(1, bytes.len()).is_err() {
+            return Err(self.fail());
+        }
+        self.kept.write(at as usize, bytes);
+        self.end(fails)
+    }
+
+    fn cut(&mut self, len: u64) -> Result<(), Failed>
+        requires { len ≤ length (content_of self.old) }
+        ensures cut { OnOk result (Told (Some (content_of self.old)) (Some (content_of self.new)) (λ old new. new ≡ take len old)) }
+        ensures failed { OnErr result (Told (Some (content_of self.old)) (Some (content_of self.new)) (Cut len)) }
+        ensures crash { Each (IsImage self.new.first self.new.made) (After (Cut len) (IsImage self.old.first self.old.made)) }
+        ensures time { Elapses (length self.old.made) (length self.new.made) (IsSince self.old.first self.old.made) (IsSince self.new.first self.new.made) (IsImage self.new.first self.new.made) }
+        ensures cause { HasCause self.old.faults self.new.faults result }
+
+        // With room it fails exactly where its number is in the list or past the stop, and is made.
+        ensures listed { IsLetFail self.new → IsErr result }
+        ensures with_room { 1 ≤ self.old.room_calls → (IsErr result → IsLetFail self.new) × (self.new.made ≡ Shortened len ∷ self.old.made) }
+        ensures made { OnOk result (self.new.made ≡ Shortened len ∷ self.old.made) }
+        ensures refused { OnErr result ((self.new.made ≡ Shortened len ∷ self.old.made) ⊎ (self.new.made ≡ self.old.made)) }
+        ensures room_left { (self.old.room_calls ≤ self.new.room_calls + 1) × (self.old.room ≤ self.new.room) }
+        ensures calls { self.new ≡ record self.old { made = self.new.made; room_calls = self.new.room_calls; room = self.new.room; calls = raised self.old.calls; faults = self.new.faults } }
+        ensures faults { self.new.faults ≡ (if is_ok result then self.old.faults else raised self.old.faults) }
+    {
+        let fails = self.count();
+        if self.kept.reserve(1, 0).is_err() {
+            return Err(self.fail());
+        }
+        self.kept.cut(len as usize);
+        self.end(fails)
+    }
+
+    fn sync(&mut self) -> Result<(), Failed>
+        ensures durable { OnOk result (Only (Some (content_of self.new)) (IsImage self.new.first self.new.made)) }
+        ensures kept { Some (content_of self.new) ≡ Some (content_of self.old) }
+        ensures crash { Each (IsImage self.new.first self.new.made) (IsImage self.old.first self.old.made) }
+        ensures time { Elapses (length self.old.made) (length self.new.made) (IsSince self.old.first self.old.made) (IsSince self.new.first self.new.made) (IsImage self.new.first self.new.made) }
+        ensures cause { HasCause self.old.faults self.new.faults result }
+
+        // With room it fails exactly where its number is in the list or past the stop.
+        ensures listed { IsLetFail self.new → IsErr result }
+        ensures with_room { 1 ≤ self.old.room_calls → IsErr result → IsLetFail self.new }
+        ensures made { self.new.made ≡ (if is_ok result then Synced ∷ self.old.made else self.old.made) }
+        ensures room_left { (self.old.room_calls ≤ self.new.room_calls + 1) × (self.old.room ≤ self.new.room) }
+        ensures calls { self.new ≡ record self.old { made = self.new.made; room_calls = self.new.room_calls; room = self.new.room; calls = raised self.old.calls; faults = self.new.faults } }
+        ensures faults { self.new.faults ≡ (if is_ok result then self.old.faults else raised self.old.faults) }
+    {
+        let fails = self.count();
+        self.end(fails)?;
+        if self.kept.reserve(1, 0).is_err() {
+            return Err(self.fail());
+        }
+        self.kept.sync();
+        Ok(())
+    }
+
+    ghost counts_now = { λ d t c le image. since_now d.first d.made t c image };
+
+    ghost only_now = { λ d c since. now_only d.first d.made c since };
+
+    ghost reads_image = { λ d s told. some_image d.first d.made s told };
+
+    ghost tells = { λ d c image. refl };
 }

@@ -1,4 +1,4 @@
-use Rattle.std.proofs.Common.{◌≡◌, ℕ, List, [], length, drop}
+use Rattle.std.proofs.Common.{◌≡◌, List, [], length, drop}
 use Rattle.serv_disk.specs.DiskCalls.{DiskCall}
 use Rattle.serv_disk.specs.Kept.{bytes_in, calls_of}
 use Rattle.serv_disk.specs.Crashes.{torn_file}

@@ -1,4 +1,4 @@
-use Rattle.std.proofs.Common.{◌≡◌, ◌≤◌, List, ◌∷◌, ◌++◌, length, ap, refl, ◌∙◌, arith}
+use Rattle.std.proofs.Common.{◌∷◌, ◌++◌, ap, ◌∙◌, arith}
 use Rattle.serv_disk.specs.DiskCalls.{Synced}
 use Rattle.serv_disk.specs.Kept.{KeptState}
 use Rattle.serv_disk.proofs.KeptLemmas.{kept_sync, made_sync}

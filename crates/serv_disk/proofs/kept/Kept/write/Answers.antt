@@ -1,5 +1,5 @@
-use Rattle.std.proofs.Common.{◌≡◌, ◌≤◌, List, ◌∷◌, length, ap, subst, sym, refl, ◌∙◌, arith}
-use Rattle.serv_disk.specs.DiskCalls.{DiskCall, Wrote, now_of}
+use Rattle.std.proofs.Common.{◌≡◌, ◌≤◌, ◌∷◌, length, ap, sym, refl, ◌∙◌, arith}
+use Rattle.serv_disk.specs.DiskCalls.{Wrote, now_of}
 use Rattle.serv_disk.specs.Kept.{KeptState}
 use Rattle.serv_disk.proofs.KeptLemmas.{kept_write, made_write}
 use Rattle.serv_disk.proofs.kept.Kept.write.Goals as goal
