@@ -1,5 +1,5 @@
 -- What the trait asks of a disk in memory.
-use Rattle.std.specs.Prelude.{◌≡◌, ℕ, List, [], ◌∷◌, length, refl, Some}
+use Rattle.std.specs.Prelude.{None, ◌≡◌, ℕ, List, [], ◌∷◌, length, refl, Some}
 use Rattle.std.proofs.Common.{inl, inr, subst, arith}
 use Rattle.serv_disk.specs.DiskCalls.{DiskCall, Wrote, Shortened, Synced, now_of, IsImage, IsSince}
 
@@ -24,3 +24,7 @@ now_image first (Synced ∷ older) = refl
 -- the same by what is told
 pub some_image : (first : List ℕ) (calls : List DiskCall) (s : List ℕ) → Some (now_of first calls) ≡ Some s → IsImage first calls s
 some_image first calls s told = subst (IsImage first calls) (cc) (now_image first calls)
+
+-- what tells nothing tells no content
+pub untold : (s : List ℕ) → None ≡ Some s → ⊥
+untold s told = cc
