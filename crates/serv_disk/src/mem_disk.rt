@@ -1,12 +1,12 @@
 //! A disk in memory.
 
 ghost use Rattle.std.specs.Prelude.{◌≡◌, ℕ, ◌+◌, ◌-◌, ◌^◌, ◌≤◌, ◌<◌, ◌⊎◌, ◌↔◌, List, Option, None, Some, [], ◌∷◌, IsTrue, IsOk, IsErr, is_ok, OnOk, OnErr, IfOk, MatchOption, length, take, drop, max, min, if◌then◌else◌, Contains};
-ghost use Rattle.serv_disk.specs.DiskCalls.{DiskCall, Wrote, Shortened, Synced, IsImage, IsSince};
+ghost use Rattle.serv_disk.specs.DiskCalls.{DiskCall, Wrote, Shortened, Synced};
 ghost use Rattle.serv_disk.specs.Crashes.{crashed};
-ghost use Rattle.serv_disk.specs.Disks.{Holds, TornAt, Cut, Told, Each, After, Only, Elapses};
+ghost use Rattle.serv_disk.specs.Disks.{Holds, TornAt, Cut, Told, Each, After, Only};
 ghost use Rattle.serv_disk.specs.Faults.{HasCause, HasRisen};
 ghost use Rattle.serv_disk.specs.Objects.{raised};
-ghost use Rattle.serv_disk.specs.MemDisks.{DiskState, content_of, IsLetFail};
+ghost use Rattle.serv_disk.specs.MemDisks.{DiskState, IsLetFail, TimeElapses, content_of, images_of, told};
 
 use crate::disk::Disk;
 use crate::failed::{Failed, is_among};
@@ -86,7 +86,7 @@ impl MemDisk {
     /// lengths at the last sync and now, else the lesser. Where memory is short the old disk is given up.
     pub fn crash(self, torn: Torn, longer: bool) -> Result<MemDisk, OutOfMemory>
         ensures content { IfOk result (λ disk. disk.first ≡ crashed torn longer self.first self.made) }
-        ensures image { IfOk result (λ disk. IsImage self.first self.made disk.first) }
+        ensures image { IfOk result (λ disk. images_of self disk.first) }
         ensures made { IfOk result (λ disk. disk.made ≡ []) }
         ensures fails { IfOk result (λ disk. (disk.fails ≡ []) × (disk.stop ≡ None)) }
         ensures counts { IfOk result (λ disk. (disk.calls ≡ 0) × (disk.faults ≡ 0) × (disk.longest ≡ 0)) }
@@ -158,13 +158,13 @@ impl MemDisk {
 impl Disk for MemDisk {
     ghost use Rattle.std.specs.Prelude.{ℕ, length, Some, List, refl};
     ghost use Rattle.serv_disk.specs.DiskCalls.{IsImage, IsSince, now_of};
-    ghost use Rattle.serv_disk.specs.MemDisks.{content_of, IsLetFail};
+    ghost use Rattle.serv_disk.specs.MemDisks.{IsLetFail, TimeElapses, content_of, images_of, told};
     ghost use Rattle.serv_disk.specs.Objects.{raised};
     ghost use Rattle.serv_disk.specs.DiskLaws.{since_now, now_only, now_image, some_image};
 
-    ghost seen = { λ d. Some (now_of d.first d.made) };
+    ghost seen = { λ d. told d };
 
-    ghost images = { λ d c. IsImage d.first d.made c };
+    ghost images = { λ d. images_of d };
 
     ghost moment = { λ d. length d.made };
 
@@ -173,15 +173,16 @@ impl Disk for MemDisk {
     ghost faults = { λ d. d.faults };
 
     fn len(&mut self) -> Result<u64, Failed>
-        ensures number { IfOk result (λ n. (s : List ℕ) → Some (content_of self.old) ≡ Some s → n ≡ length s) }
-        ensures kept { Some (content_of self.new) ≡ Some (content_of self.old) }
-        ensures crash { Each (IsImage self.new.first self.new.made) (IsImage self.old.first self.old.made) }
-        ensures time { Elapses (length self.old.made) (length self.new.made) (IsSince self.old.first self.old.made) (IsSince self.new.first self.new.made) (IsImage self.new.first self.new.made) }
+        ensures number { IfOk result (λ n. (s : List ℕ) → told self.old ≡ Some s → n ≡ length s) }
+        ensures kept { told self.new ≡ told self.old }
+        ensures crash { Each (images_of self.new) (images_of self.old) }
+        ensures time { TimeElapses self.old self.new }
         ensures cause { HasCause self.old.faults self.new.faults result }
 
         // It fails exactly where its number is in the list or past the stop.
         ensures fails { IsErr result ↔ IsLetFail self.new }
-        ensures calls { self.new ≡ record self.old { calls = raised self.old.calls; faults = self.new.faults } }
+        ensures calls { self.new.calls ≡ raised self.old.calls }
+        ensures others { self.new ≡ record self.old { calls = self.new.calls; faults = self.new.faults } }
         ensures faults { self.new.faults ≡ (if is_ok result then self.old.faults else raised self.old.faults) }
         ensures exact { IfOk result (λ n. n ≡ length (content_of self.old)) }
     {
@@ -192,15 +193,21 @@ impl Disk for MemDisk {
 
     fn read(&mut self, at: u64, buf: &mut [u8]) -> Result<(), Failed>
         requires { at + length buf.old ≤ length (content_of self.old) }
-        ensures bytes { OnOk result ((s : List ℕ) → Some (content_of self.old) ≡ Some s → buf.new ≡ take (length buf.old) (drop at s)) }
-        ensures kept { Some (content_of self.new) ≡ Some (content_of self.old) }
-        ensures crash { Each (IsImage self.new.first self.new.made) (IsImage self.old.first self.old.made) }
-        ensures time { Elapses (length self.old.made) (length self.new.made) (IsSince self.old.first self.old.made) (IsSince self.new.first self.new.made) (IsImage self.new.first self.new.made) }
+        ensures bytes { OnOk result ((s : List ℕ) → told self.old ≡ Some s → buf.new ≡ take (length buf.old) (drop at s)) }
+        ensures kept { told self.new ≡ told self.old }
+        ensures crash { Each (images_of self.new) (images_of self.old) }
+        ensures time { TimeElapses self.old self.new }
         ensures cause { HasCause self.old.faults self.new.faults result }
 
         // It fails exactly where its number is in the list or past the stop.
         ensures fails { IsErr result ↔ IsLetFail self.new }
-        ensures calls { self.new ≡ record self.old { calls = raised self.old.calls; faults = self.new.faults; longest = max self.old.longest (length buf.old) } }
+        ensures calls { self.new.calls ≡ raised self.old.calls }
+        ensures longest { self.new.longest ≡ max self.old.longest (length buf.old) }
+        ensures others { self.new ≡ record self.old {
+          calls = self.new.calls;
+          faults = self.new.faults;
+          longest = self.new.longest;
+        } }
         ensures faults { self.new.faults ≡ (if is_ok result then self.old.faults else raised self.old.faults) }
         ensures exact { OnOk result (buf.new ≡ take (length buf.old) (drop at (content_of self.old))) }
         ensures untouched { OnErr result (buf.new ≡ buf.old) }
@@ -215,19 +222,27 @@ impl Disk for MemDisk {
 
     fn write_at(&mut self, at: u64, bytes: &[u8]) -> Result<(), Failed>
         requires { at ≤ length (content_of self.old) }
-        ensures written { OnOk result (Told (Some (content_of self.old)) (Some (content_of self.new)) (Holds at bytes.now)) }
-        ensures failed { OnErr result (Told (Some (content_of self.old)) (Some (content_of self.new)) (TornAt at (length bytes.now))) }
-        ensures crash { Each (IsImage self.new.first self.new.made) (After (TornAt at (length bytes.now)) (IsImage self.old.first self.old.made)) }
-        ensures time { Elapses (length self.old.made) (length self.new.made) (IsSince self.old.first self.old.made) (IsSince self.new.first self.new.made) (IsImage self.new.first self.new.made) }
+        ensures written { OnOk result (Told (told self.old) (told self.new) (Holds at bytes.now)) }
+        ensures failed { OnErr result (Told (told self.old) (told self.new) (TornAt at (length bytes.now))) }
+        ensures crash { Each (images_of self.new) (After (TornAt at (length bytes.now)) (images_of self.old)) }
+        ensures time { TimeElapses self.old self.new }
         ensures cause { HasCause self.old.faults self.new.faults result }
 
         // With room it fails exactly where its number is in the list or past the stop, and is made.
         ensures listed { IsLetFail self.new → IsErr result }
-        ensures with_room { 1 ≤ self.old.room_calls → length bytes.now ≤ self.old.room → (IsErr result → IsLetFail self.new) × (self.new.made ≡ Wrote at bytes.now ∷ self.old.made) }
+        ensures with_room { 1 ≤ self.old.room_calls → length bytes.now ≤ self.old.room
+            → (IsErr result → IsLetFail self.new) × (self.new.made ≡ Wrote at bytes.now ∷ self.old.made) }
         ensures made { OnOk result (self.new.made ≡ Wrote at bytes.now ∷ self.old.made) }
         ensures refused { OnErr result ((self.new.made ≡ Wrote at bytes.now ∷ self.old.made) ⊎ (self.new.made ≡ self.old.made)) }
         ensures room_left { (self.old.room_calls ≤ self.new.room_calls + 1) × (self.old.room ≤ self.new.room + length bytes.now) }
-        ensures calls { self.new ≡ record self.old { made = self.new.made; room_calls = self.new.room_calls; room = self.new.room; calls = raised self.old.calls; faults = self.new.faults } }
+        ensures calls { self.new.calls ≡ raised self.old.calls }
+        ensures others { self.new ≡ record self.old {
+          made = self.new.made;
+          room_calls = self.new.room_calls;
+          room = self.new.room;
+          calls = self.new.calls;
+          faults = self.new.faults;
+        } }
         ensures faults { self.new.faults ≡ (if is_ok result then self.old.faults else raised self.old.faults) }
     {
         let fails = self.count();
@@ -240,19 +255,27 @@ impl Disk for MemDisk {
 
     fn cut(&mut self, len: u64) -> Result<(), Failed>
         requires { len ≤ length (content_of self.old) }
-        ensures cut { OnOk result (Told (Some (content_of self.old)) (Some (content_of self.new)) (λ old new. new ≡ take len old)) }
-        ensures failed { OnErr result (Told (Some (content_of self.old)) (Some (content_of self.new)) (Cut len)) }
-        ensures crash { Each (IsImage self.new.first self.new.made) (After (Cut len) (IsImage self.old.first self.old.made)) }
-        ensures time { Elapses (length self.old.made) (length self.new.made) (IsSince self.old.first self.old.made) (IsSince self.new.first self.new.made) (IsImage self.new.first self.new.made) }
+        ensures cut { OnOk result (Told (told self.old) (told self.new) (λ old new. new ≡ take len old)) }
+        ensures failed { OnErr result (Told (told self.old) (told self.new) (Cut len)) }
+        ensures crash { Each (images_of self.new) (After (Cut len) (images_of self.old)) }
+        ensures time { TimeElapses self.old self.new }
         ensures cause { HasCause self.old.faults self.new.faults result }
 
         // With room it fails exactly where its number is in the list or past the stop, and is made.
         ensures listed { IsLetFail self.new → IsErr result }
-        ensures with_room { 1 ≤ self.old.room_calls → (IsErr result → IsLetFail self.new) × (self.new.made ≡ Shortened len ∷ self.old.made) }
+        ensures with_room { 1 ≤ self.old.room_calls
+            → (IsErr result → IsLetFail self.new) × (self.new.made ≡ Shortened len ∷ self.old.made) }
         ensures made { OnOk result (self.new.made ≡ Shortened len ∷ self.old.made) }
         ensures refused { OnErr result ((self.new.made ≡ Shortened len ∷ self.old.made) ⊎ (self.new.made ≡ self.old.made)) }
         ensures room_left { (self.old.room_calls ≤ self.new.room_calls + 1) × (self.old.room ≤ self.new.room) }
-        ensures calls { self.new ≡ record self.old { made = self.new.made; room_calls = self.new.room_calls; room = self.new.room; calls = raised self.old.calls; faults = self.new.faults } }
+        ensures calls { self.new.calls ≡ raised self.old.calls }
+        ensures others { self.new ≡ record self.old {
+          made = self.new.made;
+          room_calls = self.new.room_calls;
+          room = self.new.room;
+          calls = self.new.calls;
+          faults = self.new.faults;
+        } }
         ensures faults { self.new.faults ≡ (if is_ok result then self.old.faults else raised self.old.faults) }
     {
         let fails = self.count();
@@ -264,10 +287,10 @@ impl Disk for MemDisk {
     }
 
     fn sync(&mut self) -> Result<(), Failed>
-        ensures durable { OnOk result (Only (Some (content_of self.new)) (IsImage self.new.first self.new.made)) }
-        ensures kept { Some (content_of self.new) ≡ Some (content_of self.old) }
-        ensures crash { Each (IsImage self.new.first self.new.made) (IsImage self.old.first self.old.made) }
-        ensures time { Elapses (length self.old.made) (length self.new.made) (IsSince self.old.first self.old.made) (IsSince self.new.first self.new.made) (IsImage self.new.first self.new.made) }
+        ensures durable { OnOk result (Only (told self.new) (images_of self.new)) }
+        ensures kept { told self.new ≡ told self.old }
+        ensures crash { Each (images_of self.new) (images_of self.old) }
+        ensures time { TimeElapses self.old self.new }
         ensures cause { HasCause self.old.faults self.new.faults result }
 
         // With room it fails exactly where its number is in the list or past the stop.
@@ -275,7 +298,14 @@ impl Disk for MemDisk {
         ensures with_room { 1 ≤ self.old.room_calls → IsErr result → IsLetFail self.new }
         ensures made { self.new.made ≡ (if is_ok result then Synced ∷ self.old.made else self.old.made) }
         ensures room_left { (self.old.room_calls ≤ self.new.room_calls + 1) × (self.old.room ≤ self.new.room) }
-        ensures calls { self.new ≡ record self.old { made = self.new.made; room_calls = self.new.room_calls; room = self.new.room; calls = raised self.old.calls; faults = self.new.faults } }
+        ensures calls { self.new.calls ≡ raised self.old.calls }
+        ensures others { self.new ≡ record self.old {
+          made = self.new.made;
+          room_calls = self.new.room_calls;
+          room = self.new.room;
+          calls = self.new.calls;
+          faults = self.new.faults;
+        } }
         ensures faults { self.new.faults ≡ (if is_ok result then self.old.faults else raised self.old.faults) }
     {
         let fails = self.count();
