@@ -84,96 +84,47 @@ fn no_call_passes_after_a_stop(rt: HostRuntime) -> Result<(), Fail> {
     Ok(())
 }
 
-/// Calls on `abcd`, a choice of what a crash leaves, and what it leaves in the lesser and in the
-/// greater length.
-#[derive(Clone, Copy)]
-struct Crash<'a> {
-    calls: &'a [Call<'a>],
+/// What a crash leaves after these calls on `abcd`, stopped at once.
+fn crashed(alloc: Global, calls: &[Call], torn: Torn, longer: bool) -> Result<MemDisk, Fail> {
+    let mut disk = disk_of(alloc, b"abcd", &[])?;
+    for call in calls {
+        made(&mut disk, *call)?;
+    }
+    disk.stop_after(0);
+    Ok(disk.crash(torn, longer)?)
+}
+
+/// Whether it leaves this content at the lesser of both lengths, and that at the greater.
+fn leaves(
+    alloc: Global,
+    calls: &[Call],
     torn: Torn,
-    shorter: &'a [u8],
-    longer: &'a [u8],
+    shorter: &[u8],
+    longer: &[u8],
+) -> Result<bool, Fail> {
+    let less = crashed(alloc, calls, torn, false)?;
+    let mut more = crashed(alloc, calls, torn, true)?;
+    more.sync()?;
+    Ok(less.content() == shorter && more.content() == longer)
 }
 
 #[test]
 fn a_crash_leaves_what_is_chosen(rt: HostRuntime) -> Result<(), Fail> {
+    let alloc = rt.alloc();
     let write = [Call::Put(2, b"XYZ")];
+    assert!(rt; leaves(alloc, &write, Torn::Old, b"abcd", b"abcd\0")?);
+    assert!(rt; leaves(alloc, &write, Torn::New, b"abXY", b"abXYZ")?);
+    assert!(rt; leaves(alloc, &write, Torn::Zero, b"ab\0\0", b"ab\0\0\0")?);
+    assert!(rt; leaves(alloc, &write, Torn::Ones, b"ab\xff\xff", b"ab\xff\xff\xff")?);
     let cut = [Call::Cut(2)];
+    assert!(rt; leaves(alloc, &cut, Torn::New, b"ab", b"abcd")?);
     let write_and_cut = [Call::Put(2, b"XYZ"), Call::Cut(3)];
+    assert!(rt; leaves(alloc, &write_and_cut, Torn::Old, b"abc", b"abcd")?);
+    assert!(rt; leaves(alloc, &write_and_cut, Torn::New, b"abX", b"abXY")?);
     let synced = [Call::Put(2, b"XYZ"), Call::Cut(3), Call::Sync];
+    assert!(rt; leaves(alloc, &synced, Torn::Ones, b"abX", b"abX")?);
     let again = [Call::Sync, Call::Put(1, b"BC"), Call::Put(2, b"Q")];
-    let rows = [
-        (
-            write.as_slice(),
-            Torn::Old,
-            b"abcd".as_slice(),
-            b"abcd\0".as_slice(),
-        ),
-        (
-            write.as_slice(),
-            Torn::New,
-            b"abXY".as_slice(),
-            b"abXYZ".as_slice(),
-        ),
-        (
-            write.as_slice(),
-            Torn::Zero,
-            b"ab\0\0".as_slice(),
-            b"ab\0\0\0".as_slice(),
-        ),
-        (
-            write.as_slice(),
-            Torn::Ones,
-            b"ab\xff\xff".as_slice(),
-            b"ab\xff\xff\xff".as_slice(),
-        ),
-        (
-            cut.as_slice(),
-            Torn::New,
-            b"ab".as_slice(),
-            b"abcd".as_slice(),
-        ),
-        (
-            write_and_cut.as_slice(),
-            Torn::Old,
-            b"abc".as_slice(),
-            b"abcd".as_slice(),
-        ),
-        (
-            write_and_cut.as_slice(),
-            Torn::New,
-            b"abX".as_slice(),
-            b"abXY".as_slice(),
-        ),
-        (
-            synced.as_slice(),
-            Torn::Ones,
-            b"abX".as_slice(),
-            b"abX".as_slice(),
-        ),
-        (
-            again.as_slice(),
-            Torn::New,
-            b"aBQd".as_slice(),
-            b"aBQd".as_slice(),
-        ),
-        (
-            again.as_slice(),
-            Torn::Zero,
-            b"a\0\0d".as_slice(),
-            b"a\0\0d".as_slice(),
-        ),
-    ];
-    for (calls, torn, shorter, longer) in rows {
-        for (is_longer, left) in [(false, shorter), (true, longer)] {
-            let mut disk = disk_of(rt.alloc(), b"abcd", &[])?;
-            for call in calls {
-                made(&mut disk, *call)?;
-            }
-            disk.stop_after(0);
-            let mut crashed = disk.crash(torn, is_longer)?;
-            assert_eq!(rt; crashed.content(), left);
-            assert_eq!(rt; crashed.sync(), Ok(()));
-        }
-    }
+    assert!(rt; leaves(alloc, &again, Torn::New, b"aBQd", b"aBQd")?);
+    assert!(rt; leaves(alloc, &again, Torn::Zero, b"a\0\0d", b"a\0\0d")?);
     Ok(())
 }

@@ -2,7 +2,7 @@ use crate::{
     Disk, Doors, Failed, FileDisk, ReadSource, Sink, Source, TcpDoors, WriteSink, write_whole,
 };
 use std::io::{self, ErrorKind, Read, Write};
-use std::net::{Ipv4Addr, Shutdown, SocketAddr, TcpStream};
+use std::net::{Ipv4Addr, Net, Shutdown, SocketAddr, TcpListener, TcpStream};
 use std::test::Fail;
 use std::{env, fs, process};
 
@@ -68,14 +68,19 @@ fn a_file_keeps_what_was_written(rt: HostRuntime) -> Result<(), Fail> {
     Ok(())
 }
 
+/// A port of 127.0.0.1 at which nothing listens.
+fn free_port(rt: &impl Net) -> Option<u16> {
+    (47_100..47_900_u16).find(|port| {
+        let addr = SocketAddr::from((Ipv4Addr::LOCALHOST, *port));
+        TcpListener::bind(rt, addr).is_ok()
+    })
+}
+
 #[test]
 fn a_client_is_served_over_tcp(rt: HostRuntime) -> Result<(), Fail> {
-    let mut port = 47_100;
+    let port = free_port(&rt).ok_or("no port is free")?;
     let mut doors = TcpDoors::new(rt.clone()?, port);
-    while doors.listen().is_err() && port < 47_900 {
-        port += 1;
-        doors = TcpDoors::new(rt.clone()?, port);
-    }
+    doors.listen()?;
     let addr = SocketAddr::from((Ipv4Addr::LOCALHOST, port));
     let mut client = TcpStream::connect(&rt, addr)?;
     client.write_all(b"ask")?;
@@ -84,15 +89,8 @@ fn a_client_is_served_over_tcp(rt: HostRuntime) -> Result<(), Fail> {
         return Err(Fail::from("a client has connected"));
     };
     let mut room = [0; 8];
-    let mut count = 0;
-    while count < 3 {
-        let n = link.read(&mut room[count..])?;
-        if n == 0 {
-            break;
-        }
-        count += n;
-    }
-    assert_eq!(rt; &room[..count], b"ask".as_slice());
+    assert_eq!(rt; link.read(&mut room), Ok(3));
+    assert_eq!(rt; &room[..3], b"ask".as_slice());
     assert_eq!(rt; link.read(&mut room), Ok(0));
     assert_eq!(rt; write_whole(&mut link, b"reply"), Ok(()));
     doors.back(link);
