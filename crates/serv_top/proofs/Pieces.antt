@@ -1,5 +1,5 @@
 -- A byte more of the front of a line that is kept.
-use Rattle.std.proofs.Common.{◌≡◌, ℕ, ◌+◌, ◌<◌, ◌≤◌, List, [], ◌∷◌, ◌++◌, length, take, sym, arith}
+use Rattle.std.proofs.Common.{◌≡◌, ℕ, ◌<◌, List, [], ◌∷◌, ◌++◌, length, take, sym, arith}
 use Rattle.std.proofs.lemmas.List.{take_at, take_all, length_push}
 
 -- a byte more of a line that is kept whole

@@ -1,4 +1,4 @@
-use Rattle.std.proofs.Common.{◌≡◌, ◌+◌, ◌<◌, ◌≤◌, Err, length, take, ap, arith, ◌∙◌}
+use Rattle.std.proofs.Common.{◌≡◌, ◌+◌, ◌<◌, ◌≤◌, Err, length, take, ap, arith}
 use Rattle.std.proofs.lemmas.Bool.{false≢true}
 use Rattle.serv_top.specs.Outcome.{input_limit}
 use Rattle.serv_top.proofs.ServedLemmas.{served_all, stopped_at_end}

@@ -1,4 +1,4 @@
-use Rattle.std.proofs.Common.{◌≡◌, ℕ, ◌≤◌, List, ◌++◌, take, Option}
+use Rattle.std.proofs.Common.{ℕ, ◌≤◌, List, ◌++◌, take, Option}
 use Rattle.serv_top.specs.Serving.{Served}
 use Rattle.serv_top.proofs.serving.Serving.feed_all.Given as goal
 
