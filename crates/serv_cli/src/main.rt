@@ -4,7 +4,8 @@
 
 ghost use Rattle.std.specs.Prelude.{◌≡◌, ◌<◌};
 
-use serv_top::{ReadSource, Status, WriteSink};
+use serv_disk::{ReadSource, WriteSink};
+use serv_top::Status;
 use std::alloc::{AllocError, Global};
 use std::env;
 use std::io::{self, ErrorKind};

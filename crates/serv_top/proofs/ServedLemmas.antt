@@ -7,7 +7,7 @@ use Rattle.std.specs.Io.KnownBytes.{Appends}
 use Rattle.std.proofs.KnownBytes.{Appends-nil, Appends-trans}
 use Rattle.serv_top.specs.declared.serving.Stop.{Stop}
 use Rattle.serv_top.specs.declared.serving.Stop.TheVariants.{WriteFault, OutOfMemory}
-use Rattle.serv_top.specs.Faults.{IsProperPrefix, AppendsPart}
+use Rattle.serv_disk.specs.Faults.{IsProperPrefix, AppendsPart}
 use Rattle.serv_top.specs.Lines.{lines_of, ended_lines, open_line}
 use Rattle.serv_top.specs.Machine.{History, empty_history, reply_to, history_after}
 use Rattle.serv_top.specs.Replies.{IsCutIn, replies_to, history_after_all}

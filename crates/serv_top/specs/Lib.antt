@@ -1,5 +1,3 @@
-pub mod Faults
-pub mod Objects
 pub mod Lines
 pub mod Values
 pub mod Forms

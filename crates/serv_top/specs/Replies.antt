@@ -1,6 +1,6 @@
 -- What the machine says to the lines of a stream, one after the other.
 use Rattle.std.specs.Prelude.{◌≡◌, ℕ, ◌⊎◌, List, [], ◌∷◌, ◌++◌}
-use Rattle.serv_top.specs.Faults.{IsProperPrefix}
+use Rattle.serv_disk.specs.Faults.{IsProperPrefix}
 use Rattle.serv_top.specs.Machine.{History, empty_history, reply_to, history_after}
 
 -- the history after all the lines

@@ -2,7 +2,6 @@
 #![tactic(auto)]
 
 mod answers;
-mod failed;
 mod form;
 mod form_reading;
 mod form_values;
@@ -13,14 +12,9 @@ mod loan;
 mod replies;
 mod serving;
 mod session;
-mod sink;
-mod source;
 mod status;
 mod top;
 mod verdict;
 
-pub use failed::Failed;
-pub use sink::{CalmSink, MemSink, Sink, WriteSink};
-pub use source::{CalmSource, MemSource, ReadSource, Source};
 pub use status::Status;
 pub use top::{INPUT_LIMIT, run};

@@ -2,16 +2,15 @@
 
 ghost use Rattle.std.specs.Prelude.{◌≡◌, ◌≢◌, ℕ, ◌≤◌, ◌++◌, List, [], ◌∷◌, Option, Err, OnOk, OnErr, IfErr, IsOk, take, vec_len};
 ghost use Rattle.std.specs.Io.KnownBytes.{Appends};
-ghost use Rattle.serv_top.specs.Faults.{HasRisen, AppendsPart};
+ghost use Rattle.serv_disk.specs.Faults.{HasRisen, AppendsPart};
 ghost use Rattle.serv_top.specs.Machine.{empty_history, reply_to, history_after};
 ghost use Rattle.serv_top.specs.Serving.{Feeds, Served, Stopped};
 ghost use Rattle.serv_top.specs.Lines.{ended_lines};
 ghost use Rattle.serv_top.specs.Stop.{status_of};
 
-use crate::failed::Failed;
 use crate::session::Session;
-use crate::sink::{Sink, write_whole};
 use crate::status::Status;
+use serv_disk::{Failed, Sink, write_whole};
 use std::alloc::Global;
 use std::sync::ledger::Ledger;
 use svc_base::{OutOfMemory, Steps};
@@ -93,7 +92,6 @@ impl Serving {
             → IfErr result (λ why. Stopped why (ended_lines (before ++ bytes.now)) held (K.held snk.new)) }
         ensures later { K.faults snk.old ≤ K.faults snk.new }
         ensures cause { result ≡ Err Stop.WriteFault → HasRisen (K.faults snk.old) (K.faults snk.new) }
-        ensures calm { K.calm snk.old → K.calm snk.new × (K.faults snk.new ≡ K.faults snk.old) × (result ≢ Err Stop.WriteFault) }
     {
         for byte in bytes {
             self.feed(*byte, snk, steps)?;
@@ -113,7 +111,6 @@ impl Serving {
         ensures memory { result ≡ Err Stop.OutOfMemory → K.held snk.new ≡ K.held snk.old }
         ensures later { K.faults snk.old ≤ K.faults snk.new }
         ensures cause { result ≡ Err Stop.WriteFault → HasRisen (K.faults snk.old) (K.faults snk.new) }
-        ensures calm { K.calm snk.old → K.calm snk.new × (K.faults snk.new ≡ K.faults snk.old) × (result ≢ Err Stop.WriteFault) }
     {
         if byte == b'\n' {
             return self.answer(snk, steps);
@@ -134,7 +131,6 @@ impl Serving {
         ensures memory { result ≡ Err Stop.OutOfMemory → K.held snk.new ≡ K.held snk.old }
         ensures later { K.faults snk.old ≤ K.faults snk.new }
         ensures cause { result ≡ Err Stop.WriteFault → HasRisen (K.faults snk.old) (K.faults snk.new) }
-        ensures calm { K.calm snk.old → K.calm snk.new × (K.faults snk.new ≡ K.faults snk.old) × (result ≢ Err Stop.WriteFault) }
     {
         if self.line.is_empty() {
             return Ok(());
@@ -151,7 +147,6 @@ impl Serving {
         ensures memory { result ≡ Err Stop.OutOfMemory → K.held snk.new ≡ K.held snk.old }
         ensures later { K.faults snk.old ≤ K.faults snk.new }
         ensures cause { result ≡ Err Stop.WriteFault → HasRisen (K.faults snk.old) (K.faults snk.new) }
-        ensures calm { K.calm snk.old → K.calm snk.new × (K.faults snk.new ≡ K.faults snk.old) × (result ≢ Err Stop.WriteFault) }
     {
         let text = self.session.answer_line(&self.line, steps)?;
         write_whole(snk, &text)?;

@@ -2,14 +2,13 @@
 
 ghost use Rattle.std.specs.Prelude.{◌≡◌, ◌≢◌, ℕ, ◌^◌, ◌<◌, ◌≤◌, ◌⊎◌, ◌↔◌, List, true, false, map, length, Some};
 ghost use Rattle.std.specs.Io.KnownBytes.{IsAtEnd};
-ghost use Rattle.serv_top.specs.Faults.{HasRisen};
+ghost use Rattle.serv_disk.specs.Faults.{HasRisen};
 ghost use Rattle.serv_top.specs.Outcome.{Ended};
 ghost use Rattle.serv_top.specs.Words.{is_session_of};
 
 use crate::serving::Serving;
-use crate::sink::Sink;
-use crate::source::{Source, read_some};
 use crate::status::Status;
+use serv_disk::{Sink, Source, read_some};
 use std::alloc::Global;
 use std::sync::ledger::Ledger;
 use svc_base::Steps;
@@ -33,8 +32,6 @@ fn serve<S: Source, K: Sink, L: Ledger>(
     ensures write { result ≡ Status.WriteFault → HasRisen (K.faults snk.old) (K.faults snk.new) }
     ensures read_later { S.faults src.old ≤ S.faults src.new }
     ensures write_later { K.faults snk.old ≤ K.faults snk.new }
-    ensures calm_source { S.calm src.old → S.calm src.new × (S.faults src.new ≡ S.faults src.old) × (result ≢ Status.ReadFault) }
-    ensures calm_sink { K.calm snk.old → K.calm snk.new × (K.faults snk.new ≡ K.faults snk.old) × (result ≢ Status.WriteFault) }
 {
     let mut serving = Serving::new(alloc);
     let mut room = [0; ROOM];
@@ -95,12 +92,6 @@ pub fn run<S: Source, K: Sink, L: Ledger>(
     // Where no count rises and the input is shorter than the limit, known words end in Done or for want of memory.
     ensures complete { (input : List ℕ) → S.left src.old ≡ Some input → length input < INPUT_LIMIT
         → ¬ HasRisen (S.faults src.old) (S.faults src.new) → ¬ HasRisen (K.faults snk.old) (K.faults snk.new)
-        → is_session_of (map (λ w. w.now) words.now) ≡ true → (result ≡ Status.Done) ⊎ (result ≡ Status.OutOfMemory) }
-
-    // Over objects that are calm no call fails.
-    ensures calm_source { S.calm src.old → S.calm src.new × (S.faults src.new ≡ S.faults src.old) × (result ≢ Status.ReadFault) }
-    ensures calm_sink { K.calm snk.old → K.calm snk.new × (K.faults snk.new ≡ K.faults snk.old) × (result ≢ Status.WriteFault) }
-    ensures calm { (input : List ℕ) → S.left src.old ≡ Some input → length input < INPUT_LIMIT → S.calm src.old → K.calm snk.old
         → is_session_of (map (λ w. w.now) words.now) ≡ true → (result ≡ Status.Done) ⊎ (result ≡ Status.OutOfMemory) }
 {
     if !is_session(words) {

@@ -1,11 +1,9 @@
 ghost use Rattle.std.specs.Prelude.{◌≡◌, ◌<◌};
 
 use super::{INPUT_LIMIT, run};
-use crate::{
-    CalmSink, CalmSource, Failed, MemSink, MemSource, ReadSource, Sink, Source, Status, WriteSink,
-};
+use crate::Status;
+use serv_disk::{MemSink, MemSource, Source};
 use std::alloc::{AllocError, Global};
-use std::io::{self, ErrorKind, Read, Write};
 use std::marker::Brand;
 use std::sync::ledger::{Blank, Ledger};
 use std::test::Fail;
@@ -221,51 +219,6 @@ fn too_much_input_ends_without_output(rt: HostRuntime) -> Result<(), Fail> {
     assert_eq!(rt; end.status, Status::TooMuch(INPUT_LIMIT));
     assert_eq!(rt; end.output.len(), 0);
     assert_eq!(rt; end.left.as_slice(), b"y".as_slice());
-    Ok(())
-}
-
-/// A reader and writer that always fails, and a writer that takes nothing.
-#[derive(Drop)]
-struct Broken;
-
-impl Read for Broken {
-    fn read(&mut self, _buf: &mut [u8]) -> io::Result<usize> {
-        Err(io::Error::from(ErrorKind::Other))
-    }
-}
-
-impl Write for Broken {
-    fn write(&mut self, _buf: &[u8]) -> io::Result<usize> {
-        Ok(0)
-    }
-
-    fn flush(&mut self) -> io::Result<()> {
-        Ok(())
-    }
-}
-
-#[test]
-fn adapters_hand_on_what_is_read_and_written(rt: HostRuntime) -> Result<(), Fail> {
-    let mut room = [0; 4];
-    let mut src = ReadSource::new(b"abc".as_slice());
-    assert_eq!(rt; src.read(&mut room), Ok(3));
-    assert_eq!(rt; &room[..3], b"abc".as_slice());
-    assert_eq!(rt; src.read(&mut room), Ok(0));
-    assert_eq!(rt; ReadSource::new(Broken).read(&mut room), Err(Failed));
-    let mut snk = WriteSink::new(Vec::new(rt.alloc()));
-    assert_eq!(rt; snk.write(b"abc"), Ok(3));
-    assert_eq!(rt; WriteSink::new(Broken).write(b"abc"), Err(Failed));
-    Ok(())
-}
-
-#[test]
-fn calm_objects_never_fail(rt: HostRuntime) -> Result<(), Fail> {
-    let mut room = [0; 2];
-    let mut src = CalmSource::new(Vec::from_slice(rt.alloc(), b"abc")?);
-    assert_eq!(rt; src.read(&mut room), Ok(2));
-    assert_eq!(rt; src.read(&mut room), Ok(1));
-    assert_eq!(rt; src.read(&mut room), Ok(0));
-    assert_eq!(rt; CalmSink::new().write(b"abc"), Ok(3));
     Ok(())
 }
 

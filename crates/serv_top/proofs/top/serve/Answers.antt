@@ -1,4 +1,4 @@
-use Rattle.std.proofs.Common.{◌≡◌, ◌+◌, ◌<◌, ◌≤◌, Err, length, take, ap, arith, ◌∙◌}
+use Rattle.std.proofs.Common.{◌≡◌, ◌+◌, ◌<◌, ◌≤◌, Err, length, take, ap, arith}
 use Rattle.std.proofs.lemmas.Bool.{false≢true}
 use Rattle.serv_top.specs.Outcome.{input_limit}
 use Rattle.serv_top.proofs.ServedLemmas.{served_all, stopped_at_end}
@@ -43,6 +43,4 @@ loop-taken-preserved g c =
       within = within;
       read_later = omega (arith, c.loop-taken.invariant.read_later, c.read_some.ensures.cause.later);
       write_later = omega (arith, c.loop-taken.invariant.write_later, c.feed_all.ensures.later);
-      calm_source = λ calm. let before = c.loop-taken.invariant.calm_source calm in let after = c.read_some.ensures.calm before.0 in (after.0, after.1 ∙ before.1);
-      calm_sink = λ calm. let before = c.loop-taken.invariant.calm_sink calm in let after = c.feed_all.ensures.calm before.0 in (after.0, after.1 ∙ before.1);
     }

@@ -1,4 +1,4 @@
-use Rattle.std.proofs.Common.{◌≡◌, ◌-◌, ◌^◌, ◌≤◌}
+use Rattle.std.proofs.Common.{◌-◌, ◌^◌, ◌≤◌}
 use Rattle.serv_top.proofs.Running.{Running}
 use Rattle.serv_top.proofs.top.serve.Given as goal
 
@@ -8,8 +8,6 @@ invariant-loop-taken g l = record {
   within : l.taken ≤ 2 ^ 26;
   read_later : g.S.Source.faults l.fn.src ≤ g.S.Source.faults l.src;
   write_later : g.K.Sink.faults l.fn.snk ≤ g.K.Sink.faults l.snk;
-  calm_source : g.S.Source.calm l.fn.src → g.S.Source.calm l.src × (g.S.Source.faults l.src ≡ g.S.Source.faults l.fn.src);
-  calm_sink : g.K.Sink.calm l.fn.snk → g.K.Sink.calm l.snk × (g.K.Sink.faults l.snk ≡ g.K.Sink.faults l.fn.snk);
 }
 
 abbrev pub decreases-loop-taken : goal.decreases-loop-taken

@@ -1,4 +1,4 @@
-use Rattle.std.proofs.Common.{◌+◌, ◌++◌, [], ◌∷◌, Err, take, drop, get_or, ap, arith, subst, ◌∙◌}
+use Rattle.std.proofs.Common.{◌+◌, ◌++◌, [], ◌∷◌, Err, take, drop, get_or, ap, arith, subst}
 use Rattle.std.proofs.lemmas.Result.{err_from_is_err_and}
 use Rattle.serv_top.specs.Lines.{ended_lines}
 use Rattle.serv_top.specs.Serving.{Stopped}
@@ -25,5 +25,4 @@ loop-byte-preserved g c = record {
       let so_far = c.loop-byte.invariant.served before held h in
       rw (byte_more before bytes i 0 c.loop-byte-test.true) (served_more (before ++ take i bytes) so_far (get_or bytes i 0) _ _ _ c.in_ok-feed.ensures.fed);
   later = omega (arith, c.loop-byte.invariant.later, c.feed.ensures.later);
-  calm = λ calm. let was = c.loop-byte.invariant.calm calm in let after = c.feed.ensures.calm was.0 in (after.0, after.1 ∙ was.1);
 }

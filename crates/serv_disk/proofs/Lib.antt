@@ -1,0 +1,6 @@
+pub mod CrashLemmas
+pub mod DiskLemmas
+pub mod KeptLemmas
+pub mod Moments
+pub mod Pieces
+pub mod TearLemmas

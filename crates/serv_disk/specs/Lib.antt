@@ -1,0 +1,10 @@
+pub mod Faults
+pub mod Objects
+pub mod Sides
+pub mod Listening
+pub mod Disks
+pub mod DiskCalls
+pub mod DiskLaws
+pub mod Kept
+pub mod MemDisks
+pub mod Crashes

@@ -1,0 +1,39 @@
+-- What contracts see of a disk in memory.
+use Rattle.std.specs.Prelude.{ℕ, ◌<◌, ◌⊎◌, List, Option, Some, MatchOption, Contains, length}
+use Rattle.serv_disk.specs.DiskCalls.{DiskCall, now_of, IsImage, IsSince}
+use Rattle.serv_disk.specs.Disks.{Elapses}
+
+-- the content at first and the calls that were made, the newest first; the room that is reserved for further calls
+-- and bytes; the numbers of the calls that fail, and after which number all fail; how many calls there were, how
+-- many of them failed, and the length of the longest read
+pub record DiskState : Type 0 where
+  pub first : List ℕ
+  pub made : List DiskCall
+  pub room_calls : ℕ
+  pub room : ℕ
+  pub fails : List ℕ
+  pub stop : Option ℕ
+  pub calls : ℕ
+  pub faults : ℕ
+  pub longest : ℕ
+
+-- what reads give
+abbrev pub content_of : DiskState → List ℕ
+content_of disk = now_of disk.first disk.made
+
+-- the same as what the disk tells
+abbrev pub told : DiskState → Option (List ℕ)
+told disk = Some (content_of disk)
+
+-- what a crash now may leave
+abbrev pub images_of : DiskState → List ℕ → Type 0
+images_of disk = IsImage disk.first disk.made
+
+-- time goes on by one call
+abbrev pub TimeElapses : DiskState → DiskState → Type 0
+TimeElapses old new =
+    Elapses (length old.made) (length new.made) (IsSince old.first old.made) (IsSince new.first new.made) (images_of new)
+
+-- the list or the stop lets the newest call fail
+abbrev pub IsLetFail : DiskState → Type 0
+IsLetFail disk = Contains disk.fails disk.calls ⊎ MatchOption disk.stop ⊥ (λ last. last < disk.calls)

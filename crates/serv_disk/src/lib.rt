@@ -1,0 +1,36 @@
+//! What lies outside of the program: where input comes from, where output goes, connections, and the
+//! disk; each as a trait, in memory, and over the machine.
+#![tactic(auto)]
+
+mod disk;
+mod doors;
+mod ended;
+mod failed;
+mod file_disk;
+mod kept;
+mod link;
+mod links;
+mod mem_disk;
+mod mem_doors;
+mod mem_link;
+mod sink;
+mod source;
+mod tcp;
+mod tearing;
+mod torn;
+
+pub use disk::Disk;
+pub use doors::Doors;
+pub use failed::Failed;
+pub use file_disk::FileDisk;
+pub use link::Link;
+pub use mem_disk::MemDisk;
+pub use mem_doors::{CalmDoors, MemDoors};
+pub use mem_link::{CalmLink, MemLink};
+pub use sink::{CalmSink, MemSink, Sink, WriteSink, write_whole};
+pub use source::{CalmSource, MemSource, ReadSource, Source, read_some};
+pub use tcp::{TcpDoors, TcpLink};
+pub use torn::Torn;
+
+#[cfg(test)]
+mod tests;

@@ -1,0 +1,4 @@
+mod bytes;
+mod disks;
+mod listening;
+mod machine;
