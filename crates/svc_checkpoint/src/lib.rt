@@ -3,8 +3,10 @@
 
 mod checked;
 mod ends;
+mod rows;
 
 pub use checked::Checked;
+pub use rows::worked_bound;
 
 #[cfg(test)]
 mod tests;

@@ -1,0 +1,16 @@
+use Rattle.std.proofs.Common.{refl}
+use Rattle.svc_base.specs.Calendar.{month_length, day_after}
+use Rattle.svc_base.specs.Money.{month_interest, day_interest, share_bp}
+use Rattle.svc_types.specs.Live.{live_entries}
+use Rattle.svc_spec.specs.Installments.{principal_part, level_principal, escrow_part, escrow_of_plan}
+use Rattle.svc_spec.specs.Settling.{need, they_exist, moves, moved, moved_one, late_taken, marked, settled_by}
+use Rattle.svc_spec.specs.Payoff.{payoff_principal, payoff_sum}
+use Rattle.svc_spec.specs.Step.{step, charged, to_principal, to_escrow, rest_applied, paid_off, payoff_tried, deposited, from_suspense, refunded, analysed}
+use Rattle.svc_spec.specs.Books.{start}
+use Rattle.svc_spec.specs.Months.{books_at_end, cost_of_month}
+use Rattle.svc_spec.specs.Events.{events_to, books_at}
+use Rattle.svc_checkpoint.proofs.rows.worked_bound.Goals as goal
+
+pub returns : goal.returns
+unfolding month_length day_after month_interest day_interest share_bp live_entries principal_part level_principal escrow_part escrow_of_plan need they_exist moves moved moved_one late_taken marked settled_by payoff_principal payoff_sum step charged to_principal to_escrow rest_applied paid_off payoff_tried deposited from_suspense refunded analysed start events_to books_at books_at_end cost_of_month
+returns c = refl
