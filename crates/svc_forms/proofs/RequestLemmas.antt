@@ -1,8 +1,8 @@
 -- A request is told by its form and the values of its fields, and a value by its text.
-use Rattle.std.proofs.Common.{◌≡◌, ◌≢◌, ℕ, zero, suc, ◌+◌, ◌*◌, ◌<◌, get_or, ◌^◌, ◌≤◌, List, [], ◌∷◌, Option, Some, None, ℤ, pos, true, false, refl, sym, ap, subst, ◌∙◌, arith, IsTrue}
+use Rattle.std.proofs.Common.{◌≡◌, ℕ, zero, suc, ◌+◌, ◌*◌, get_or, List, [], ◌∷◌, Option, Some, ℤ, pos, refl, sym, ap, ◌∙◌, arith, IsTrue}
 use Rattle.std.specs.Prelude.{slice_get, ◌==◌}
 use Rattle.std.specs.List.{find}
-use Rattle.svc_base.specs.Text.{text_of_number, text_of_amount, text_of_day, text_of_month, IsReadAmount, IsReadMonth, IsCivilMonth, IsCivilDay}
+use Rattle.svc_base.specs.Text.{text_of_number, text_of_day, text_of_month, IsReadMonth}
 use Rattle.svc_base.specs.Calendar.{IsReadDay}
 use Rattle.svc_base.proofs.TextLemmas.{number_injective, amount_injective, day_injective, month_injective}
 use Rattle.svc_types.specs.declared.account.Designation.{Designation}

@@ -1,6 +1,6 @@
 -- Values in the places of their fields.
-use Rattle.std.proofs.Common.{◌≡◌, ℕ, zero, suc, ◌+◌, List, [], ◌∷◌, Option, Some, None, Bool, true, false, ◌∙◌, refl, ap, sym, subst, arith, IsTrue}
-use Rattle.std.specs.Prelude.{slice_get, if◌then◌else◌, option_and_then}
+use Rattle.std.proofs.Common.{◌≡◌, ℕ, suc, List, [], ◌∷◌, Option, Some, None, true, false, ◌∙◌, refl, ap, subst}
+use Rattle.std.specs.Prelude.{slice_get, if◌then◌else◌}
 use Rattle.svc_types.specs.declared.account.Designation.{Designation}
 use Rattle.svc_types.specs.declared.account.Designation.TheVariants as over
 use Rattle.svc_forms.specs.declared.field.Field.{Field}
@@ -9,7 +9,7 @@ use Rattle.svc_forms.specs.declared.value.Value.TheVariants as value
 use Rattle.svc_forms.specs.declared.field.FieldKind.{FieldKind}
 use Rattle.svc_forms.specs.declared.value.Value.{Value}
 use Rattle.svc_forms.specs.Fields.{kind_of_field, is_optional}
-use Rattle.svc_forms.specs.Values.{kind_of, IsValueOf, FitsField, AreValuesOf, StandsAt, IsOver}
+use Rattle.svc_forms.specs.Values.{IsValueOf, FitsField, AreValuesOf, StandsAt, IsOver}
 use Rattle.svc_forms.specs.Forms.{fields_of, values_of_designation}
 
 -- the kind that a field asks for where it may not be left out

@@ -1,5 +1,5 @@
 -- The table of forms: each one's word and its fields; and which form a request has, with which values.
-use Rattle.std.specs.Prelude.{ℕ, List, [], ◌∷◌, ◌++◌, codes}
+use Rattle.std.specs.Prelude.{ℕ, List, [], ◌∷◌, codes}
 use Rattle.svc_types.specs.declared.account.Designation.{Designation}
 use Rattle.svc_types.specs.declared.account.Designation.TheVariants as over
 use Rattle.svc_types.specs.declared.requests.Command.{Command}

@@ -1,10 +1,8 @@
 use crate::*;
 use std::process::Abort;
 use std::test::Fail;
-use svc_base::{Day, Month};
-use svc_types::{
-    Command, Designation, LineKind, PartPlan, Plan, Query, RemitType, SurplusPlan, Terms,
-};
+use svc_base::{Month, first_day};
+use svc_types::{Designation, LineKind, PartPlan, RemitType, SurplusPlan};
 
 fn has_names(rt: &impl Abort, fields: &[Field], names: &[&str]) {
     assert_eq!(rt; fields.len(), names.len());
@@ -111,8 +109,8 @@ fn each_kind_of_value_is_read(rt: HostRuntime) {
         (FieldKind::Amount, b"100000000000.00", None),
         (
             FieldKind::Day,
-            b"2024-01-31",
-            Some(Value::Day(Day::new(january, 31))),
+            b"2024-01-01",
+            Some(Value::Day(first_day(january))),
         ),
         (FieldKind::Day, b"2024-02-30", None),
         (FieldKind::Month, b"2024-01", Some(Value::Month(january))),
