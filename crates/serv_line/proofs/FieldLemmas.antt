@@ -35,7 +35,7 @@ texts-push (w ∷ values) v = ap (λ (ts : List (List ℕ)). text_of_value w ∷
 
 -- ---- a value that fits has a word that fits
 
-fits_text : (f : Option Field) (v : Option Value) → FitsField f v → FitsWord f (option_map text_of_value v)
+pub fits_text : (f : Option Field) (v : Option Value) → FitsField f v → FitsWord f (option_map text_of_value v)
 fits_text None None h = tt
 fits_text None (Some v) h = absurd h
 fits_text (Some f) None h = h

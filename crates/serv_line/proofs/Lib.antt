@@ -1,2 +1,4 @@
 pub mod WordLemmas
 pub mod FieldLemmas
+pub mod FaultLemmas
+pub mod LineLemmas
