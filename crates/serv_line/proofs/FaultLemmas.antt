@@ -38,17 +38,17 @@ opening_misfit first words left not e =
 pub no_name : (first : List ℕ) → IsOpening first → IsLeftAt (Fits (first ∷ [])) (first ∷ []) 0
 no_name first opening =
     record { place = 1; first = record { before = before; here = λ h. h }; bytes = refl } where
-  before : (k : ℕ) → k < 1 → Fits (first ∷ []) k
-  before zero h = opening
-  before (suc k) h = absurd (omega arith)
+      before : (k : ℕ) → k < 1 → Fits (first ∷ []) k
+      before zero h = opening
+      before (suc k) h = absurd (omega arith)
 
 pub name_misfit : (first name : List ℕ) (words : List (List ℕ)) (left : ℕ) → IsOpening first → (NamesForm first name → ⊥) → left ≡ length (joined (name ∷ words))
     → IsLeftAt (Fits (first ∷ name ∷ words)) (first ∷ name ∷ words) left
 name_misfit first name words left opening not e =
     record { place = 1; first = record { before = before; here = not }; bytes = e } where
-  before : (k : ℕ) → k < 1 → Fits (first ∷ name ∷ words) k
-  before zero h = opening
-  before (suc k) h = absurd (omega arith)
+      before : (k : ℕ) → k < 1 → Fits (first ∷ name ∷ words) k
+      before zero h = opening
+      before (suc k) h = absurd (omega arith)
 
 pub fields_misfit : (first name : List ℕ) (fields : List Field) (words : List (List ℕ)) (left : ℕ) → IsOpening first → Names first name fields
     → ((g : List Field) → Names first name g → g ≡ fields) → IsLeftAt (λ k. FitsWord (slice_get fields k) (slice_get words k)) words left
@@ -62,10 +62,10 @@ fields_misfit first name fields words left opening named one l =
       };
       bytes = l.bytes;
     } where
-  before : (k : ℕ) → k < suc (suc l.place) → Fits (first ∷ name ∷ words) k
-  before zero h = opening
-  before (suc zero) h = record { fields = fields; named = named }
-  before (suc (suc k)) h = record { fields = fields; named = named; fits = l.first.before k (omega arith) }
+      before : (k : ℕ) → k < suc (suc l.place) → Fits (first ∷ name ∷ words) k
+      before zero h = opening
+      before (suc zero) h = record { fields = fields; named = named }
+      before (suc (suc k)) h = record { fields = fields; named = named; fits = l.first.before k (omega arith) }
 
 -- ---- commands
 
@@ -77,11 +77,11 @@ pub command_name_misfit : (key : List ℕ) (text : Bor (List ℕ)) (name : List 
 command_name_misfit key text name rest k split none =
     let P : List (List ℕ) → Type 0 = λ ws. IsLeftAt (Fits (key ∷ ws)) (key ∷ ws) (length text.now) in
     subst P (sym split) (name_misfit key name (words_left rest) (length text.now) (inr k) unnamed (ap length (sym (split_joined text.now) ∙ ap joined split))) where
-  unnamed : NamesForm key name → ⊥
-  unnamed h = no_form h.fields h.named where
-    no_form : (g : List Field) → Names key name g → ⊥
-    no_form g (command f k' e) = none f e
-    no_form g (query q e' e) = not_key key e' k
+      unnamed : NamesForm key name → ⊥
+      unnamed h = no_form h.fields h.named where
+        no_form : (g : List Field) → Names key name g → ⊥
+        no_form g (command f k' e) = none f e
+        no_form g (query q e' e) = not_key key e' k
 
 pub command_fields_misfit : (key : List ℕ) (words : List (List ℕ)) (name : List ℕ) (rest : Option (Bor (List ℕ))) (f : Form) (left : ℕ) → IsKey key
     → words ≡ name ∷ words_left rest → name ≡ word_of f
@@ -102,11 +102,11 @@ pub query_name_misfit : (text : Bor (List ℕ)) (name : List ℕ) (rest : Option
 query_name_misfit text name rest split none =
     let P : List (List ℕ) → Type 0 = λ ws. IsLeftAt (Fits (codes "?" ∷ ws)) (codes "?" ∷ ws) (length text.now) in
     subst P (sym split) (name_misfit (codes "?") name (words_left rest) (length text.now) (inl refl) unnamed (ap length (sym (split_joined text.now) ∙ ap joined split))) where
-  unnamed : NamesForm (codes "?") name → ⊥
-  unnamed h = no_form h.fields h.named where
-    no_form : (g : List Field) → Names (codes "?") name g → ⊥
-    no_form g (command f k e) = no_key k
-    no_form g (query q e' e) = none q e
+      unnamed : NamesForm (codes "?") name → ⊥
+      unnamed h = no_form h.fields h.named where
+        no_form : (g : List Field) → Names (codes "?") name g → ⊥
+        no_form g (command f k e) = no_key k
+        no_form g (query q e' e) = none q e
 
 pub query_fields_misfit : (words : List (List ℕ)) (name : List ℕ) (rest : Option (Bor (List ℕ))) (q : Question) (left : ℕ)
     → words ≡ name ∷ words_left rest → name ≡ word_of_question q

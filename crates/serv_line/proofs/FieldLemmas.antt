@@ -67,7 +67,7 @@ read_one fields words i values text f v after r e is split =
     let step : length values ≡ i = in_step fields words i values text r in
     let long : length (values ++ v ∷ []) ≡ length values + 1 = omega (arith, length-append values (v ∷ [])) in
     let joined_so : words ≡ (map text_of_value values ++ text_of_value v ∷ []) ++ words_left after =
-        r.so_far ∙ ap (λ (ws : List (List ℕ)). map text_of_value values ++ ws) split ∙ sym (append_assoc (map text_of_value values) (text_of_value v ∷ []) (words_left after)) in
+    r.so_far ∙ ap (λ (ws : List (List ℕ)). map text_of_value values ++ ws) split ∙ sym (append_assoc (map text_of_value values) (text_of_value v ∷ []) (words_left after)) in
     record {
       so_far = joined_so ∙ ap (λ (ws : List (List ℕ)). ws ++ words_left after) (sym (texts-push values v));
       count = omega arith;
@@ -112,7 +112,7 @@ word_at fields words i values rest k r h =
     elim (cases_lt k (length values)) [
       | inl inside ↦
           let front : slice_get (map text_of_value values ++ words_left rest) k ≡ slice_get (map text_of_value values) k =
-              get_front (map text_of_value values) (words_left rest) k (omega (arith, length-texts values)) in
+          get_front (map text_of_value values) (words_left rest) k (omega (arith, length-texts values)) in
           ap (λ (ws : List (List ℕ)). slice_get ws k) r.so_far ∙ front ∙ slice_get-map text_of_value values k
       | inr past ↦
           elim r.all [
@@ -134,9 +134,9 @@ next_at : (fields : List Field) (words : List (List ℕ)) (i : ℕ) (values : Li
 next_at fields words i values text r =
     let step : length (map text_of_value values) ≡ i = length-texts values ∙ in_step fields words i values text r in
     let seam : slice_get (map text_of_value values ++ words_of text.now) i ≡ slice_get (words_of text.now) 0 =
-        ap (slice_get (map text_of_value values ++ words_of text.now)) (sym step) ∙ get_seam (map text_of_value values) (words_of text.now) in
+    ap (slice_get (map text_of_value values ++ words_of text.now)) (sym step) ∙ get_seam (map text_of_value values) (words_of text.now) in
     let rest : drop i (map text_of_value values ++ words_of text.now) ≡ words_of text.now =
-        ap (λ (n : ℕ). drop n (map text_of_value values ++ words_of text.now)) (sym step) ∙ drop-append_seam (map text_of_value values) (words_of text.now) in
+    ap (λ (n : ℕ). drop n (map text_of_value values ++ words_of text.now)) (sym step) ∙ drop-append_seam (map text_of_value values) (words_of text.now) in
     (ap (λ (ws : List (List ℕ)). slice_get ws i) r.so_far ∙ seam, ap (drop i) r.so_far ∙ rest)
 
 stops : (fields : List Field) (words : List (List ℕ)) (i : ℕ) (values : List Value) (text : Bor (List ℕ)) → Reading fields words i values (Some text)
@@ -196,11 +196,15 @@ pub are_read : (fields : List Field) (words : List (List ℕ)) (i : ℕ) (values
     → AreValuesOf fields values × (words ≡ map text_of_value values)
 are_read fields words i values r past =
     let none = none_left fields words i values r in
-    let count = r.count in
-    (record { each = λ k. elim (cases_lt k i) [
-        | inl below ↦ r.fit k below
-        | inr after ↦
-            let no_field : None ≡ slice_get fields k = sym (slice_get_past fields k (omega arith)) in
-            let no_value : None ≡ slice_get values k = sym (slice_get_past values k (omega arith)) in
-            subst (λ (g : Option Field). FitsField g (slice_get values k)) no_field (subst (λ (x : Option Value). FitsField None x) no_value tt)
-      ] }, none.0)
+    let count = r.count in (
+      record {
+        each = λ k. elim (cases_lt k i) [
+          | inl below ↦ r.fit k below
+          | inr after ↦
+              let no_field : None ≡ slice_get fields k = sym (slice_get_past fields k (omega arith)) in
+              let no_value : None ≡ slice_get values k = sym (slice_get_past values k (omega arith)) in
+              subst (λ (g : Option Field). FitsField g (slice_get values k)) no_field (subst (λ (x : Option Value). FitsField None x) no_value tt)
+        ];
+      },
+      none.0,
+    )

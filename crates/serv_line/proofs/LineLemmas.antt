@@ -227,6 +227,7 @@ request_words (request.Do key c) h =
     (key_word key h.0, (form_word (form_of c), fields_words (fields_of (form_of c)) (values_of c) (command_fits c h.1)))
 request_words (request.Ask q) h =
     (plain (codes "?") question_mark (omega arith), (question_word (question_of q), fields_words (fields_of_question (question_of q)) (values_of_query q) (query_fits q h)))
+
 -- the words of a request's line
 pub line_words : (r : Request) → IsRequest r → words_of (line_of r) ≡ words_of_request r
 unfolding line_of

@@ -9,7 +9,7 @@ use Rattle.serv_line.proofs.FaultLemmas.{query_name_misfit, query_fields_misfit}
 use Rattle.serv_line.proofs.reading.read_query.Goals as goal
 
 pub returns-in_default-question_named-clause-fault : goal.returns-in_default-question_named-clause-fault
-returns-in_default-question_named-clause-fault c = 
+returns-in_default-question_named-clause-fault c =
     let P : Option (Bor (List ℕ)) → Type 0 = λ w. IsLeftAt (Fits ((63 ∷ []) ∷ words_left w)) ((63 ∷ []) ∷ words_left w) (length c.in-Some.text.now) in
     subst P (sym c.in-Some.is) (query_name_misfit c.in-Some.text c.next_word.result.0.now c.next_word.result.1 c.next_word.ensures c.in_default-question_named.ensures.none)
 
