@@ -2,3 +2,4 @@ pub mod WordLemmas
 pub mod FieldLemmas
 pub mod FaultLemmas
 pub mod LineLemmas
+pub mod TextLemmas

@@ -1,9 +1,10 @@
 -- The line of a request: its words with single spaces between them.
 use Rattle.std.specs.Prelude.{ℕ, ◌==◌, Bool, List, [], ◌∷◌, Option, Some, None, map, codes}
 use Rattle.std.specs.Borrow.{Bor}
-use Rattle.std.specs.List.{slice_split, join_with_byte}
+use Rattle.std.specs.List.{slice_split, join_with_byte, flat_map}
 use Rattle.svc_types.specs.declared.requests.Request.{Request}
 use Rattle.svc_types.specs.declared.requests.Request.TheVariants as request
+use Rattle.svc_forms.specs.declared.value.Value.{Value}
 use Rattle.svc_forms.specs.Values.{text_of_value}
 use Rattle.svc_forms.specs.Forms.{word_of, form_of, values_of, word_of_question, question_of, values_of_query}
 
@@ -23,6 +24,10 @@ words_of_request (request.Ask q) = codes "?" ∷ word_of_question (question_of q
 -- the line of a request
 unfoldable pub line_of : Request → List ℕ
 line_of r = joined (words_of_request r)
+
+-- values in a line, a space before each
+abbrev pub text_of_values : List Value → List ℕ
+text_of_values values = flat_map (λ v. 32 ∷ text_of_value v) values
 
 -- the words of what is left of a line; none are left after its last word
 abbrev pub words_left : Option (Bor (List ℕ)) → List (List ℕ)

@@ -10,14 +10,27 @@ use Rattle.svc_types.specs.declared.replies.Reply.{Reply}
 abbrev pub ended : List ℕ → List ℕ
 ended text = text ++ (10 ∷ [])
 
--- what an analysis found and settled
-unfoldable pub text_of_figures : Figures → List ℕ
-text_of_figures f =
+-- what an analysis found
+unfoldable pub text_of_found : Figures → List ℕ
+text_of_found f =
     codes " base " ++ text_of_amount f.base ++ codes " cushion " ++ text_of_amount f.cushion
     ++ codes " opening " ++ text_of_amount f.opening ++ codes " balance " ++ text_of_signed f.balance
-    ++ codes " surplus " ++ text_of_amount f.surplus ++ codes " short " ++ text_of_amount f.short
-    ++ codes " deficient " ++ text_of_amount f.deficient ++ codes " refund " ++ text_of_amount f.refund
-    ++ codes " within30 " ++ text_of_amount f.within30 ++ codes " pay " ++ text_of_amount f.pay
+
+-- the parts that it has
+unfoldable pub text_of_parts : Figures → List ℕ
+text_of_parts f =
+    codes " surplus " ++ text_of_amount f.surplus ++ codes " short " ++ text_of_amount f.short
+    ++ codes " deficient " ++ text_of_amount f.deficient
+
+-- what it settled
+unfoldable pub text_of_settled : Figures → List ℕ
+text_of_settled f =
+    codes " refund " ++ text_of_amount f.refund ++ codes " within30 " ++ text_of_amount f.within30
+    ++ codes " pay " ++ text_of_amount f.pay
+
+-- all of an analysis
+abbrev pub text_of_figures : Figures → List ℕ
+text_of_figures f = text_of_found f ++ text_of_parts f ++ text_of_settled f
 
 -- what an accepted command found
 abbrev pub text_of_extra : Extra → List ℕ

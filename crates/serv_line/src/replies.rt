@@ -2,7 +2,7 @@
 
 ghost use Rattle.std.specs.Prelude.{◌≡◌, ◌++◌, IfOk, OnOk};
 ghost use Rattle.svc_base.specs.Text.{text_of_amount, text_of_signed};
-ghost use Rattle.serv_line.specs.Replies.{text_of_bad, text_of_extra, text_of_figures, text_of_full, text_of_reply};
+ghost use Rattle.serv_line.specs.Replies.{text_of_bad, text_of_extra, text_of_figures, text_of_found, text_of_full, text_of_parts, text_of_reply, text_of_settled};
 
 use crate::pushing::{push_amount, push_balance, push_bytes, push_number, push_wide};
 use std::alloc::Global;
@@ -91,18 +91,41 @@ fn push_extra(out: &mut Vec<u8>, extra: &Extra) -> Result<(), OutOfMemory>
     }
 }
 
-/// What an analysis found and settled.
-#[tactic(auto, unfolding(crate::specs::Replies::text_of_figures))]
+/// All of an analysis.
 fn push_figures(out: &mut Vec<u8>, figures: &Figures) -> Result<(), OutOfMemory>
     ensures { OnOk result (out.new.items ≡ out.old.items ++ text_of_figures figures.now) }
+{
+    push_found(out, figures)?;
+    push_parts(out, figures)?;
+    push_settled(out, figures)
+}
+
+/// What an analysis found.
+#[tactic(auto, unfolding(crate::specs::Replies::text_of_found))]
+fn push_found(out: &mut Vec<u8>, figures: &Figures) -> Result<(), OutOfMemory>
+    ensures { OnOk result (out.new.items ≡ out.old.items ++ text_of_found figures.now) }
 {
     push_field(out, b" base ", figures.base)?;
     push_field(out, b" cushion ", figures.cushion)?;
     push_field(out, b" opening ", figures.opening)?;
-    push_signed_field(out, b" balance ", figures.balance)?;
+    push_signed_field(out, b" balance ", figures.balance)
+}
+
+/// The parts that an analysis has.
+#[tactic(auto, unfolding(crate::specs::Replies::text_of_parts))]
+fn push_parts(out: &mut Vec<u8>, figures: &Figures) -> Result<(), OutOfMemory>
+    ensures { OnOk result (out.new.items ≡ out.old.items ++ text_of_parts figures.now) }
+{
     push_field(out, b" surplus ", figures.surplus)?;
     push_field(out, b" short ", figures.short)?;
-    push_field(out, b" deficient ", figures.deficient)?;
+    push_field(out, b" deficient ", figures.deficient)
+}
+
+/// What an analysis settled.
+#[tactic(auto, unfolding(crate::specs::Replies::text_of_settled))]
+fn push_settled(out: &mut Vec<u8>, figures: &Figures) -> Result<(), OutOfMemory>
+    ensures { OnOk result (out.new.items ≡ out.old.items ++ text_of_settled figures.now) }
+{
     push_field(out, b" refund ", figures.refund)?;
     push_field(out, b" within30 ", figures.within30)?;
     push_field(out, b" pay ", figures.pay)
