@@ -16,3 +16,8 @@ pub joined_texts : (out first word : List ℕ) (values : List Value) → (out ++
 joined_texts out first word values =
     append_assoc out (first ++ (32 ∷ word)) (text_of_values values)
     ∙ ap (λ (t : List ℕ). out ++ t) (append_assoc first (32 ∷ word) (text_of_values values) ∙ ap (λ (t : List ℕ). first ++ (32 ∷ t)) (sym (joined_values word values)))
+
+-- a name with a space on each side, and a text
+pub field_pushed : (out name text : List ℕ) → (out ++ ((32 ∷ name) ++ (32 ∷ []))) ++ text ≡ out ++ ((32 ∷ name) ++ (32 ∷ text))
+field_pushed out name text =
+    append_assoc out ((32 ∷ name) ++ (32 ∷ [])) text ∙ ap (λ (t : List ℕ). out ++ t) (append_assoc (32 ∷ name) (32 ∷ []) text)

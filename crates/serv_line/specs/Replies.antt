@@ -1,5 +1,5 @@
 -- The texts of replies. Each reply ends with a line feed.
-use Rattle.std.specs.Prelude.{ℕ, List, [], ◌∷◌, ◌++◌, codes}
+use Rattle.std.specs.Prelude.{ℕ, ℤ, List, [], ◌∷◌, ◌++◌, codes}
 use Rattle.svc_base.specs.Text.{text_of_number, text_of_amount, text_of_signed}
 use Rattle.svc_types.specs.declared.escrow.Figures.{Figures}
 use Rattle.svc_types.specs.declared.replies.Extra.{Extra}
@@ -10,23 +10,33 @@ use Rattle.svc_types.specs.declared.replies.Reply.{Reply}
 abbrev pub ended : List ℕ → List ℕ
 ended text = text ++ (10 ∷ [])
 
+-- a name and what it names, a space before each: a number, an amount, and an amount that may be below zero
+unfoldable pub number_field : List ℕ → ℕ → List ℕ
+number_field name n = (32 ∷ name) ++ (32 ∷ text_of_number n)
+
+unfoldable pub amount_field : List ℕ → ℤ → List ℕ
+amount_field name z = (32 ∷ name) ++ (32 ∷ text_of_amount z)
+
+unfoldable pub signed_field : List ℕ → ℤ → List ℕ
+signed_field name z = (32 ∷ name) ++ (32 ∷ text_of_signed z)
+
 -- what an analysis found
 unfoldable pub text_of_found : Figures → List ℕ
 text_of_found f =
-    codes " base " ++ text_of_amount f.base ++ codes " cushion " ++ text_of_amount f.cushion
-    ++ codes " opening " ++ text_of_amount f.opening ++ codes " balance " ++ text_of_signed f.balance
+    amount_field (codes "base") f.base ++ amount_field (codes "cushion") f.cushion
+    ++ amount_field (codes "opening") f.opening ++ signed_field (codes "balance") f.balance
 
 -- the parts that it has
 unfoldable pub text_of_parts : Figures → List ℕ
 text_of_parts f =
-    codes " surplus " ++ text_of_amount f.surplus ++ codes " short " ++ text_of_amount f.short
-    ++ codes " deficient " ++ text_of_amount f.deficient
+    amount_field (codes "surplus") f.surplus ++ amount_field (codes "short") f.short
+    ++ amount_field (codes "deficient") f.deficient
 
 -- what it settled
 unfoldable pub text_of_settled : Figures → List ℕ
 text_of_settled f =
-    codes " refund " ++ text_of_amount f.refund ++ codes " within30 " ++ text_of_amount f.within30
-    ++ codes " pay " ++ text_of_amount f.pay
+    amount_field (codes "refund") f.refund ++ amount_field (codes "within30") f.within30
+    ++ amount_field (codes "pay") f.pay
 
 -- all of an analysis
 abbrev pub text_of_figures : Figures → List ℕ
@@ -37,9 +47,9 @@ abbrev pub text_of_extra : Extra → List ℕ
 text_of_extra extra.Plain = []
 text_of_extra (extra.Analysed f) = text_of_figures f
 text_of_extra (extra.Closed lines interest principal) =
-    codes " lines " ++ text_of_number lines ++ codes " interest " ++ text_of_signed interest
-    ++ codes " principal " ++ text_of_signed principal
-text_of_extra (extra.Remitted net) = codes " net " ++ text_of_signed net
+    number_field (codes "lines") lines ++ signed_field (codes "interest") interest
+    ++ signed_field (codes "principal") principal
+text_of_extra (extra.Remitted net) = signed_field (codes "net") net
 
 -- the reply to an accepted command
 unfoldable pub text_of_reply : Reply → List ℕ

@@ -1,6 +1,6 @@
 //! The texts of refusals.
 
-ghost use Rattle.std.specs.Prelude.{◌≡◌, ◌++◌, ◌∷◌, IfOk, OnOk, codes};
+ghost use Rattle.std.specs.Prelude.{◌≡◌, ◌++◌, ◌∷◌, IfOk, OnOk};
 ghost use Rattle.svc_base.specs.Text.{text_of_number, text_of_amount};
 ghost use Rattle.serv_line.specs.Refusals.{code_of, name_of_refusal, text_of_cause, text_of_closed, text_of_limit, text_of_line_why, text_of_plan_fault, text_of_plan_part, text_of_refusal, text_of_term_fault};
 
@@ -233,7 +233,7 @@ fn push_plan_fault(out: &mut Vec<u8>, fault: &PlanFault) -> Result<(), OutOfMemo
         PlanFault::MustSpread(PlanPart::Deficient) => push_bytes(out, b" 3 MustSpread Deficient"),
         PlanFault::TooFewMonths(months) => push_months(out, b" 4 TooFewMonths ", *months),
         PlanFault::TooManyMonths(months) => push_months(out, b" 5 TooManyMonths ", *months),
-        PlanFault::NothingToPlan(part) => push_nothing(out, *part),
+        PlanFault::NothingToPlan(part) => push_part(out, b" 6 NothingToPlan ", *part),
     }
 }
 
@@ -245,10 +245,10 @@ fn push_months(out: &mut Vec<u8>, name: &[u8], months: u32) -> Result<(), OutOfM
     push_number(out, months)
 }
 
-/// Appends a space, and that there is nothing to plan for.
-fn push_nothing(out: &mut Vec<u8>, part: PlanPart) -> Result<(), OutOfMemory>
-    ensures { OnOk result (out.new.items ≡ out.old.items ++ (codes " 6 NothingToPlan " ++ text_of_plan_part part)) }
+/// Appends a name and a part of an analysis.
+fn push_part(out: &mut Vec<u8>, name: &[u8], part: PlanPart) -> Result<(), OutOfMemory>
+    ensures { OnOk result (out.new.items ≡ out.old.items ++ (name.now ++ text_of_plan_part part)) }
 {
-    push_bytes(out, b" 6 NothingToPlan ")?;
+    push_bytes(out, name)?;
     push_bytes(out, plan_part_text(part))
 }

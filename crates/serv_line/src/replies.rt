@@ -1,8 +1,7 @@
 //! The texts of replies.
 
-ghost use Rattle.std.specs.Prelude.{◌≡◌, ◌++◌, IfOk, OnOk};
-ghost use Rattle.svc_base.specs.Text.{text_of_amount, text_of_signed};
-ghost use Rattle.serv_line.specs.Replies.{text_of_bad, text_of_extra, text_of_figures, text_of_found, text_of_full, text_of_parts, text_of_reply, text_of_settled};
+ghost use Rattle.std.specs.Prelude.{◌≡◌, ◌++◌, ◌∷◌, [], IfOk, OnOk};
+ghost use Rattle.serv_line.specs.Replies.{amount_field, number_field, signed_field, text_of_bad, text_of_extra, text_of_figures, text_of_found, text_of_full, text_of_parts, text_of_reply, text_of_settled};
 
 use crate::pushing::{push_amount, push_balance, push_bytes, push_number, push_wide};
 use std::alloc::Global;
@@ -82,12 +81,11 @@ fn push_extra(out: &mut Vec<u8>, extra: &Extra) -> Result<(), OutOfMemory>
             interest,
             principal,
         } => {
-            push_bytes(out, b" lines ")?;
-            push_number(out, *lines)?;
-            push_signed_field(out, b" interest ", *interest)?;
-            push_signed_field(out, b" principal ", *principal)
+            push_number_field(out, b"lines", *lines)?;
+            push_signed_field(out, b"interest", *interest)?;
+            push_signed_field(out, b"principal", *principal)
         }
-        Extra::Remitted { net } => push_signed_field(out, b" net ", *net),
+        Extra::Remitted { net } => push_signed_field(out, b"net", *net),
     }
 }
 
@@ -105,10 +103,10 @@ fn push_figures(out: &mut Vec<u8>, figures: &Figures) -> Result<(), OutOfMemory>
 fn push_found(out: &mut Vec<u8>, figures: &Figures) -> Result<(), OutOfMemory>
     ensures { OnOk result (out.new.items ≡ out.old.items ++ text_of_found figures.now) }
 {
-    push_field(out, b" base ", figures.base)?;
-    push_field(out, b" cushion ", figures.cushion)?;
-    push_field(out, b" opening ", figures.opening)?;
-    push_signed_field(out, b" balance ", figures.balance)
+    push_field(out, b"base", figures.base)?;
+    push_field(out, b"cushion", figures.cushion)?;
+    push_field(out, b"opening", figures.opening)?;
+    push_signed_field(out, b"balance", figures.balance)
 }
 
 /// The parts that an analysis has.
@@ -116,9 +114,9 @@ fn push_found(out: &mut Vec<u8>, figures: &Figures) -> Result<(), OutOfMemory>
 fn push_parts(out: &mut Vec<u8>, figures: &Figures) -> Result<(), OutOfMemory>
     ensures { OnOk result (out.new.items ≡ out.old.items ++ text_of_parts figures.now) }
 {
-    push_field(out, b" surplus ", figures.surplus)?;
-    push_field(out, b" short ", figures.short)?;
-    push_field(out, b" deficient ", figures.deficient)
+    push_field(out, b"surplus", figures.surplus)?;
+    push_field(out, b"short", figures.short)?;
+    push_field(out, b"deficient", figures.deficient)
 }
 
 /// What an analysis settled.
@@ -126,23 +124,43 @@ fn push_parts(out: &mut Vec<u8>, figures: &Figures) -> Result<(), OutOfMemory>
 fn push_settled(out: &mut Vec<u8>, figures: &Figures) -> Result<(), OutOfMemory>
     ensures { OnOk result (out.new.items ≡ out.old.items ++ text_of_settled figures.now) }
 {
-    push_field(out, b" refund ", figures.refund)?;
-    push_field(out, b" within30 ", figures.within30)?;
-    push_field(out, b" pay ", figures.pay)
+    push_field(out, b"refund", figures.refund)?;
+    push_field(out, b"within30", figures.within30)?;
+    push_field(out, b"pay", figures.pay)
 }
 
-/// A word with a space on each side, and an amount.
-fn push_field(out: &mut Vec<u8>, name: &[u8], amount: Cents) -> Result<(), OutOfMemory>
-    ensures { OnOk result (out.new.items ≡ out.old.items ++ name.now ++ text_of_amount amount) }
+/// A name with a space on each side.
+fn push_name(out: &mut Vec<u8>, name: &[u8]) -> Result<(), OutOfMemory>
+    ensures { OnOk result (out.new.items ≡ out.old.items ++ ((32 ∷ name.now) ++ (32 ∷ []))) }
 {
+    push_bytes(out, b" ")?;
     push_bytes(out, name)?;
+    push_bytes(out, b" ")
+}
+
+/// A name and a number.
+#[tactic(auto, using(crate::proofs::TextLemmas::field_pushed), unfolding(crate::specs::Replies::number_field))]
+fn push_number_field(out: &mut Vec<u8>, name: &[u8], number: u32) -> Result<(), OutOfMemory>
+    ensures { OnOk result (out.new.items ≡ out.old.items ++ number_field name.now number) }
+{
+    push_name(out, name)?;
+    push_number(out, number)
+}
+
+/// A name and an amount.
+#[tactic(auto, using(crate::proofs::TextLemmas::field_pushed), unfolding(crate::specs::Replies::amount_field))]
+fn push_field(out: &mut Vec<u8>, name: &[u8], amount: Cents) -> Result<(), OutOfMemory>
+    ensures { OnOk result (out.new.items ≡ out.old.items ++ amount_field name.now amount) }
+{
+    push_name(out, name)?;
     push_amount(out, amount)
 }
 
-/// A word with a space on each side, and an amount that may be below zero.
+/// A name and an amount that may be below zero.
+#[tactic(auto, using(crate::proofs::TextLemmas::field_pushed), unfolding(crate::specs::Replies::signed_field))]
 fn push_signed_field(out: &mut Vec<u8>, name: &[u8], amount: Cents) -> Result<(), OutOfMemory>
-    ensures { OnOk result (out.new.items ≡ out.old.items ++ name.now ++ text_of_signed amount) }
+    ensures { OnOk result (out.new.items ≡ out.old.items ++ signed_field name.now amount) }
 {
-    push_bytes(out, name)?;
+    push_name(out, name)?;
     push_balance(out, amount)
 }
