@@ -1,6 +1,7 @@
 -- Where a line goes wrong: at its opening, at its form's word, or in the fields of its form.
-use Rattle.std.proofs.Common.{◌≡◌, ◌≢◌, ℕ, zero, suc, ◌+◌, ◌-◌, ◌<◌, ◌≤◌, ◌⊎◌, inl, inr, List, [], ◌∷◌, length, drop, Option, Some, None, true, false, refl, sym, ap, subst, ◌∙◌, arith, length-append}
+use Rattle.std.proofs.Common.{◌≡◌, ◌≢◌, ℕ, zero, suc, ◌-◌, ◌<◌, ◌≤◌, inl, inr, List, [], ◌∷◌, length, drop, Option, true, false, refl, sym, ap, subst, ◌∙◌, arith, length-append}
 use Rattle.std.specs.Prelude.{slice_get, codes}
+use Rattle.std.proofs.lemmas.Bool.{cases_lt}
 use Rattle.std.specs.Borrow.{Bor}
 use Rattle.svc_types.specs.Keys.{IsKey}
 use Rattle.svc_forms.specs.declared.field.Field.{Field}
@@ -9,7 +10,7 @@ use Rattle.svc_forms.specs.declared.form.Question.{Question}
 use Rattle.svc_forms.specs.Forms.{word_of, fields_of, word_of_question, fields_of_question}
 use Rattle.svc_forms.proofs.RequestLemmas.{same_form, same_question}
 use Rattle.serv_line.specs.Lines.{joined, words_of, words_left}
-use Rattle.serv_line.specs.LineFaults.{longest_line, IsOpening, Names, command, query, FitsWord, FitsForm, NamesForm, Fits, IsFirstMisfit, IsLeftAt, IsFault, too_long, misfit, place_of}
+use Rattle.serv_line.specs.LineFaults.{IsOpening, Names, command, query, FitsWord, NamesForm, Fits, IsFirstMisfit, IsLeftAt, IsFault, too_long, misfit, place_of}
 use Rattle.serv_line.proofs.WordLemmas.{split_joined}
 
 -- `?` is no key
@@ -140,3 +141,18 @@ left_short line left l =
     let part = ends_short l.place (words_of line) in
     let bytes = l.bytes in
     omega arith
+
+-- ---- a line has one fault at most
+
+one_misfit : (fits : ℕ → Type 0) (i j : ℕ) → IsFirstMisfit fits i → IsFirstMisfit fits j → i ≡ j
+one_misfit fits i j p q =
+    elim (cases_lt i j) [
+      | inl below ↦ absurd (p.here (q.before i below))
+      | inr le ↦ elim (cases_lt j i) [ inl above ↦ absurd (q.here (p.before j above)) | inr ge ↦ omega arith ]
+    ]
+
+pub one_fault : (line : List ℕ) (p q : ℕ) → IsFault line p → IsFault line q → p ≡ q
+one_fault line p q (too_long h) (too_long k) = refl
+one_fault line p q (too_long h) (misfit j short g) = absurd (omega arith)
+one_fault line p q (misfit i short f) (too_long h) = absurd (omega arith)
+one_fault line p q (misfit i short f) (misfit j short' g) = ap (place_of line) (one_misfit (Fits (words_of line)) i j f g)

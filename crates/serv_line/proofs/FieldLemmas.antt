@@ -1,5 +1,5 @@
 -- Reading fields one after the other: what is read so far, and where it stops.
-use Rattle.std.proofs.Common.{◌≡◌, ◌≢◌, ℕ, zero, suc, ◌+◌, ◌<◌, ◌≤◌, ◌⊎◌, inl, inr, List, [], ◌∷◌, ◌++◌, length, drop, Option, Some, None, Bool, true, false, IsTrue, refl, sym, ap, subst, ◌∙◌, arith, append_assoc, length-append, length-drop}
+use Rattle.std.proofs.Common.{◌≡◌, ◌≢◌, ℕ, zero, suc, ◌+◌, ◌<◌, ◌≤◌, ◌⊎◌, inl, inr, List, [], ◌∷◌, ◌++◌, length, drop, Option, Some, None, true, false, refl, sym, ap, subst, ◌∙◌, arith, append_assoc, length-append, length-drop}
 use Rattle.std.specs.Prelude.{map, slice_get, option_map}
 use Rattle.std.specs.Borrow.{Bor}
 use Rattle.std.proofs.lemmas.Bool.{cases_lt}
@@ -9,9 +9,9 @@ use Rattle.std.proofs.Math.Seq.{drop-append_seam}
 use Rattle.svc_forms.specs.declared.field.Field.{Field}
 use Rattle.svc_forms.specs.declared.value.Value.{Value}
 use Rattle.svc_forms.specs.Fields.{kind_of_field, is_optional}
-use Rattle.svc_forms.specs.Values.{text_of_value, IsValueOf, Spells, FitsField, AreValuesOf}
+use Rattle.svc_forms.specs.Values.{text_of_value, IsValueOf, FitsField, AreValuesOf}
 use Rattle.serv_line.specs.Lines.{joined, words_of, words_left}
-use Rattle.serv_line.specs.LineFaults.{FitsWord, IsFirstMisfit, IsLeftAt}
+use Rattle.serv_line.specs.LineFaults.{FitsWord, IsLeftAt}
 use Rattle.serv_line.proofs.WordLemmas.{of_words, split_joined}
 
 -- ---- lists

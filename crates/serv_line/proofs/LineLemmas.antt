@@ -1,7 +1,7 @@
 -- The line of a request is told by the request, and tells it.
-use Rattle.std.proofs.Common.{◌≡◌, ◌≢◌, ℕ, zero, suc, ◌+◌, ◌-◌, ◌*◌, ◌/◌, ◌%◌, ◌^◌, ◌<◌, ◌≤◌, ◌⊎◌, inl, inr, List, [], ◌∷◌, ◌++◌, length, drop, Option, Some, None, Bool, true, false, cond, IsTrue, refl, sym, ap, subst, ◌∙◌, arith, length-append, ℤ, pos, negsuc, ◌≤ℤ◌, ◌<ℤ◌}
-use Rattle.std.specs.Prelude.{map, slice_get, option_map, codes, ◌==◌, ◌&&◌, not}
-use Rattle.std.specs.List.{slice_split, list_all, All}
+use Rattle.std.proofs.Common.{◌≡◌, ℕ, zero, suc, ◌+◌, ◌*◌, ◌/◌, ◌%◌, ◌^◌, ◌<◌, ◌≤◌, inl, inr, List, [], ◌∷◌, ◌++◌, length, Option, Some, None, Bool, true, false, refl, sym, ap, subst, ◌∙◌, arith, length-append, ℤ, pos, negsuc, ◌≤ℤ◌, ◌<ℤ◌}
+use Rattle.std.specs.Prelude.{map, slice_get, codes, ◌==◌, ◌&&◌, not}
+use Rattle.std.specs.List.{list_all}
 use Rattle.std.proofs.lemmas.List.Splits.{slice_split_none, slice_split_at}
 use Rattle.std.proofs.lemmas.List.Elements.{All-cons, All-nil, All-append}
 use Rattle.std.proofs.lemmas.Option.{slice_get-map}
@@ -11,7 +11,7 @@ use Rattle.std.specs.Fmt.{decimal}
 use Rattle.svc_base.specs.Text.{text_of_number, text_of_cents, text_of_amount, text_of_month, text_of_day, IsReadAmount}
 use Rattle.svc_base.proofs.TextLemmas.{HasNoSpace, no_space_number, no_space_amount, no_space_month, no_space_day}
 use Rattle.svc_types.specs.Keys.{IsKey, is_key_byte}
-use Rattle.svc_types.specs.Requests.{IsCommand, IsQuery, IsRequest}
+use Rattle.svc_types.specs.Requests.{IsRequest}
 use Rattle.svc_types.specs.Words.{text_of_type, text_of_kind, text_of_surplus, text_of_part, text_of_designation, IsReadPart, IsNamed}
 use Rattle.svc_types.specs.declared.account.Designation.{Designation}
 use Rattle.svc_types.specs.declared.account.Designation.TheVariants as over
@@ -37,11 +37,11 @@ use Rattle.svc_forms.specs.declared.form.Question.TheVariants as question
 use Rattle.svc_forms.specs.declared.value.Value.{Value}
 use Rattle.svc_forms.specs.declared.value.Value.TheVariants as value
 use Rattle.svc_forms.specs.Fields.{kind_of_field}
-use Rattle.svc_forms.specs.Values.{text_of_value, IsReadValue, IsValueOf, FitsField, AreValuesOf}
-use Rattle.svc_forms.specs.Forms.{word_of, fields_of, form_of, values_of, values_of_designation, word_of_question, fields_of_question, question_of, values_of_query}
+use Rattle.svc_forms.specs.Values.{text_of_value, IsReadValue, FitsField, AreValuesOf}
+use Rattle.svc_forms.specs.Forms.{word_of, fields_of, form_of, values_of, word_of_question, fields_of_question, question_of, values_of_query}
 use Rattle.svc_forms.proofs.RequestLemmas.{command_fits, query_fits, same_command, same_query, same_form, same_question, same_value}
 use Rattle.serv_line.specs.Lines.{joined, words_of, words_of_request, line_of}
-use Rattle.serv_line.specs.LineFaults.{longest_line, Names, command, query, FitsWord, Fits, IsFault, too_long, misfit}
+use Rattle.serv_line.specs.LineFaults.{command, query, FitsWord, Fits, IsFault, too_long, misfit}
 use Rattle.serv_line.proofs.FieldLemmas.{fits_text}
 use Rattle.serv_line.proofs.FaultLemmas.{not_key}
 

@@ -1,6 +1,6 @@
 //! Reading the line of a request.
 
-ghost use Rattle.std.specs.Prelude.{◌≡◌, ◌∷◌, ℕ, List, map, IfOk, IfErr, Ok, codes};
+ghost use Rattle.std.specs.Prelude.{◌≡◌, ◌∷◌, ℕ, List, map, IfOk, IfErr, IsErrAnd, Ok, codes};
 ghost use Rattle.svc_types.specs.Keys.{IsKey};
 ghost use Rattle.svc_types.specs.Requests.{IsCommand, IsQuery, IsRequest};
 ghost use Rattle.svc_types.specs.declared.requests.Request as requests;
@@ -31,6 +31,7 @@ pub fn read_line(line: &[u8]) -> Result<Request, LineFault>
     ensures read { IfOk result (λ r. line.now ≡ line_of r) }
     ensures only { (r : requests.Request) → IsRequest r → line.now ≡ line_of r → result ≡ Ok r }
     ensures fault { IfErr result (λ fault. IsFault line.now fault.0) }
+    ensures faulty { (place : ℕ) → IsFault line.now place → IsErrAnd result (λ fault. fault.0 ≡ place) }
 {
     if line.len() > LONGEST_LINE {
         return Err(LineFault(LONGEST_LINE as u32));

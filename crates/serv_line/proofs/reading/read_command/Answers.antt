@@ -1,8 +1,7 @@
-use Rattle.std.proofs.Common.{◌≡◌, ◌∷◌, ℕ, List, Option, None, Some, subst, sym, ap, ◌∙◌}
+use Rattle.std.proofs.Common.{◌∷◌, ℕ, List, Option, subst, sym, ap, ◌∙◌}
 use Rattle.std.specs.Borrow.{Bor}
-use Rattle.std.specs.Prelude.{length, slice_get, IfErr}
+use Rattle.std.specs.Prelude.{length, slice_get}
 use Rattle.std.proofs.lemmas.Result.{err_from_is_err_and}
-use Rattle.svc_types.specs.Keys.{IsKey}
 use Rattle.svc_forms.specs.declared.field.Field.{Field}
 use Rattle.serv_line.specs.Lines.{words_left}
 use Rattle.serv_line.specs.LineFaults.{Fits, FitsWord, IsLeftAt}

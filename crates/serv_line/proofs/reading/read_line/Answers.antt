@@ -1,11 +1,8 @@
-use Rattle.std.proofs.Common.{◌≡◌, ◌-◌, ℕ, List, refl, subst, sym, ap, ◌∙◌, arith}
-use Rattle.std.specs.Prelude.{length, drop, Ok, Err}
-use Rattle.std.proofs.Common.{length-drop}
-use Rattle.svc_types.specs.Requests.{IsRequest}
-use Rattle.serv_line.specs.Lines.{joined, words_of, line_of}
-use Rattle.serv_line.specs.LineFaults.{IsFault, too_long}
+use Rattle.std.proofs.Common.{◌-◌, refl, sym, ap, ◌∙◌}
+use Rattle.std.specs.Prelude.{length, Ok}
+use Rattle.serv_line.specs.LineFaults.{too_long}
 use Rattle.serv_line.proofs.WordLemmas.{split_joined}
-use Rattle.serv_line.proofs.FaultLemmas.{line_misfit, left_short}
+use Rattle.serv_line.proofs.FaultLemmas.{line_misfit, left_short, one_fault}
 use Rattle.serv_line.proofs.LineLemmas.{no_fault, same_line, line_is}
 use Rattle.serv_line.proofs.reading.read_line.Goals as goal
 
@@ -34,3 +31,16 @@ pub returns-in-Err-clause-only : goal.returns-in-Err-clause-only
 returns-in-Err-clause-only c = λ r h e.
     absurd (no_fault r c.args.line.now (length c.args.line.now - c.in-Err.left) h e
     (line_misfit c.args.line.now c.in-Err.left (length c.args.line.now - c.in-Err.left) c.if-line-gt-LONGEST_LINE.false c.in-Err.ensures.fault refl))
+
+pub returns-then-line-gt-LONGEST_LINE-clause-faulty : goal.returns-then-line-gt-LONGEST_LINE-clause-faulty
+returns-then-line-gt-LONGEST_LINE-clause-faulty c = λ place h. one_fault c.args.line.now 512 place (too_long c.if-line-gt-LONGEST_LINE.true) h
+
+pub returns-in-Ok-clause-faulty : goal.returns-in-Ok-clause-faulty
+returns-in-Ok-clause-faulty c = λ place h.
+    let read = line_is c.args.line.now c.in-Ok.request (split_joined c.args.line.now) c.in-Ok.ensures.read in
+    absurd (no_fault c.in-Ok.request c.args.line.now place c.in-Ok.ensures.well read h)
+
+pub returns-in-Err-clause-faulty : goal.returns-in-Err-clause-faulty
+returns-in-Err-clause-faulty c = λ place h.
+    one_fault c.args.line.now (length c.args.line.now - c.in-Err.left) place
+    (line_misfit c.args.line.now c.in-Err.left (length c.args.line.now - c.in-Err.left) c.if-line-gt-LONGEST_LINE.false c.in-Err.ensures.fault refl) h

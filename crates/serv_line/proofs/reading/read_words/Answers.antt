@@ -1,8 +1,8 @@
-use Rattle.std.proofs.Common.{◌≡◌, ◌≢◌, ◌∷◌, [], ℕ, List, Option, None, Some, subst, sym, ap, ◌∙◌, inl, inr, ◌⊎◌}
-use Rattle.std.specs.Prelude.{length, codes, SomeIff}
+use Rattle.std.proofs.Common.{◌≢◌, ℕ, List, subst, sym, ap, ◌∙◌, inl, inr}
+use Rattle.std.specs.Prelude.{length, codes}
 use Rattle.std.specs.Cmp.Lexicographic.{other_text}
 use Rattle.svc_types.specs.Keys.{IsKey}
-use Rattle.serv_line.specs.Lines.{joined, words_left, words_of}
+use Rattle.serv_line.specs.Lines.{joined, words_left}
 use Rattle.serv_line.specs.LineFaults.{Fits, IsLeftAt, IsOpening}
 use Rattle.serv_line.proofs.WordLemmas.{split_joined}
 use Rattle.serv_line.proofs.FaultLemmas.{opening_misfit}
