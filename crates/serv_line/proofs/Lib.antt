@@ -1,0 +1,5 @@
+pub mod WordLemmas
+pub mod FieldLemmas
+pub mod FaultLemmas
+pub mod LineLemmas
+pub mod TextLemmas

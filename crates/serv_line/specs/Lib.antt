@@ -1,0 +1,4 @@
+pub mod Lines
+pub mod LineFaults
+pub mod Replies
+pub mod Refusals

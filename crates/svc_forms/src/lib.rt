@@ -1,0 +1,17 @@
+//! The forms of requests: each one's word and its fields, in the order in which a line has them.
+//! Request lines, JSON bodies and CSV rows share this table.
+#![tactic(auto)]
+
+mod building;
+mod field;
+mod form;
+mod places;
+mod value;
+
+pub use building::{command_of, query_of};
+pub use field::{Field, FieldKind};
+pub use form::{Form, MAX_FIELDS, Question, form_named, question_named};
+pub use value::{Value, read_value};
+
+#[cfg(test)]
+mod tests;
