@@ -1,0 +1,5 @@
+pub mod Bytes
+pub mod Format
+pub mod States
+pub mod Disks
+pub mod Outcomes
