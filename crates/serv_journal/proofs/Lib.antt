@@ -1,1 +1,5 @@
 pub mod ByteLemmas
+pub mod FormatLemmas
+pub mod StaysLemmas
+pub mod RecordLemmas
+pub mod OutcomeLemmas

@@ -3,3 +3,4 @@ pub mod Format
 pub mod States
 pub mod Disks
 pub mod Outcomes
+pub mod Stays

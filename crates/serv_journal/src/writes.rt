@@ -9,7 +9,7 @@ ghost use Rattle.serv_journal.specs.Outcomes.{Reaches};
 use serv_disk::{Disk, Failed};
 
 /// Writes, and syncs.
-fn put<D: Disk>(disk: &mut D, at: u64, bytes: &[u8]) -> Result<(), Failed>
+pub(crate) fn put<D: Disk>(disk: &mut D, at: u64, bytes: &[u8]) -> Result<(), Failed>
     requires { Reaches (D.seen disk.old) at }
     ensures told { OnOk result (Told (D.seen disk.old) (D.seen disk.new) (Holds at bytes.now)) }
     ensures durable { OnOk result (Each (D.images disk.new) (After (Holds at bytes.now) (D.images disk.old))) }
