@@ -3,3 +3,10 @@ pub mod FormatLemmas
 pub mod StaysLemmas
 pub mod RecordLemmas
 pub mod OutcomeLemmas
+pub mod UniqueLemmas
+pub mod ReadingLemmas
+pub mod StepLemmas
+pub mod ScanLemmas
+pub mod FindLemmas
+pub mod ExactLemmas
+pub mod CloseLemmas

@@ -4,3 +4,8 @@ pub mod States
 pub mod Disks
 pub mod Outcomes
 pub mod Stays
+pub mod Reading
+pub mod Windows
+pub mod Steps
+pub mod Scans
+pub mod Finds

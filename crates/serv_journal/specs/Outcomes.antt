@@ -2,7 +2,7 @@
 use Rattle.std.specs.Prelude.{◌≡◌, ◌⊎◌, ℕ, ◌≤◌, List, Option, Some, Result, MatchResult, length}
 use Rattle.serv_disk.specs.Faults.{HasRisen}
 use Rattle.serv_journal.specs.declared.faults.JournalFault.{JournalFault}
-use Rattle.serv_journal.specs.declared.faults.JournalFault.TheVariants.{DiskFault, OutOfMemory}
+use Rattle.serv_journal.specs.declared.faults.JournalFault.TheVariants.{NotJournal, Damaged, DiskFault, OutOfMemory}
 
 -- want of memory, or a fault of the disk, whose count has risen
 abbrev pub IsPassing : ℕ → ℕ → JournalFault → Type 0
@@ -15,3 +15,7 @@ IsOnlyFault fault old new result = MatchResult result (λ _. ⊥) (λ other. (ot
 -- where the disk tells what reads give, that reaches a place
 abbrev pub Reaches : Option (List ℕ) → ℕ → Type 0
 Reaches told place = (s : List ℕ) → told ≡ Some s → place ≤ length s
+
+-- a fault of opening
+abbrev pub IsOpenFault : ℕ → ℕ → JournalFault → Type 0
+IsOpenFault old new fault = (fault ≡ NotJournal) ⊎ (((place : ℕ) × (fault ≡ Damaged place)) ⊎ IsPassing old new fault)

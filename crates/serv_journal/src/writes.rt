@@ -1,8 +1,8 @@
 //! Writes of which a crash leaves all, nothing, or what is of no account.
 
-ghost use Rattle.std.specs.Prelude.{◌≡◌, ℕ, ◌+◌, ◌-◌, ◌≤◌, ◌<◌, List, [], ◌∷◌, ◌++◌, length, Some, OnOk};
+ghost use Rattle.std.specs.Prelude.{◌≡◌, ◌≢◌, ◌⊎◌, ℕ, ◌+◌, ◌-◌, ◌≤◌, ◌<◌, List, [], ◌∷◌, ◌++◌, length, Some, None, OnOk};
 ghost use Rattle.serv_disk.specs.Faults.{HasCause};
-ghost use Rattle.serv_disk.specs.Disks.{Holds, TornAt, Told, Each, After, LeavesOnly};
+ghost use Rattle.serv_disk.specs.Disks.{Holds, TornAt, Told, Each, After, Only, LeavesOnly};
 ghost use Rattle.serv_journal.specs.Bytes.{Starts, Between, IsOpening};
 ghost use Rattle.serv_journal.specs.Outcomes.{Reaches};
 
@@ -13,6 +13,7 @@ pub(crate) fn put<D: Disk>(disk: &mut D, at: u64, bytes: &[u8]) -> Result<(), Fa
     requires { Reaches (D.seen disk.old) at }
     ensures told { OnOk result (Told (D.seen disk.old) (D.seen disk.new) (Holds at bytes.now)) }
     ensures durable { OnOk result (Each (D.images disk.new) (After (Holds at bytes.now) (D.images disk.old))) }
+    ensures only { OnOk result (Only (D.seen disk.new) (D.images disk.new)) }
     ensures moments { LeavesOnly D.moment D.images_since disk.old disk.new
         (After (TornAt at (length bytes.now)) (D.images disk.old)) }
     ensures cause { HasCause (D.faults disk.old) (D.faults disk.new) result }
@@ -59,4 +60,21 @@ pub(crate) fn open_after<D: Disk>(disk: &mut D, size: u64, bytes: &[u8]) -> Resu
 {
     stage(disk, size, bytes)?;
     set_byte(disk, size - 1, 1)
+}
+
+/// Sets a commit byte to 0, unless it is.
+pub(crate) fn close_byte<D: Disk>(disk: &mut D, at: u64, commit: u8) -> Result<(), Failed>
+    requires { Reaches (D.seen disk.old) at }
+    ensures told { (front rest : List ℕ) → length front ≡ at → D.seen disk.old ≡ Some (front ++ commit ∷ rest)
+        → OnOk result (D.seen disk.new ≡ Some (front ++ 0 ∷ rest)) }
+    ensures untold { D.seen disk.old ≡ None → OnOk result (D.seen disk.new ≡ None) }
+    ensures only { Only (D.seen disk.old) (D.images disk.old) → OnOk result (Only (D.seen disk.new) (D.images disk.new)) }
+    ensures moments { LeavesOnly D.moment D.images_since disk.old disk.new
+        (λ c. D.images disk.old c ⊎ ((commit ≢ 0) × After (TornAt at 1) (D.images disk.old) c)) }
+    ensures cause { HasCause (D.faults disk.old) (D.faults disk.new) result }
+{
+    if commit == 0 {
+        return Ok(());
+    }
+    put(disk, at, &[0])
 }
