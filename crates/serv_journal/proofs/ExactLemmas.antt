@@ -1,19 +1,22 @@
 -- A file is read, or is damaged at one place, or is no journal; and what is read of a file that is good for some lines.
-use Rattle.std.proofs.Common.{◌≡◌, ◌≢◌, ◌⊎◌, ℕ, ◌+◌, ◌<◌, ◌≤◌, List, [], ◌∷◌, ◌++◌, Option, Some, None, length, take, drop, refl, sym, ap, subst, ◌∙◌, inl, inr, ⊎_elim, arith, append_assoc, length-append}
+use Rattle.std.proofs.Common.{◌≡◌, ◌≢◌, ◌⊎◌, ℕ, ◌+◌, ◌*◌, ◌<◌, ◌≤◌, List, [], ◌∷◌, ◌++◌, Option, Some, None, length, take, drop, refl, sym, ap, subst, ◌∙◌, inl, inr, ⊎_elim, arith, append_assoc, length-append}
 use Rattle.std.proofs.lemmas.List.{drop_at, append-nil}
-use Rattle.serv_disk.specs.Disks.{TornAt, Only, Each}
+use Rattle.serv_disk.specs.Disks.{TornAt, Only, Each, After}
 use Rattle.serv_journal.specs.declared.format.Version.{Version}
 use Rattle.serv_journal.specs.declared.format.Version.TheVariants.{One, Two}
 use Rattle.serv_journal.specs.Bytes.{Starts, Between}
-use Rattle.serv_journal.specs.Format.{Form, IsForm, IsFront, IsLine, AreLines, base, body, records, header, two_bytes, four_bytes}
+use Rattle.serv_journal.specs.Format.{Form, IsForm, IsFront, IsLine, AreLines, base, body, records, header, two_bytes, four_bytes, head_size}
 use Rattle.serv_journal.specs.States.{JournalState, StandsFor}
 use Rattle.serv_journal.specs.Disks.{IsWholeIn, IsTornIn, IsGood, IsDurableFor}
 use Rattle.serv_journal.specs.Reading.{lines_in, placed, IsMark, IsRead, IsDamaged, IsBadEnd, IsBadRecord, IsBadLine, HasBadLength, IsNoJournal, IsOpened}
-use Rattle.serv_journal.specs.Finds.{IsFound, HasForm}
+use Rattle.serv_journal.specs.Finds.{IsFound, HasForm, IsFindFault}
+use Rattle.serv_journal.specs.Outcomes.{IsPassing}
+use Rattle.serv_journal.specs.declared.faults.JournalFault.{JournalFault}
+use Rattle.serv_journal.specs.declared.faults.JournalFault.TheVariants.{NotJournal, Damaged}
 use Rattle.serv_journal.proofs.ByteLemmas.{torn_byte, first_starts}
 use Rattle.serv_journal.proofs.FormatLemmas.{between_good, lines_push, closed_starts, length_of_body}
 use Rattle.serv_journal.proofs.UniqueLemmas.{NoRecord, NoMark, Same, same_found, closed_no_record, not_header, two_same, four_same}
-use Rattle.serv_journal.proofs.ScanLemmas.{length_lines_in}
+use Rattle.serv_journal.proofs.ScanLemmas.{length_lines_in, records_least}
 
 two_long : (bytes : List ℕ) (n : ℕ) (t : List ℕ) → bytes ≡ two_bytes n ++ t → length bytes ≡ 2 + length t
 unfolding two_bytes
@@ -219,3 +222,73 @@ durable_for (Some s) seen_new images journal frames place form count size opened
         let same : base o.form (lines_in frames) ++ 0 ∷ o.rest ≡ c = cc in
         closed_starts (base o.form (lines_in frames)) o.rest c (subst (λ x. Starts (base o.form (lines_in frames) ++ 0 ∷ o.rest) x) same (record { tail = []; is = sym (append-nil (base o.form (lines_in frames) ++ 0 ∷ o.rest)) }));
     }
+
+-- a found part is what opening gives, once its commit byte is closed
+pub opened_found : (told : Option (List ℕ)) (version : Version) (frames : List (ℕ × List ℕ)) (place commit : ℕ) (s : List ℕ) (journal : JournalState) → IsFound version frames place commit s
+    → journal.version ≡ version → journal.count ≡ length frames → journal.size ≡ place + 1
+    → ((front rest : List ℕ) → length front ≡ place → s ≡ front ++ commit ∷ rest → told ≡ Some (front ++ 0 ∷ rest)) → IsOpened told journal frames s
+opened_found told version frames place commit s journal found same count size closes = record {
+  form = found.form;
+  commit = commit;
+  rest = found.rest;
+  read = found.read;
+  places = found.places;
+  stands = record {
+    is_form = found.read.is_form;
+    version = same ∙ found.same;
+    count = count ∙ sym (length_lines_in frames);
+    size = omega (arith, size, found.end);
+    fit = found.read.fit;
+  };
+  closes = closes (base found.form (lines_in frames)) found.rest (sym found.end) found.read.is;
+}
+
+front_long : (version : Version) (front : List ℕ) → IsFront version front → 8 ≤ length front
+unfolding header
+front_long One front is_front = omega (arith, ap length is_front)
+front_long Two front is_front =
+    ⊎_elim (λ plain. omega (arith, ap length plain))
+      (λ up. omega (arith, ap length up.is, length-append (header One ++ records One 1 up.lines) (up.mark ∷ header Two), length-append (header One) (records One 1 up.lines)))
+      is_front
+
+least_sum : (place a b front more : ℕ) → a ≡ b → b ≤ more → 8 ≤ front → place ≡ front + more → 8 + a < place + 1
+least_sum place a b front more same least long end = omega arith
+
+-- a journal has room for its records
+pub form_least : (version : Version) (frames : List (ℕ × List ℕ)) (place count : ℕ) → HasForm version frames place → count ≡ length frames
+    → 8 + (head_size version + 2) * count < place + 1
+unfolding base
+form_least version frames place count form count_is =
+    let lines : List (List ℕ) = lines_in frames in
+    let least = records_least form.form.version 1 lines form.fit in
+    let same : (head_size version + 2) * count ≡ (head_size form.form.version + 2) * length lines =
+        ap (λ (v : Version). (head_size v + 2) * count) form.same ∙ ap (λ n. (head_size form.form.version + 2) * n) (count_is ∙ sym (length_lines_in frames)) in
+    least_sum place ((head_size version + 2) * count) ((head_size form.form.version + 2) * length lines) (length form.form.front) (length (records form.form.version 1 lines))
+      same least (front_long form.form.version form.form.front form.is_form) (form.end ∙ length-append form.form.front (records form.form.version 1 lines))
+
+-- closing the commit byte of a part that was found leaves a disk as good as it was
+pub close_keeps : (told : Option (List ℕ)) (images : List ℕ → Type 0) (version : Version) (frames : List (ℕ × List ℕ)) (place commit : ℕ) (s c : List ℕ) (lines : List (List ℕ)) (line : List ℕ)
+    → told ≡ Some s → Only told images → AreLines lines → IsLine line → IsGood lines line s → IsFound version frames place commit s
+    → (commit ≢ 0) × After (TornAt place 1) images c → IsGood lines line c
+close_keeps told images version frames place commit s c lines line is only fit is_line good found torn =
+    let d = torn.1.0 in
+    let image : told ≡ Some d = only d torn.1.1 in
+    let same : d ≡ s = cc in
+    closing_good found.form lines (lines_in frames) line commit place found.rest s c fit is_line good found.read found.end torn.0 (subst (λ x. TornAt place 1 x c) same torn.1.2)
+
+-- faults of opening a file that is damaged, or no journal
+pub only_damaged : (told : Option (List ℕ)) (s : List ℕ) (place old new : ℕ) (fault : JournalFault) → told ≡ Some s → IsDamaged place s → IsFindFault told old new fault
+    → (fault ≡ Damaged place) ⊎ IsPassing old new fault
+only_damaged told s place old new fault is damaged found =
+    ⊎_elim
+      (λ none. absurd (form_or_none damaged.form damaged.lines damaged.tail s damaged.is_form damaged.is (none.1 s is)))
+      (λ more. ⊎_elim (λ other. inl (other.1 ∙ ap Damaged (damaged_once s other.0 place (other.2 s is) damaged))) (λ passing. inr passing) more)
+      found
+
+pub only_not_journal : (told : Option (List ℕ)) (s : List ℕ) (old new : ℕ) (fault : JournalFault) → told ≡ Some s → IsNoJournal s → IsFindFault told old new fault
+    → (fault ≡ NotJournal) ⊎ IsPassing old new fault
+only_not_journal told s old new fault is none found =
+    ⊎_elim
+      (λ same. inl same.0)
+      (λ more. ⊎_elim (λ other. let damaged = other.2 s is in absurd (form_or_none damaged.form damaged.lines damaged.tail s damaged.is_form damaged.is none)) (λ passing. inr passing) more)
+      found
