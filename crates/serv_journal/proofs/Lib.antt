@@ -10,3 +10,4 @@ pub mod ScanLemmas
 pub mod FindLemmas
 pub mod ExactLemmas
 pub mod CloseLemmas
+pub mod UpgradeLemmas

@@ -1,5 +1,5 @@
 -- The bytes of a journal: a header, records, and one closed commit byte.
-use Rattle.std.specs.Prelude.{◌≡◌, ◌≢◌, ◌⊎◌, ℕ, ◌+◌, ◌*◌, ◌/◌, ◌%◌, ◌<◌, ◌≤◌, List, [], ◌∷◌, ◌++◌, length, drop, slice_index}
+use Rattle.std.specs.Prelude.{◌≡◌, ◌≢◌, ◌⊎◌, ℕ, ◌+◌, ◌*◌, ◌/◌, ◌%◌, ◌<◌, ◌≤◌, List, [], ◌∷◌, ◌++◌, length, take, nat_lt, if◌then◌else◌}
 use Rattle.serv_journal.specs.declared.format.Version.{Version}
 use Rattle.serv_journal.specs.declared.format.Version.TheVariants.{One, Two}
 use Rattle.serv_journal.specs.Bytes.{Starts}
@@ -75,3 +75,15 @@ new_form = record { front = header Two; version = Two }
 -- after an upgrade the records stand after the part of version 1
 abbrev pub upgraded_form : Form → List (List ℕ) → Form
 upgraded_form form lines = record { front = base form lines ++ 2 ∷ header Two; version = Two }
+
+-- the commit byte after so many of all records: open where a record comes after it
+abbrev pub commit_at : ℕ → ℕ → ℕ
+commit_at i count = if nat_lt i count then 1 else 0
+
+-- the records of version 2 up to one of them, as an upgrade writes them after a part of version 1
+abbrev pub laid : List (List ℕ) → ℕ → List ℕ
+laid lines i = header Two ++ records Two 1 (take i lines) ++ commit_at i (length lines) ∷ []
+
+-- all of them
+abbrev pub rewritten : List (List ℕ) → List ℕ
+rewritten lines = header Two ++ records Two 1 lines ++ 0 ∷ []

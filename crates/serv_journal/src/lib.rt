@@ -12,6 +12,7 @@ mod opening;
 mod records;
 mod scans;
 mod steps;
+mod upgrading;
 mod window;
 mod writes;
 

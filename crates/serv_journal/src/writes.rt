@@ -78,3 +78,16 @@ pub(crate) fn close_byte<D: Disk>(disk: &mut D, at: u64, commit: u8) -> Result<(
     }
     put(disk, at, &[0])
 }
+
+/// Puts bytes after all that is of account. Until the next sync a crash may leave any part of them.
+pub(crate) fn lay<D: Disk>(disk: &mut D, at: u64, bytes: &[u8]) -> Result<(), Failed>
+    requires { Reaches (D.seen disk.old) at }
+    ensures told { OnOk result (Told (D.seen disk.old) (D.seen disk.new) (Holds at bytes.now)) }
+    ensures crash { (front : List ℕ) → length front ≤ at → Each (D.images disk.old) (Starts front)
+        → Each (D.images disk.new) (Starts front) }
+    ensures moments { (front : List ℕ) → length front ≤ at → Each (D.images disk.old) (Starts front)
+        → LeavesOnly D.moment D.images_since disk.old disk.new (Starts front) }
+    ensures cause { HasCause (D.faults disk.old) (D.faults disk.new) result }
+{
+    disk.write_at(at, bytes)
+}
