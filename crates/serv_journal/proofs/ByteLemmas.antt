@@ -27,15 +27,16 @@ holds_after front bytes d c at starts long holds =
 pub torn_after : (front d c : List ℕ) (at n : ℕ) → Starts front d → length front ≤ at → TornAt at n d c → Starts front c
 torn_after front d c at n starts long torn =
     taken_starts front c (length front)
-      (sym (take-take (length front) at c long) ∙ (ap (take (length front)) torn.before ∙ (take-take (length front) at d long ∙ starts_take front d (length front) refl starts)))
+    (sym (take-take (length front) at c long) ∙ (ap (take (length front)) torn.before ∙ (take-take (length front) at d long ∙ starts_take front d (length front) refl starts)))
 
 -- what comes after a list and one byte
 rest_of : (front rest d : List ℕ) (at : ℕ) → (between : Between front rest d) → length front ≡ at → (take at d ≡ front) × (drop (at + 1) d ≡ rest ++ between.starts.tail)
 rest_of front rest d at between long =
     let whole : d ≡ front ++ (between.byte ∷ (rest ++ between.starts.tail)) = between.starts.is ∙ append_assoc front (between.byte ∷ rest) between.starts.tail in
-    let more : d ≡ (front ++ between.byte ∷ []) ++ (rest ++ between.starts.tail) = whole ∙ sym (append_assoc front (between.byte ∷ []) (rest ++ between.starts.tail)) in
-    ( rw whole (take_at front (between.byte ∷ (rest ++ between.starts.tail)) at long)
-    , rw more (drop_at (front ++ between.byte ∷ []) (rest ++ between.starts.tail) (at + 1) (omega (arith, length-append front (between.byte ∷ [])))) )
+    let more : d ≡ (front ++ between.byte ∷ []) ++ (rest ++ between.starts.tail) = whole ∙ sym (append_assoc front (between.byte ∷ []) (rest ++ between.starts.tail)) in (
+      rw whole (take_at front (between.byte ∷ (rest ++ between.starts.tail)) at long),
+      rw more (drop_at (front ++ between.byte ∷ []) (rest ++ between.starts.tail) (at + 1) (omega (arith, length-append front (between.byte ∷ [])))),
+    )
 
 -- one byte written between a list and what comes after it
 pub holds_byte : (front rest d c : List ℕ) (at value : ℕ) → Between front rest d → length front ≡ at → Holds at (value ∷ []) d c → Starts (front ++ value ∷ rest) c
@@ -44,7 +45,7 @@ holds_byte front rest d c at value between long holds =
     record {
       tail = between.starts.tail;
       is = holds ∙ (ap (λ x. x ++ value ∷ [] ++ drop (at + 1) d) parts.0 ∙ (ap (λ x. front ++ value ∷ [] ++ x) parts.1
-        ∙ (append_assoc front (value ∷ []) (rest ++ between.starts.tail) ∙ sym (append_assoc front (value ∷ rest) between.starts.tail))));
+          ∙ (append_assoc front (value ∷ []) (rest ++ between.starts.tail) ∙ sym (append_assoc front (value ∷ rest) between.starts.tail))));
     }
 
 longer : (a b n : ℕ) → n < b → (a ≡ b) ⊎ (a ≡ max b (n + 1)) → n < a
@@ -60,7 +61,7 @@ torn_byte front rest d c at between long torn =
       starts = record {
         tail = between.starts.tail;
         is = sym (take-append-drop at c) ∙ (ap (λ x. x ++ drop at c) (torn.before ∙ parts.0) ∙ (ap (λ x. front ++ x) (drop_more c at 0 within)
-          ∙ (ap (λ x. front ++ get_or c at 0 ∷ x) (torn.after ∙ parts.1) ∙ sym (append_assoc front (get_or c at 0 ∷ rest) between.starts.tail))));
+            ∙ (ap (λ x. front ++ get_or c at 0 ∷ x) (torn.after ∙ parts.1) ∙ sym (append_assoc front (get_or c at 0 ∷ rest) between.starts.tail))));
       };
     }
 

@@ -36,7 +36,7 @@ found_at version at frames place commit s within front so_far scanned closed = r
     closed = closed.closed;
     unmarked = closed.unmarked;
     is = split_at version at frames place s scanned
-      ∙ ap (λ t. base (record { front = take at s; version = version }) (lines_in frames) ++ t) closed.is;
+        ∙ ap (λ t. base (record { front = take at s; version = version }) (lines_in frames) ++ t) closed.is;
   };
   places = so_far.places ∙ ap (λ n. placed version n 1 (lines_in frames)) (sym (length-take-le at s within));
   end = end_at version at frames place s within so_far;
@@ -70,7 +70,7 @@ marked_front frames place s front so_far scanned marked =
       fit = so_far.fit;
       marked = marked.marked;
       is = take-add place 9 s ∙ (ap (λ t. t ++ take 9 (drop place s)) scanned.is ∙ (ap (λ t. (take 8 s ++ records One 1 (lines_in frames)) ++ t) end
-        ∙ ap (λ t. t ++ records One 1 (lines_in frames) ++ marked.mark ∷ header Two) front));
+          ∙ ap (λ t. t ++ records One 1 (lines_in frames) ++ marked.mark ∷ header Two) front));
     })
 
 -- the same of the places alone
@@ -97,10 +97,11 @@ form_one frames place so_far = record {
 pub front_marked : (frames : List (ℕ × List ℕ)) (place : ℕ) → IsPlaced One 8 frames place → (front : List ℕ) × IsFront Two front × (length front ≡ place + 9)
 unfolding header
 front_marked frames place so_far =
-    let lines : List (List ℕ) = lines_in frames in
-    ( header One ++ records One 1 lines ++ 2 ∷ header Two
-    , inr (record { lines = lines; mark = 2; fit = so_far.fit; marked = (λ e. omega (arith, e)); is = refl })
-    , omega (arith, so_far.end, length-append (header One ++ records One 1 lines) (2 ∷ header Two), length-append (header One) (records One 1 lines)) )
+    let lines : List (List ℕ) = lines_in frames in (
+      header One ++ records One 1 lines ++ 2 ∷ header Two,
+      inr (record { lines = lines; mark = 2; fit = so_far.fit; marked = (λ e. omega (arith, e)); is = refl }),
+      omega (arith, so_far.end, length-append (header One ++ records One 1 lines) (2 ∷ header Two), length-append (header One) (records One 1 lines)),
+    )
 
 pub front_new : (front : List ℕ) × IsFront Two front × (length front ≡ 8)
 unfolding header

@@ -17,8 +17,8 @@ records_push version number [] line =
 records_push version number (x ∷ xs) line =
     let e : number + 1 + length xs ≡ number + length (x ∷ xs) = omega arith in
     ap (λ t. 1 ∷ (body version number x ++ t)) (records_push version (number + 1) xs line)
-      ∙ (ap (λ t. 1 ∷ t) (sym (append_assoc (body version number x) (records version (number + 1) xs) (1 ∷ body version (number + 1 + length xs) line)))
-      ∙ ap (λ k. 1 ∷ ((body version number x ++ records version (number + 1) xs) ++ 1 ∷ body version k line)) e)
+    ∙ (ap (λ t. 1 ∷ t) (sym (append_assoc (body version number x) (records version (number + 1) xs) (1 ∷ body version (number + 1 + length xs) line)))
+    ∙ ap (λ k. 1 ∷ ((body version number x ++ records version (number + 1) xs) ++ 1 ∷ body version k line)) e)
 
 pub base_push : (form : Form) (lines : List (List ℕ)) (line : List ℕ)
     → base form (lines ++ line ∷ []) ≡ base form lines ++ 1 ∷ body form.version (length lines + 1) line
@@ -26,8 +26,8 @@ unfolding base
 base_push form lines line =
     let e : 1 + length lines ≡ length lines + 1 = omega arith in
     ap (λ t. form.front ++ t) (records_push form.version 1 lines line)
-      ∙ (sym (append_assoc form.front (records form.version 1 lines) (1 ∷ body form.version (1 + length lines) line))
-      ∙ ap (λ k. (form.front ++ records form.version 1 lines) ++ 1 ∷ body form.version k line) e)
+    ∙ (sym (append_assoc form.front (records form.version 1 lines) (1 ∷ body form.version (1 + length lines) line))
+    ∙ ap (λ k. (form.front ++ records form.version 1 lines) ++ 1 ∷ body form.version k line) e)
 
 pub whole_push : (form : Form) (lines : List (List ℕ)) (line : List ℕ)
     → base form lines ++ 1 ∷ (body form.version (length lines + 1) line ++ 0 ∷ []) ≡ base form (lines ++ line ∷ []) ++ 0 ∷ []
@@ -52,12 +52,12 @@ pub between_good : (form : Form) (lines : List (List ℕ)) (line file : List ℕ
 between_good form lines line file between =
     let more : List ℕ = body form.version (length lines + 1) line ++ 0 ∷ [] in
     ⊎_elim
-      (λ zero_is. inl (closed_starts (base form lines) more file (subst (λ b. Starts (base form lines ++ b ∷ more) file) zero_is between.starts)))
-      (λ other. ⊎_elim
-        (λ one_is. inr (inr (subst (λ x. Starts x file) (whole_push form lines line) (subst (λ b. Starts (base form lines ++ b ∷ more) file) one_is between.starts))))
-        (λ neither. inr (inl (record { commit = between.byte; not_closed = neither.0; not_open = neither.1; starts = between.starts })))
-        other)
-      (byte_cases between.byte)
+    (λ zero_is. inl (closed_starts (base form lines) more file (subst (λ b. Starts (base form lines ++ b ∷ more) file) zero_is between.starts)))
+    (λ other. ⊎_elim
+    (λ one_is. inr (inr (subst (λ x. Starts x file) (whole_push form lines line) (subst (λ b. Starts (base form lines ++ b ∷ more) file) one_is between.starts))))
+    (λ neither. inr (inl (record { commit = between.byte; not_closed = neither.0; not_open = neither.1; starts = between.starts })))
+    other)
+    (byte_cases between.byte)
 
 -- the same of the bytes that adding a record of version 2 writes
 pub opening_good : (form : Form) (lines : List (List ℕ)) (line file : List ℕ) (number : ℕ) → form.version ≡ Two → number ≡ length lines + 1
@@ -86,7 +86,14 @@ stands_push form lines line old new is_line stands two version count size = reco
   is_form = stands.is_form;
   version = version ∙ stands.version;
   count = omega (arith, count, stands.count, length-append lines (line ∷ []));
-  size = omega (arith, size, stands.size, ap length (base_push form lines line), length-append (base form lines) (1 ∷ body form.version (length lines + 1) line),
-    length_of_body form.version (length lines + 1) line, ap head_size two);
+  size = omega (
+    arith,
+    size,
+    stands.size,
+    ap length (base_push form lines line),
+    length-append (base form lines) (1 ∷ body form.version (length lines + 1) line),
+    length_of_body form.version (length lines + 1) line,
+    ap head_size two,
+  );
   fit = lines_push lines line stands.fit is_line;
 }

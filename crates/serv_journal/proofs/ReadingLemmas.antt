@@ -35,9 +35,9 @@ module _ {D : Type 0} (seen : D → Option (List ℕ)) (images : D → List ℕ 
 pub risen_from : (old mid new : ℕ) → old ≤ mid → mid ≤ new → HasRisen mid new → HasRisen old new
 risen_from old mid new later end risen =
     ⊎_elim
-      (λ less. inl (omega arith))
-      (λ top. ⊎_elim (λ less. inl (omega arith)) (λ same. inr (omega arith)) (cases_lt old mid))
-      risen
+    (λ less. inl (omega arith))
+    (λ top. ⊎_elim (λ less. inl (omega arith)) (λ same. inr (omega arith)) (cases_lt old mid))
+    risen
 
 pub passing_from : (old mid new : ℕ) (fault : JournalFault) → old ≤ mid → mid ≤ new → IsPassing mid new fault → IsPassing old new fault
 passing_from old mid new fault later end passing =
@@ -108,7 +108,7 @@ pub filled_more : (room file : List ℕ) (i place b : ℕ) → i < length room �
 filled_more room file i place b within inside so_far byte =
     let left : i < length (drop place file) = omega (arith, length-drop place file) in
     take_more_set room i b within ∙ (ap (λ t. t ++ b ∷ []) so_far ∙ (ap (λ x. take i (drop place file) ++ x ∷ []) (byte ∙ sym (get_or-drop place file i 0))
-      ∙ sym (take_more (drop place file) i 0 left)))
+    ∙ sym (take_more (drop place file) i 0 left)))
 
 view_at : (frames : List Frame) (seen : List (ℕ × List ℕ)) (i : ℕ) (frame : Frame) → map (λ (f : Frame). (f.place, f.line.items)) frames ≡ seen
     → i < length seen → frame ≡ get_or frames i frame → get_or seen i (frame.place, frame.line.items) ≡ (frame.place, frame.line.items)

@@ -17,5 +17,5 @@ laid_is head line room k next six same long =
     let last = one_left (drop k (drop 6 room)) (omega (arith, length-drop k (drop 6 room), length-drop 6 room)) in
     let post : post_of 6 k whole ≡ last.0 ∷ [] = ap (drop k) after ∙ last.1 in
     let put : put_mid 6 k whole line ≡ (head ++ line) ++ last.0 ∷ [] =
-        ap (λ t. t ++ (line ++ post_of 6 k whole)) (take_at head (drop 6 room) 6 six) ∙ (ap (λ t. head ++ (line ++ t)) post ∙ sym (append_assoc head line (last.0 ∷ []))) in
+    ap (λ t. t ++ (line ++ post_of 6 k whole)) (take_at head (drop 6 room) 6 six) ∙ (ap (λ t. head ++ (line ++ t)) post ∙ sym (append_assoc head line (last.0 ∷ []))) in
     ap (λ t. set t (6 + length line) next) put ∙ set_at (head ++ line) last.0 [] next (6 + length line) (omega (arith, length-append head line))

@@ -28,9 +28,9 @@ placed_push version at number [] line =
 placed_push version at number (x ∷ xs) line =
     let next : ℕ = at + 1 + length (body version number x) in
     let e : next + length (records version (number + 1) xs) ≡ at + length (records version number (x ∷ xs)) =
-        omega (arith, length-append (body version number x) (records version (number + 1) xs)) in
+    omega (arith, length-append (body version number x) (records version (number + 1) xs)) in
     ap (λ (t : List (ℕ × List ℕ)). (at, x) ∷ t) (placed_push version next (number + 1) xs line)
-      ∙ ap (λ (n : ℕ). (at, x) ∷ (placed version next (number + 1) xs ++ (n, line) ∷ [])) e
+    ∙ ap (λ (n : ℕ). (at, x) ∷ (placed version next (number + 1) xs ++ (n, line) ∷ [])) e
 
 pub placed_more : (version : Version) (at place next : ℕ) (frames : List (ℕ × List ℕ)) (line : List ℕ) → IsPlaced version at frames place → IsLine line
     → next ≡ place + 1 + head_size version + length line → IsPlaced version at (frames ++ (place, line) ∷ []) next
@@ -40,10 +40,17 @@ placed_more version at place next frames line so_far is_line next_is =
     record {
       fit = subst AreLines (sym more) (lines_push lines line so_far.fit is_line);
       places = ap (λ t. t ++ (place, line) ∷ []) so_far.places
-        ∙ (ap (λ (n : ℕ). placed version at 1 lines ++ (n, line) ∷ []) so_far.end
-        ∙ (sym (placed_push version at 1 lines line) ∙ ap (placed version at 1) (sym more)));
-      end = omega (arith, next_is, so_far.end, ap (λ t. length (records version 1 t)) more, ap length (records_push version 1 lines line),
-        length-append (records version 1 lines) (1 ∷ body version (1 + length lines) line), length_of_body version (1 + length lines) line);
+          ∙ (ap (λ (n : ℕ). placed version at 1 lines ++ (n, line) ∷ []) so_far.end
+          ∙ (sym (placed_push version at 1 lines line) ∙ ap (placed version at 1) (sym more)));
+      end = omega (
+        arith,
+        next_is,
+        so_far.end,
+        ap (λ t. length (records version 1 t)) more,
+        ap length (records_push version 1 lines line),
+        length-append (records version 1 lines) (1 ∷ body version (1 + length lines) line),
+        length_of_body version (1 + length lines) line,
+      );
     }
 
 pub scanned_start : (version : Version) (at : ℕ) (s : List ℕ) → at ≤ length s → IsScanned version at [] at s
@@ -60,9 +67,9 @@ scanned_push version at place next number frames line s so_far number_is starts 
     record {
       within = omega (arith, starts_fits (1 ∷ body version number line) (drop place s) starts, length-drop place s, so_far.within, long);
       is = ap (λ n. take n s) long ∙ (take-add place k s ∙ (ap (λ t. t ++ take k (drop place s)) so_far.is
-        ∙ (ap (λ t. (take at s ++ records version 1 lines) ++ t) content ∙ (ap (λ n. (take at s ++ records version 1 lines) ++ 1 ∷ body version n line) same
-        ∙ (append_assoc (take at s) (records version 1 lines) (1 ∷ body version (1 + length lines) line)
-        ∙ ap (λ t. take at s ++ t) (sym (ap (records version 1) (lines_in_push frames place line) ∙ records_push version 1 lines line)))))));
+          ∙ (ap (λ t. (take at s ++ records version 1 lines) ++ t) content ∙ (ap (λ n. (take at s ++ records version 1 lines) ++ 1 ∷ body version n line) same
+          ∙ (append_assoc (take at s) (records version 1 lines) (1 ∷ body version (1 + length lines) line)
+          ∙ ap (λ t. take at s ++ t) (sym (ap (records version 1) (lines_in_push frames place line) ∙ records_push version 1 lines line)))))));
     }
 
 -- records have at least so many bytes

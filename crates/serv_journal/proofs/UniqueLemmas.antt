@@ -14,9 +14,10 @@ cons_first : (a b : ℕ) (r t : List ℕ) → a ∷ r ≡ b ∷ t → a ≡ b
 cons_first a b r t is = cc
 
 pub same_split : (a b r t : List ℕ) → length a ≡ length b → a ++ r ≡ b ++ t → (a ≡ b) × (r ≡ t)
-same_split a b r t long is =
-    ( sym (take_at a r (length a) refl) ∙ (ap (take (length a)) is ∙ take_at b t (length a) (sym long))
-    , sym (drop_at a r (length a) refl) ∙ (ap (drop (length a)) is ∙ drop_at b t (length a) (sym long)) )
+same_split a b r t long is = (
+  sym (take_at a r (length a) refl) ∙ (ap (take (length a)) is ∙ take_at b t (length a) (sym long)),
+  sym (drop_at a r (length a) refl) ∙ (ap (drop (length a)) is ∙ drop_at b t (length a) (sym long)),
+)
 
 -- a number has one spelling in two bytes, and one in four
 quotient : (a b : ℕ) → a / 256 ≡ b / 256 → a % 256 ≡ b % 256 → a ≡ b
@@ -48,7 +49,7 @@ same_body One number a b r t is =
     line_same a b r t (sym (append_assoc (two_bytes (length a)) a r) ∙ (is ∙ append_assoc (two_bytes (length b)) b t))
 same_body Two number a b r t is =
     let spread : (l q : List ℕ) → body Two number l ++ q ≡ four_bytes number ++ (two_bytes (length l) ++ (l ++ q)) =
-        λ l q. append_assoc (four_bytes number ++ two_bytes (length l)) l q ∙ append_assoc (four_bytes number) (two_bytes (length l)) (l ++ q) in
+    λ l q. append_assoc (four_bytes number ++ two_bytes (length l)) l q ∙ append_assoc (four_bytes number) (two_bytes (length l)) (l ++ q) in
     line_same a b r t (append_cancel_left (four_bytes number) (two_bytes (length a) ++ (a ++ r)) (two_bytes (length b) ++ (b ++ t)) (sym (spread a r) ∙ (is ∙ spread b t)))
 
 -- no record with this number stands there
@@ -65,15 +66,15 @@ same_records version number [] [] r t fit fit2 no_r no_t is = (refl, is)
 same_records version number [] (y ∷ ys) r t fit fit2 no_r no_t is =
     let e : number + 0 ≡ number = omega arith in
     absurd (subst (λ n. NoRecord version n r) e no_r y (records version (number + 1) ys ++ t) fit2.0
-      (is ∙ ap (λ q. 1 ∷ q) (append_assoc (body version number y) (records version (number + 1) ys) t)))
+    (is ∙ ap (λ q. 1 ∷ q) (append_assoc (body version number y) (records version (number + 1) ys) t)))
 same_records version number (x ∷ xs) [] r t fit fit2 no_r no_t is =
     let e : number + 0 ≡ number = omega arith in
     absurd (subst (λ n. NoRecord version n t) e no_t x (records version (number + 1) xs ++ r) fit.0
-      (sym is ∙ ap (λ q. 1 ∷ q) (append_assoc (body version number x) (records version (number + 1) xs) r)))
+    (sym is ∙ ap (λ q. 1 ∷ q) (append_assoc (body version number x) (records version (number + 1) xs) r)))
 same_records version number (x ∷ xs) (y ∷ ys) r t fit fit2 no_r no_t is =
     let rest : (body version number x ++ records version (number + 1) xs) ++ r ≡ (body version number y ++ records version (number + 1) ys) ++ t = cc in
     let first = same_body version number x y (records version (number + 1) xs ++ r) (records version (number + 1) ys ++ t)
-        (sym (append_assoc (body version number x) (records version (number + 1) xs) r) ∙ (rest ∙ append_assoc (body version number y) (records version (number + 1) ys) t)) in
+    (sym (append_assoc (body version number x) (records version (number + 1) xs) r) ∙ (rest ∙ append_assoc (body version number y) (records version (number + 1) ys) t)) in
     let ex : number + length (x ∷ xs) ≡ number + 1 + length xs = omega arith in
     let ey : number + length (y ∷ ys) ≡ number + 1 + length ys = omega arith in
     let more = same_records version (number + 1) xs ys r t fit.1 fit2.1 (subst (λ n. NoRecord version n r) ex no_r) (subst (λ n. NoRecord version n t) ey no_t) first.1 in
@@ -119,7 +120,7 @@ not_both : (xs ys : List (List ℕ)) (mark : ℕ) (r more : List ℕ) → AreLin
     → header One ++ (records One 1 xs ++ r) ≡ header One ++ (records One 1 ys ++ mark ∷ (header Two ++ more)) → ⊥
 not_both xs ys mark r more fit fit2 marked no_r no_mark is =
     let same = same_records One 1 xs ys r (mark ∷ (header Two ++ more)) fit fit2 no_r (mark_no_record (1 + length ys) mark more)
-        (append_cancel_left (header One) (records One 1 xs ++ r) (records One 1 ys ++ mark ∷ (header Two ++ more)) is) in
+    (append_cancel_left (header One) (records One 1 xs ++ r) (records One 1 ys ++ mark ∷ (header Two ++ more)) is) in
     no_mark mark more refl marked same.1
 
 one_two : (f g r t : List ℕ) (xs ys : List (List ℕ)) → IsFront One f → IsFront Two g → AreLines xs → NoRecord One (1 + length xs) r → NoMark One r
@@ -128,34 +129,34 @@ one_two f g r t xs ys is_f is_g fit no_r mark_r is =
     let more : List ℕ = records Two 1 ys ++ t in
     let from_one : header One ++ (records One 1 xs ++ r) ≡ g ++ more = ap (λ q. q ++ (records One 1 xs ++ r)) (sym is_f) ∙ is in
     ⊎_elim
-      (λ plain. headers_differ (records One 1 xs ++ r) more (from_one ∙ ap (λ q. q ++ more) plain))
-      (λ up. not_both xs up.lines up.mark r more fit up.fit up.marked no_r mark_r (from_one ∙ (ap (λ q. q ++ more) up.is ∙ spread_front up.lines up.mark more)))
-      is_g
+    (λ plain. headers_differ (records One 1 xs ++ r) more (from_one ∙ ap (λ q. q ++ more) plain))
+    (λ up. not_both xs up.lines up.mark r more fit up.fit up.marked no_r mark_r (from_one ∙ (ap (λ q. q ++ more) up.is ∙ spread_front up.lines up.mark more)))
+    is_g
 
 two_upgraded : (f g r t : List ℕ) → IsUpgraded f → IsUpgraded g → f ++ r ≡ g ++ t → f ≡ g
 two_upgraded f g r t up up2 is =
     let spread : header One ++ (records One 1 up.lines ++ up.mark ∷ (header Two ++ r)) ≡ header One ++ (records One 1 up2.lines ++ up2.mark ∷ (header Two ++ t)) =
-        sym (ap (λ q. q ++ r) up.is ∙ spread_front up.lines up.mark r) ∙ (is ∙ (ap (λ q. q ++ t) up2.is ∙ spread_front up2.lines up2.mark t)) in
+    sym (ap (λ q. q ++ r) up.is ∙ spread_front up.lines up.mark r) ∙ (is ∙ (ap (λ q. q ++ t) up2.is ∙ spread_front up2.lines up2.mark t)) in
     let same = same_records One 1 up.lines up2.lines (up.mark ∷ (header Two ++ r)) (up2.mark ∷ (header Two ++ t)) up.fit up2.fit
-        (mark_no_record (1 + length up.lines) up.mark r) (mark_no_record (1 + length up2.lines) up2.mark t)
-        (append_cancel_left (header One) (records One 1 up.lines ++ up.mark ∷ (header Two ++ r)) (records One 1 up2.lines ++ up2.mark ∷ (header Two ++ t)) spread) in
+    (mark_no_record (1 + length up.lines) up.mark r) (mark_no_record (1 + length up2.lines) up2.mark t)
+    (append_cancel_left (header One) (records One 1 up.lines ++ up.mark ∷ (header Two ++ r)) (records One 1 up2.lines ++ up2.mark ∷ (header Two ++ t)) spread) in
     let mark = cons_first up.mark up2.mark (header Two ++ r) (header Two ++ t) same.1 in
     up.is ∙ (ap (λ q. header One ++ records One 1 q ++ up.mark ∷ header Two) same.0 ∙ (ap (λ m. header One ++ records One 1 up2.lines ++ m ∷ header Two) mark ∙ sym up2.is))
 
 two_two : (f g r t : List ℕ) → IsFront Two f → IsFront Two g → f ++ r ≡ g ++ t → f ≡ g
 two_two f g r t is_f is_g is =
     ⊎_elim
-      (λ plain. ⊎_elim
-        (λ plain2. plain ∙ sym plain2)
-        (λ up2. absurd (headers_differ (records One 1 up2.lines ++ up2.mark ∷ (header Two ++ t)) r
-          (sym (ap (λ q. q ++ t) up2.is ∙ spread_front up2.lines up2.mark t) ∙ (sym is ∙ ap (λ q. q ++ r) plain))))
-        is_g)
-      (λ up. ⊎_elim
-        (λ plain2. absurd (headers_differ (records One 1 up.lines ++ up.mark ∷ (header Two ++ r)) t
-          (sym (ap (λ q. q ++ r) up.is ∙ spread_front up.lines up.mark r) ∙ (is ∙ ap (λ q. q ++ t) plain2))))
-        (λ up2. two_upgraded f g r t up up2 is)
-        is_g)
-      is_f
+    (λ plain. ⊎_elim
+    (λ plain2. plain ∙ sym plain2)
+    (λ up2. absurd (headers_differ (records One 1 up2.lines ++ up2.mark ∷ (header Two ++ t)) r
+    (sym (ap (λ q. q ++ t) up2.is ∙ spread_front up2.lines up2.mark t) ∙ (sym is ∙ ap (λ q. q ++ r) plain))))
+    is_g)
+    (λ up. ⊎_elim
+    (λ plain2. absurd (headers_differ (records One 1 up.lines ++ up.mark ∷ (header Two ++ r)) t
+    (sym (ap (λ q. q ++ r) up.is ∙ spread_front up.lines up.mark r) ∙ (is ∙ ap (λ q. q ++ t) plain2))))
+    (λ up2. two_upgraded f g r t up up2 is)
+    is_g)
+    is_f
 
 -- fronts and what comes after them
 same_fronts : (v w : Version) (f g r t : List ℕ) (xs ys : List (List ℕ)) → IsFront v f → IsFront w g → AreLines xs → AreLines ys
@@ -180,5 +181,5 @@ pub same_found : (f g : Form) (xs ys : List (List ℕ)) (r t : List ℕ) → IsF
 unfolding base
 same_found f g xs ys r t is_f is_g fit fit2 no_r no_t mark_r mark_t is =
     let same = same_fronts f.version g.version f.front g.front r t xs ys is_f is_g fit fit2 no_r no_t mark_r mark_t
-        (sym (append_assoc f.front (records f.version 1 xs) r) ∙ (is ∙ append_assoc g.front (records g.version 1 ys) t)) in
+    (sym (append_assoc f.front (records f.version 1 xs) r) ∙ (is ∙ append_assoc g.front (records g.version 1 ys) t)) in
     record { form = same_form f g same.0 same.1; lines = same.2; rest = same.3 }

@@ -48,7 +48,7 @@ records_more : (lines : List (List ℕ)) (i : ℕ) → i < length lines → reco
 records_more lines i less =
     let e : 1 + length (take i lines) ≡ i + 1 = omega (arith, length-take-le i lines (omega arith)) in
     ap (records Two 1) (take_more lines i [] less) ∙ (records_push Two 1 (take i lines) (get_or lines i [])
-      ∙ ap (λ n. records Two 1 (take i lines) ++ 1 ∷ body Two n (get_or lines i [])) e)
+    ∙ ap (λ n. records Two 1 (take i lines) ++ 1 ∷ body Two n (get_or lines i [])) e)
 
 pub records_more_long : (lines : List (List ℕ)) (i : ℕ) → i < length lines
     → length (records Two 1 (take (i + 1) lines)) ≡ length (records Two 1 (take i lines)) + (7 + length (get_or lines i []))
@@ -69,13 +69,13 @@ laid_more lines line i number next less line_at number_at next_at =
     let l : List ℕ = get_or lines i [] in
     let last : ℕ = commit_at (i + 1) (length lines) in
     let content : body Two number line ++ next ∷ [] ≡ body Two (i + 1) l ++ last ∷ [] =
-        ap (λ n. body Two n line ++ next ∷ []) number_at ∙ (ap (λ x. body Two (i + 1) x ++ next ∷ []) line_at ∙ ap (λ b. body Two (i + 1) l ++ b ∷ []) next_at) in
+    ap (λ n. body Two n line ++ next ∷ []) number_at ∙ (ap (λ x. body Two (i + 1) x ++ next ∷ []) line_at ∙ ap (λ b. body Two (i + 1) l ++ b ∷ []) next_at) in
     let opened : laid lines i ≡ header Two ++ now ++ 1 ∷ [] = ap (λ b. header Two ++ now ++ b ∷ []) (commit_open i (length lines) less) in
     let spread : (header Two ++ now ++ 1 ∷ []) ++ (body Two (i + 1) l ++ last ∷ []) ≡ header Two ++ (now ++ 1 ∷ body Two (i + 1) l) ++ last ∷ [] =
-        simp append_assoc in
+    simp append_assoc in
     let joined : laid lines i ++ (body Two number line ++ next ∷ []) ≡ laid lines (i + 1) =
-        ap (λ x. x ++ (body Two number line ++ next ∷ [])) opened ∙ (ap (λ x. (header Two ++ now ++ 1 ∷ []) ++ x) content ∙ (spread
-          ∙ ap (λ x. header Two ++ x ++ last ∷ []) (sym (records_more lines i less)))) in
+    ap (λ x. x ++ (body Two number line ++ next ∷ [])) opened ∙ (ap (λ x. (header Two ++ now ++ 1 ∷ []) ++ x) content ∙ (spread
+    ∙ ap (λ x. header Two ++ x ++ last ∷ []) (sym (records_more lines i less)))) in
     joined
 
 pub laid_all : (lines : List (List ℕ)) (i : ℕ) → length lines ≤ i → laid lines i ≡ rewritten lines
@@ -108,7 +108,10 @@ unfolding base
 upgraded_front form lines mark is_form one fit marked =
     let front : form.front ≡ header One = front_one form.version form.front is_form one in
     inr (record {
-      lines = lines; mark = mark; fit = fit; marked = marked;
+      lines = lines;
+      mark = mark;
+      fit = fit;
+      marked = marked;
       is = ap (λ (v : Version). form.front ++ records v 1 lines ++ mark ∷ header Two) one ∙ ap (λ x. x ++ records One 1 lines ++ mark ∷ header Two) front;
     })
 
@@ -123,16 +126,16 @@ rewritten_two form lines file starts = whole_two form lines 2 file starts
 pub rewritten_whole : (form : Form) (lines : List (List ℕ)) (file : List ℕ) → IsForm form → form.version ≡ One → AreLines lines → IsOpening (base form lines) (rewritten lines) file → IsWhole lines file
 rewritten_whole form lines file is_form one fit opening =
     ⊎_elim
-      (λ closed. record { form = form; is_form = is_form; whole = closed })
-      (λ between. ⊎_elim
-        (λ zero_is. record { form = form; is_form = is_form; whole = closed_starts (base form lines) (rewritten lines) file (subst (λ b. Starts (base form lines ++ b ∷ rewritten lines) file) zero_is between.starts) })
-        (λ other. record {
-          form = record { front = base form lines ++ between.byte ∷ header Two; version = Two };
-          is_form = upgraded_front form lines between.byte is_form one fit other;
-          whole = whole_two form lines between.byte file between.starts;
-        })
-        (zero_or between.byte))
-      opening
+    (λ closed. record { form = form; is_form = is_form; whole = closed })
+    (λ between. ⊎_elim
+    (λ zero_is. record { form = form; is_form = is_form; whole = closed_starts (base form lines) (rewritten lines) file (subst (λ b. Starts (base form lines ++ b ∷ rewritten lines) file) zero_is between.starts) })
+    (λ other. record {
+      form = record { front = base form lines ++ between.byte ∷ header Two; version = Two };
+      is_form = upgraded_front form lines between.byte is_form one fit other;
+      whole = whole_two form lines between.byte file between.starts;
+    })
+    (zero_or between.byte))
+    opening
 
 two_long : (known : List ℕ) (lines : List (List ℕ)) → length (base (record { front = known ++ 2 ∷ header Two; version = Two }) lines) ≡ length known + 9 + length (records Two 1 lines)
 unfolding base
@@ -195,7 +198,7 @@ module _ {D : Type 0} (seen : D → Option (List ℕ)) (images : D → List ℕ 
       → faults mid ≤ faults new → next ≤ at + length bytes → IsLaying seen images moment images_since faults size old new next (written ++ bytes)
   laying_more size at next old mid new written bytes so_far place told crash moments later less = record {
     told = λ front long starts s is. subst (λ x. Starts x s) (append_assoc front written bytes)
-      (told_after (seen mid) (seen new) (front ++ written) bytes at (omega (arith, long, place, length-append front written)) (so_far.told front long starts) told s is);
+        (told_after (seen mid) (seen new) (front ++ written) bytes at (omega (arith, long, place, length-append front written)) (so_far.told front long starts) told s is);
     reach = told_reaches (seen mid) (seen new) bytes at next so_far.reach told less;
     crash = λ front long each. crash front (omega (arith, long, place)) (so_far.crash front long each);
     moments = λ front long each. joined moment images_since old mid new (Starts front) (so_far.moments front long each) (moments front (omega (arith, long, place)) (so_far.crash front long each));

@@ -19,7 +19,7 @@ pub record IsTornIn (form : Form) (lines : List (List ℕ)) (line file : List �
 -- the lines, whole; or torn with one line more; or whole with it
 abbrev pub IsGoodIn : Form → List (List ℕ) → List ℕ → List ℕ → Type 0
 IsGoodIn form lines line file =
-  IsWholeIn form lines file ⊎ (IsTornIn form lines line file ⊎ IsWholeIn form (lines ++ line ∷ []) file)
+    IsWholeIn form lines file ⊎ (IsTornIn form lines line file ⊎ IsWholeIn form (lines ++ line ∷ []) file)
 
 -- the same in some form
 pub record IsWhole (lines : List (List ℕ)) (file : List ℕ) : Type 0 where

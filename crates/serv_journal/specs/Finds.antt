@@ -27,5 +27,5 @@ pub record HasForm (version : Version) (frames : List (ℕ × List ℕ)) (place 
 -- a fault of opening, with what it says of the file that the disk tells
 abbrev pub IsFindFault : Option (List ℕ) → ℕ → ℕ → JournalFault → Type 0
 IsFindFault told old new fault =
-  ((fault ≡ NotJournal) × ((s : List ℕ) → told ≡ Some s → IsNoJournal s))
-  ⊎ (((place : ℕ) × (fault ≡ Damaged place) × ((s : List ℕ) → told ≡ Some s → IsDamaged place s)) ⊎ IsPassing old new fault)
+    ((fault ≡ NotJournal) × ((s : List ℕ) → told ≡ Some s → IsNoJournal s))
+    ⊎ (((place : ℕ) × (fault ≡ Damaged place) × ((s : List ℕ) → told ≡ Some s → IsDamaged place s)) ⊎ IsPassing old new fault)

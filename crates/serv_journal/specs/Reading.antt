@@ -18,7 +18,7 @@ places_in frames = map (λ (frame : ℕ × List ℕ). frame.0) frames
 abbrev pub placed : Version → ℕ → ℕ → List (List ℕ) → List (ℕ × List ℕ)
 placed version at number [] = []
 placed version at number (line ∷ lines) =
-  (at, line) ∷ placed version (at + 1 + length (body version number line)) (number + 1) lines
+    (at, line) ∷ placed version (at + 1 + length (body version number line)) (number + 1) lines
 
 -- a commit byte of version 1 that ends its part: the header of version 2 comes after it
 abbrev pub IsMark : ℕ → List ℕ → Type 0

@@ -28,7 +28,12 @@ pub(crate) struct Found {
 
 /// Reads records of version 2 after a front of this length.
 #[tactic(auto, using(crate::proofs::ReadingLemmas::reading_on, crate::proofs::ReadingLemmas::passing_from))]
-fn find_two<D: Disk>(alloc: Global, window: &mut Window, disk: &mut D, from: u64) -> Result<Found, JournalFault>
+fn find_two<D: Disk>(
+    alloc: Global,
+    window: &mut Window,
+    disk: &mut D,
+    from: u64,
+) -> Result<Found, JournalFault>
     requires within { from ≤ window.old.size }
     requires shows { ShowsTold (D.seen disk.old) window.old }
     requires front { (s : List ℕ) → D.seen disk.old ≡ Some s → IsFront Version.Two (take from s) }
@@ -54,7 +59,11 @@ fn find_two<D: Disk>(alloc: Global, window: &mut Window, disk: &mut D, from: u64
 
 /// Reads records of version 1, and those of version 2 after them where there are.
 #[tactic(auto, using(crate::proofs::ReadingLemmas::reading_on, crate::proofs::ReadingLemmas::passing_from))]
-fn find_one<D: Disk>(alloc: Global, window: &mut Window, disk: &mut D) -> Result<Found, JournalFault>
+fn find_one<D: Disk>(
+    alloc: Global,
+    window: &mut Window,
+    disk: &mut D,
+) -> Result<Found, JournalFault>
     requires within { 8 ≤ window.old.size }
     requires shows { ShowsTold (D.seen disk.old) window.old }
     requires front { (s : List ℕ) → D.seen disk.old ≡ Some s → IsFront Version.One (take 8 s) }
@@ -80,7 +89,11 @@ fn find_one<D: Disk>(alloc: Global, window: &mut Window, disk: &mut D) -> Result
 
 /// Reads the records of the part that is in force.
 #[tactic(auto, using(crate::proofs::ReadingLemmas::reading_on, crate::proofs::ReadingLemmas::passing_from))]
-pub(crate) fn find<D: Disk>(alloc: Global, window: &mut Window, disk: &mut D) -> Result<Found, JournalFault>
+pub(crate) fn find<D: Disk>(
+    alloc: Global,
+    window: &mut Window,
+    disk: &mut D,
+) -> Result<Found, JournalFault>
     requires shows { ShowsTold (D.seen disk.old) window.old }
     ensures found { IfOk result (λ r. (s : List ℕ) → D.seen disk.old ≡ Some s → IsFound r.version r.frames r.place r.commit s) }
     ensures form { IfOk result (λ r. HasForm r.version r.frames r.place) }

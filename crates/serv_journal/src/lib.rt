@@ -21,3 +21,6 @@ pub use format::Version;
 pub use frames::Frames;
 pub use journal::Journal;
 pub use new_journal::init;
+
+#[cfg(test)]
+mod tests;

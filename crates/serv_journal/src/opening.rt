@@ -38,7 +38,11 @@ fn read_all<D: Disk>(alloc: Global, disk: &mut D) -> Result<Found, JournalFault>
 impl Journal {
     /// Opens the journal of a disk: each line that it has, with its place. A commit byte after them that
     /// is not 0 is set to 0. A journal that is longer than the limit opens too.
-    pub fn open<D: Disk>(alloc: Global, disk: &mut D, limit: u64) -> Result<(Journal, Frames), JournalFault>
+    pub fn open<D: Disk>(
+        alloc: Global,
+        disk: &mut D,
+        limit: u64,
+    ) -> Result<(Journal, Frames), JournalFault>
         requires { limit ≤ 2 ^ 32 }
         // What it gives is what the file has.
         ensures opened { IfOk result (λ r. (s : List ℕ) → D.seen disk.old ≡ Some s → IsOpened (D.seen disk.new) r.0 r.1 s) }

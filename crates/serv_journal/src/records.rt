@@ -64,7 +64,12 @@ fn add_in<D: Disk>(
 }
 
 /// Adds a record to a file of this length.
-pub(crate) fn add_record<D: Disk>(disk: &mut D, size: u64, number: u32, line: &[u8]) -> Result<(), Failed>
+pub(crate) fn add_record<D: Disk>(
+    disk: &mut D,
+    size: u64,
+    number: u32,
+    line: &[u8],
+) -> Result<(), Failed>
     requires line { IsLine line.now }
     requires some { 1 ≤ size }
     requires reaches { Reaches (D.seen disk.old) size }

@@ -10,12 +10,12 @@ ghost use Rattle.serv_journal.specs.Disks.{IsWholeIn, IsWhole};
 ghost use Rattle.serv_journal.specs.Reading.{lines_in};
 ghost use Rattle.serv_journal.specs.Outcomes.{Reaches};
 
+use crate::calls::sync_all;
 use crate::faults::JournalFault;
 use crate::format::Version;
 use crate::frames::Frames;
 use crate::journal::Journal;
 use crate::records::{ROOM, lay_out};
-use crate::calls::sync_all;
 use crate::writes::{lay, set_byte};
 use serv_disk::{Disk, Failed};
 
@@ -99,7 +99,13 @@ fn lay_in<D: Disk>(
 }
 
 /// The same, laid out in a room of its own.
-fn lay_record<D: Disk>(disk: &mut D, at: u64, number: u32, line: &[u8], next: u8) -> Result<(), Failed>
+fn lay_record<D: Disk>(
+    disk: &mut D,
+    at: u64,
+    number: u32,
+    line: &[u8],
+    next: u8,
+) -> Result<(), Failed>
     requires line { IsLine line.now }
     requires reaches { Reaches (D.seen disk.old) at }
     ensures told { OnOk result (Told (D.seen disk.old) (D.seen disk.new) (Holds at (body Version.Two number line.now ++ next ∷ []))) }

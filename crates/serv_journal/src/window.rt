@@ -115,7 +115,12 @@ impl Window {
 
     /// Fills the room with the bytes from this place on.
     #[tactic(auto, using(crate::proofs::ReadingLemmas::reading_on, crate::proofs::ReadingLemmas::passing_from))]
-    pub(crate) fn fill<D: Disk>(&mut self, disk: &mut D, place: u64, room: &mut [u8]) -> Result<(), JournalFault>
+    pub(crate) fn fill<D: Disk>(
+        &mut self,
+        disk: &mut D,
+        place: u64,
+        room: &mut [u8],
+    ) -> Result<(), JournalFault>
         requires within { place + length room.old ≤ self.old.size }
         requires shows { ShowsTold (D.seen disk.old) self.old }
         ensures bytes { OnOk result ((s : List ℕ) → D.seen disk.old ≡ Some s → room.new ≡ take (length room.old) (drop place s)) }
@@ -152,7 +157,12 @@ impl Window {
 
     /// Whether this text stands at a place.
     #[tactic(auto, using(crate::proofs::ReadingLemmas::reading_on, crate::proofs::ReadingLemmas::passing_from))]
-    pub(crate) fn has_text<D: Disk>(&mut self, disk: &mut D, place: u64, text: &[u8; 8]) -> Result<bool, JournalFault>
+    pub(crate) fn has_text<D: Disk>(
+        &mut self,
+        disk: &mut D,
+        place: u64,
+        text: &[u8; 8],
+    ) -> Result<bool, JournalFault>
         requires within { place ≤ self.old.size }
         requires shows { ShowsTold (D.seen disk.old) self.old }
         ensures found { IfOk result (λ b. IsTrue b → place + 8 ≤ self.old.size) }

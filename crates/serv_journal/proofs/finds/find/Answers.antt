@@ -22,7 +22,10 @@ find_one-requires-clause-front g c = λ s is.
 
 pub returns-clause-fault : goal.returns-clause-fault
 unfolding header
-returns-clause-fault g c = inl (refl, λ s is. record {
-  not_one = no_text c.in_ok-is_one.is_one _ (c.in_ok-is_one.ensures.text s (c.has_text.ensures.reading.stays.told ∙ is)).1 c.if-is_one.false;
-  not_two = no_text c.in_ok-is_two.is_two _ (c.in_ok-is_two.ensures.text s is).1 c.if-is_two.false;
-})
+returns-clause-fault g c = inl (
+  refl,
+  λ s is. record {
+    not_one = no_text c.in_ok-is_one.is_one _ (c.in_ok-is_one.ensures.text s (c.has_text.ensures.reading.stays.told ∙ is)).1 c.if-is_one.false;
+    not_two = no_text c.in_ok-is_two.is_two _ (c.in_ok-is_two.ensures.text s is).1 c.if-is_two.false;
+  },
+)

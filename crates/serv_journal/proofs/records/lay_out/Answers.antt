@@ -12,5 +12,5 @@ returns c =
     let head_is : c.copy_from_slice.new.self ≡ head = c.copy_from_slice.ensures.after ∙ c.head_of.ensures in
     let k : ℕ = 6 + length line - 6 in
     ap (λ t. set (put_mid 6 k (t ++ drop 6 c.args.room.now) c.copy_from_slice-2.new.self) (6 + length line) c.args.next) head_is
-      ∙ (ap (λ t. set (put_mid 6 k (head ++ drop 6 c.args.room.now) t) (6 + length line) c.args.next) c.copy_from_slice-2.ensures.after
-      ∙ laid_is head line c.args.room.now k c.args.next (omega arith) (omega arith) c.requires.room)
+    ∙ (ap (λ t. set (put_mid 6 k (head ++ drop 6 c.args.room.now) t) (6 + length line) c.args.next) c.copy_from_slice-2.ensures.after
+    ∙ laid_is head line c.args.room.now k c.args.next (omega arith) (omega arith) c.requires.room)

@@ -19,10 +19,10 @@ loop-frames-preserved g c =
     record {
       reading = reading_on _ _ _ _ _ _ _ _ _ _ _ was.reading c.step_at.ensures.reading;
       placed = subst (λ (f : List (ℕ × List ℕ)). IsPlaced c.args.version c.args.from f next) (sym added)
-        (placed_more c.args.version c.args.from place next c.loop-frames.frames line was.placed fits.0 next_is);
+          (placed_more c.args.version c.args.from place next c.loop-frames.frames line was.placed fits.0 next_is);
       within = omega (arith, next_is, fits.1, was.reading.size);
       few = omega (arith, ap length added, length_push c.loop-frames.frames (place, line), was.few, next_is, head_least c.args.version, fits.0.some);
       scanned = λ s is. subst (λ (f : List (ℕ × List ℕ)). IsScanned c.args.version c.args.from f next s) (sym added)
-        (scanned_push c.args.version c.args.from place next (c.len.result + 1) c.loop-frames.frames line s (was.scanned s is) (omega (arith, c.len.ensures))
+          (scanned_push c.args.version c.args.from place next (c.len.result + 1) c.loop-frames.frames line s (was.scanned s is) (omega (arith, c.len.ensures))
           (rw c.in-Record.is at (c.in_ok-line.ensures.step s (was.reading.stays.told ∙ is))) next_is);
     }

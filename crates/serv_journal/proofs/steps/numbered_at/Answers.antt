@@ -12,7 +12,7 @@ returns-then-from-number-clause-found g c = λ s is.
 pub returns-clause-found : goal.returns-clause-found
 returns-clause-found g c =
     IfOk-weaker c.line_at.result _ _
-      (λ found said s is. numbered_found s c.args.place c.args.number found
-        (subst (λ (n : ℕ). Starts (four_bytes n) (drop c.args.place s)) (sym c.from.ensures ∙ c.if-from-number.false) (c.in_ok-found.ensures.number s is))
-        (said s (c.four_at.ensures.reading.stays.told ∙ is)))
-      c.line_at.ensures.found
+    (λ found said s is. numbered_found s c.args.place c.args.number found
+    (subst (λ (n : ℕ). Starts (four_bytes n) (drop c.args.place s)) (sym c.from.ensures ∙ c.if-from-number.false) (c.in_ok-found.ensures.number s is))
+    (said s (c.four_at.ensures.reading.stays.told ∙ is)))
+    c.line_at.ensures.found

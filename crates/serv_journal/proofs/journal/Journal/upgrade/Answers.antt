@@ -35,7 +35,7 @@ returns-in-Ok-clause-upgraded g c = λ form stands.
     let one : form.version ≡ One = sym stands.version ∙ c.requires.version in
     let size = ap (λ (j : JournalState). j.size) c.self.view_is in
     stands_upgraded form lines c.args.self.now _ stands one refl (c.len.ensures ∙ sym (length_lines_in c.args.frames.now))
-      (c.in-Some.ensures.0 ∙ ap (λ n. n + 9 + length (records Two 1 lines)) size)
+    (c.in-Some.ensures.0 ∙ ap (λ n. n + 9 + length (records Two 1 lines)) size)
 
 pub returns-in-Ok-clause-durable : goal.returns-in-Ok-clause-durable
 returns-in-Ok-clause-durable g c = λ form stands each x h.

@@ -11,9 +11,9 @@ returns-clause-reading g c = record {
   later = c.read.ensures.cause.later;
   size = ap (λ (w : WindowState). w.size) c.self.view_is;
   shows = λ s is.
-    let was = sym c.read.ensures.kept ∙ is in
-    record {
-      size = ap (λ (w : WindowState). w.size) c.self.view_is ∙ (c.requires.shows s was).size;
-      bytes = window_shown c.read.new.buf (post_of 0 c.min-count.result c.self.inside.room) _ c.min-count.result _ (search rules) (c.in_ok-read.ensures.bytes s was);
-    };
+      let was = sym c.read.ensures.kept ∙ is in
+      record {
+        size = ap (λ (w : WindowState). w.size) c.self.view_is ∙ (c.requires.shows s was).size;
+        bytes = window_shown c.read.new.buf (post_of 0 c.min-count.result c.self.inside.room) _ c.min-count.result _ (search rules) (c.in_ok-read.ensures.bytes s was);
+      };
 }

@@ -1,3 +1,9 @@
+//! Worked files, cuts and stops.
+
+ghost use Rattle.std.specs.Prelude.{◌≤◌, ◌^◌};
+ghost use Rattle.serv_journal.specs.Format.{AreLines};
+ghost use Rattle.serv_journal.specs.Reading.{lines_in};
+
 use crate::{Frames, Journal, JournalFault, init};
 use serv_disk::{MemDisk, Torn};
 use std::alloc::{AllocError, Global};
@@ -67,7 +73,11 @@ fn open_upgraded(
 }
 
 /// An upgrade whose conditions are tested first, but for that the lines are lines.
-fn upgrade_now(journal: &mut Journal, disk: &mut MemDisk, frames: &Frames) -> Result<(), JournalFault>
+fn upgrade_now(
+    journal: &mut Journal,
+    disk: &mut MemDisk,
+    frames: &Frames,
+) -> Result<(), JournalFault>
     requires { AreLines (lines_in frames.now) }
 {
     if journal.version() == 2 {
@@ -98,7 +108,11 @@ fn are_lines(frames: &Frames, lines: &[&[u8]]) -> bool {
 /// The file of these lines in a version.
 fn file_of(alloc: Global, version: u32, lines: &[&[u8]]) -> Result<Vec<u8>, AllocError> {
     let mut bytes = Vec::new(alloc);
-    bytes.extend_from_slice(if version == 2 { b"MSRVJ002" } else { b"MSRVJ001" })?;
+    bytes.extend_from_slice(if version == 2 {
+        b"MSRVJ002"
+    } else {
+        b"MSRVJ001"
+    })?;
     let mut number = 0u32;
     for line in lines {
         number = number.wrapping_add(1);
@@ -130,7 +144,9 @@ fn each_cut_of_a_journal_of_one_line_is_found(rt: HostRuntime) -> Result<(), Fai
 }
 
 #[test]
-fn a_wrong_number_is_damage_and_a_closed_commit_byte_ends_the_records(rt: HostRuntime) -> Result<(), Fail> {
+fn a_wrong_number_is_damage_and_a_closed_commit_byte_ends_the_records(
+    rt: HostRuntime,
+) -> Result<(), Fail> {
     let alloc = rt.alloc();
     for (at, value, expected) in [
         (12, 2, Err(JournalFault::Damaged(8))),
@@ -176,11 +192,17 @@ fn a_line_is_added_up_to_the_limit(rt: HostRuntime) -> Result<(), Fail> {
     assert_eq!(rt; disk.content(), ONE_LINE);
     let mut narrow = disk_of(alloc, ONE_LINE)?;
     let (mut full, _) = Journal::open(alloc, &mut narrow, 56)?;
-    assert_eq!(rt; add(&mut full, &mut narrow, b"k2 day 2024-02-02"), Err(JournalFault::Full(33)));
+    assert_eq!(rt;
+        add(&mut full, &mut narrow, b"k2 day 2024-02-02"),
+        Err(JournalFault::Full(33))
+    );
     assert_eq!(rt; narrow.content(), ONE_LINE);
     assert_eq!(rt; add(&mut journal, &mut disk, b"k2 day 2024-02-02"), Ok(()));
     assert_eq!(rt; journal.length(), 57);
-    assert_eq!(rt; add(&mut journal, &mut disk, b"x"), Err(JournalFault::Full(57)));
+    assert_eq!(rt;
+        add(&mut journal, &mut disk, b"x"),
+        Err(JournalFault::Full(57))
+    );
     let (_, frames) = Journal::open(alloc, &mut disk, LIMIT)?;
     assert!(rt; are_lines(&frames, &[b"k1 day 2024-02-01", b"k2 day 2024-02-02"]));
     assert_eq!(rt; frames.len(), 2);
@@ -192,7 +214,12 @@ fn a_line_is_added_up_to_the_limit(rt: HostRuntime) -> Result<(), Fail> {
 fn a_journal_of_version_1_is_upgraded_within_the_limit(rt: HostRuntime) -> Result<(), Fail> {
     let alloc = rt.alloc();
     let mut narrow = disk_of(alloc, OLD_LINE)?;
-    assert!(rt; matches!(open_upgraded(alloc, &mut narrow, 61, 99), Err(JournalFault::Full(29))));
+    assert!(rt;
+        matches!(
+            open_upgraded(alloc, &mut narrow, 61, 99),
+            Err(JournalFault::Full(29))
+        )
+    );
     assert_eq!(rt; narrow.content(), OLD_LINE);
     let mut disk = disk_of(alloc, OLD_LINE)?;
     let (mut journal, _) = open_upgraded(alloc, &mut disk, 62, 99)?;
@@ -202,7 +229,10 @@ fn a_journal_of_version_1_is_upgraded_within_the_limit(rt: HostRuntime) -> Resul
     expected.extend_from_slice(ONE_LINE)?;
     let marked = changed(alloc, &expected, 28, 2)?;
     assert_eq!(rt; disk.content(), &marked[..]);
-    assert_eq!(rt; add(&mut journal, &mut disk, b"k2 day 2024-02-02"), Err(JournalFault::Full(62)));
+    assert_eq!(rt;
+        add(&mut journal, &mut disk, b"k2 day 2024-02-02"),
+        Err(JournalFault::Full(62))
+    );
     let (_, frames) = Journal::open(alloc, &mut disk, LIMIT)?;
     assert!(rt; are_lines(&frames, &[b"k1 day 2024-02-01"]));
     assert_eq!(rt; frames.len(), 1);
