@@ -7,13 +7,13 @@ use Rattle.serv_journal.specs.declared.format.Version.TheVariants.{One, Two}
 use Rattle.serv_journal.specs.Bytes.{Starts, Between}
 use Rattle.serv_journal.specs.Format.{Form, IsForm, IsFront, IsLine, AreLines, base, body, records, header, two_bytes, four_bytes, head_size}
 use Rattle.serv_journal.specs.States.{JournalState, StandsFor}
-use Rattle.serv_journal.specs.Disks.{IsWholeIn, IsTornIn, IsGood, IsDurableFor}
+use Rattle.serv_journal.specs.Disks.{IsWholeIn, IsTornIn, IsWhole, IsGood, IsDurableFor}
 use Rattle.serv_journal.specs.Reading.{lines_in, placed, IsMark, IsRead, IsDamaged, IsBadEnd, IsBadRecord, IsBadLine, HasBadLength, IsNoJournal, IsOpened}
 use Rattle.serv_journal.specs.Finds.{IsFound, HasForm, IsFindFault}
 use Rattle.serv_journal.specs.Outcomes.{IsPassing}
 use Rattle.serv_journal.specs.declared.faults.JournalFault.{JournalFault}
 use Rattle.serv_journal.specs.declared.faults.JournalFault.TheVariants.{NotJournal, Damaged}
-use Rattle.serv_journal.proofs.ByteLemmas.{torn_byte, first_starts}
+use Rattle.serv_journal.proofs.ByteLemmas.{torn_byte, first_starts, starts_fits}
 use Rattle.serv_journal.proofs.FormatLemmas.{between_good, lines_push, closed_starts, length_of_body}
 use Rattle.serv_journal.proofs.UniqueLemmas.{NoRecord, NoMark, Same, same_found, closed_no_record, not_header, two_same, four_same}
 use Rattle.serv_journal.proofs.ScanLemmas.{length_lines_in, records_least}
@@ -299,3 +299,16 @@ only_not_journal told s old new fault is none found =
     (λ same. inl same.0)
     (λ more. ⊎_elim (λ other. let damaged = other.2 s is in absurd (form_or_none damaged.form damaged.lines damaged.tail s damaged.is_form damaged.is none)) (λ passing. inr passing) more)
     found
+
+-- what reads give reaches the length of a journal that each image has
+pub durable_reaches : (images : List ℕ → Type 0) (journal : JournalState) (lines : List (List ℕ)) (s : List ℕ) → IsDurableFor images journal lines → images s → journal.size ≤ length s
+durable_reaches images journal lines s durable image =
+    omega (arith, durable.stands.size, starts_fits (base durable.form lines ++ 0 ∷ []) s (durable.each s image), length-append (base durable.form lines) (0 ∷ []))
+
+-- a file that is whole for lines is good for them and one line more, and for all of them but the last
+pub whole_good : (lines xs : List (List ℕ)) (line file : List ℕ) → (lines ≡ xs) ⊎ (lines ≡ xs ++ line ∷ []) → IsWhole lines file → IsGood xs line file
+whole_good lines xs line file which whole = record {
+  form = whole.form;
+  is_form = whole.is_form;
+  good = ⊎_elim (λ same. inl (subst (λ l. IsWholeIn whole.form l file) same whole.whole)) (λ more. inr (inr (subst (λ l. IsWholeIn whole.form l file) more whole.whole))) which;
+}

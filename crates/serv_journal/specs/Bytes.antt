@@ -11,6 +11,7 @@ pub record Between (front rest file : List ℕ) : Type 0 where
   pub byte : ℕ
   pub starts : Starts (front ++ byte ∷ rest) file
 
--- while a record is added after front: its commit byte is closed, or the record is there after any commit byte
+-- while a record is added after front: its commit byte is closed, or the record is there after any
+-- commit byte
 abbrev pub IsOpening : List ℕ → List ℕ → List ℕ → Type 0
 IsOpening front bytes file = Starts (front ++ 0 ∷ []) file ⊎ Between front bytes file

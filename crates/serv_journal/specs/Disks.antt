@@ -33,7 +33,8 @@ pub record IsGood (lines : List (List ℕ)) (line file : List ℕ) : Type 0 wher
   pub good : IsGoodIn form lines line file
 
 -- the journal has these lines in some form, and so has each image of the disk
-pub record IsDurableFor (images : List ℕ → Type 0) (journal : JournalState) (lines : List (List ℕ)) : Type 0 where
+pub record IsDurableFor (images : List ℕ
+    → Type 0) (journal : JournalState) (lines : List (List ℕ)) : Type 0 where
   pub form : Form
   pub stands : StandsFor form lines journal
   pub each : Each images (IsWholeIn form lines)

@@ -8,7 +8,8 @@ use Rattle.serv_journal.specs.Reading.{lines_in, placed, IsRead, IsDamaged, IsNo
 use Rattle.serv_journal.specs.Outcomes.{IsPassing}
 
 -- the file has these records in some form, and this commit byte after them at this place
-pub record IsFound (version : Version) (frames : List (ℕ × List ℕ)) (place commit : ℕ) (file : List ℕ) : Type 0 where
+pub record IsFound (version : Version) (frames : List (ℕ × List ℕ)) (place commit : ℕ)
+    (file : List ℕ) : Type 0 where
   pub form : Form
   pub same : version ≡ form.version
   pub rest : List ℕ
@@ -28,4 +29,5 @@ pub record HasForm (version : Version) (frames : List (ℕ × List ℕ)) (place 
 abbrev pub IsFindFault : Option (List ℕ) → ℕ → ℕ → JournalFault → Type 0
 IsFindFault told old new fault =
     ((fault ≡ NotJournal) × ((s : List ℕ) → told ≡ Some s → IsNoJournal s))
-    ⊎ (((place : ℕ) × (fault ≡ Damaged place) × ((s : List ℕ) → told ≡ Some s → IsDamaged place s)) ⊎ IsPassing old new fault)
+    ⊎ (((place : ℕ) × (fault ≡ Damaged place) × ((s : List ℕ) → told ≡ Some s → IsDamaged place s))
+    ⊎ IsPassing old new fault)

@@ -10,7 +10,8 @@ IsPassing old new fault = (fault ≡ OutOfMemory) ⊎ ((fault ≡ DiskFault) × 
 
 -- no Ok, and no other fault than this one and passing ones
 abbrev pub IsOnlyFault : {T : Type 0} → JournalFault → ℕ → ℕ → Result T JournalFault → Type 0
-IsOnlyFault fault old new result = MatchResult result (λ _. ⊥) (λ other. (other ≡ fault) ⊎ IsPassing old new other)
+IsOnlyFault fault old new result = MatchResult result (λ _. ⊥) (λ other. (other ≡ fault)
+    ⊎ IsPassing old new other)
 
 -- where the disk tells what reads give, that reaches a place
 abbrev pub Reaches : Option (List ℕ) → ℕ → Type 0
@@ -18,4 +19,5 @@ Reaches told place = (s : List ℕ) → told ≡ Some s → place ≤ length s
 
 -- a fault of opening
 abbrev pub IsOpenFault : ℕ → ℕ → JournalFault → Type 0
-IsOpenFault old new fault = (fault ≡ NotJournal) ⊎ (((place : ℕ) × (fault ≡ Damaged place)) ⊎ IsPassing old new fault)
+IsOpenFault old new fault = (fault ≡ NotJournal)
+    ⊎ (((place : ℕ) × (fault ≡ Damaged place)) ⊎ IsPassing old new fault)

@@ -32,7 +32,7 @@ pub record IsRead (form : Form) (lines : List (List ℕ)) (commit : ℕ) (rest f
   pub unmarked : form.version ≡ One → IsMark commit rest → ⊥
   pub is : file ≡ base form lines ++ commit ∷ rest
 
--- the bytes are no length and line: they are fewer than two, or the length is 0, above 512, or more than there is
+-- the bytes begin with a length that no line has: 0, above 512, or more than there is
 pub record HasBadLength (bytes : List ℕ) : Type 0 where
   pub size : ℕ
   pub starts : Starts (two_bytes size) bytes
@@ -44,11 +44,13 @@ IsBadLine bytes = (length bytes < 2) ⊎ HasBadLength bytes
 -- the bytes after an open commit byte are no record with this number
 abbrev pub IsBadRecord : Version → ℕ → List ℕ → Type 0
 IsBadRecord One number bytes = (Starts (header Two) bytes → ⊥) × IsBadLine bytes
-IsBadRecord Two number bytes = (length bytes < 6) ⊎ ((Starts (four_bytes number) bytes → ⊥) ⊎ IsBadLine (drop 4 bytes))
+IsBadRecord Two number bytes = (length bytes < 6)
+    ⊎ ((Starts (four_bytes number) bytes → ⊥) ⊎ IsBadLine (drop 4 bytes))
 
 -- no commit byte, or an open one with no record after it
 abbrev pub IsBadEnd : Version → ℕ → List ℕ → Type 0
-IsBadEnd version number tail = (tail ≡ []) ⊎ ((bytes : List ℕ) × (tail ≡ 1 ∷ bytes) × IsBadRecord version number bytes)
+IsBadEnd version number tail = (tail ≡ [])
+    ⊎ ((bytes : List ℕ) × (tail ≡ 1 ∷ bytes) × IsBadRecord version number bytes)
 
 -- the file is damaged at this place: whole records stand before it, and none from there on
 pub record IsDamaged (place : ℕ) (file : List ℕ) : Type 0 where
@@ -66,9 +68,10 @@ pub record IsNoJournal (file : List ℕ) : Type 0 where
   pub not_one : Starts (header One) file → ⊥
   pub not_two : Starts (header Two) file → ⊥
 
--- what opening gives of a file: the lines that it has, with their places, the journal that stands for them, and what
--- reads give afterwards: the same bytes, but for the commit byte after the last record, which is 0
-pub record IsOpened (told : Option (List ℕ)) (journal : JournalState) (frames : List (ℕ × List ℕ)) (file : List ℕ) : Type 0 where
+-- what opening gives of a file: the lines that it has, with their places, the journal that stands for
+-- them, and what -- reads give afterwards: the same bytes, but for the commit byte after the last record, which is 0
+pub record IsOpened (told : Option (List ℕ)) (journal : JournalState) (frames : List (ℕ × List ℕ))
+    (file : List ℕ) : Type 0 where
   pub form : Form
   pub commit : ℕ
   pub rest : List ℕ

@@ -11,6 +11,7 @@ pub record IsPlaced (version : Version) (at : ℕ) (frames : List (ℕ × List �
   pub end : place ≡ at + length (records version 1 (lines_in frames))
 
 -- the file has these records from one place to another
-pub record IsScanned (version : Version) (at : ℕ) (frames : List (ℕ × List ℕ)) (place : ℕ) (file : List ℕ) : Type 0 where
+pub record IsScanned (version : Version) (at : ℕ) (frames : List (ℕ × List ℕ)) (place : ℕ)
+    (file : List ℕ) : Type 0 where
   pub within : place ≤ length file
   pub is : take place file ≡ take at file ++ records version 1 (lines_in frames)

@@ -3,7 +3,8 @@ use Rattle.std.specs.Prelude.{◌≡◌, ℕ, ◌+◌, List, Bool, length}
 use Rattle.serv_journal.specs.declared.format.Version.{Version}
 use Rattle.serv_journal.specs.Format.{Form, IsForm, AreLines, base}
 
--- the journal's length, the limit on it, how many records it has, their version, and whether a call has failed
+-- the journal's length, the limit on it, how many records it has, their version, and whether a call of
+-- the disk has failed
 pub record JournalState : Type 0 where
   pub size : ℕ
   pub limit : ℕ

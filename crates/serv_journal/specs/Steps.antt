@@ -38,5 +38,6 @@ EndFits version place size Marked = (version ≡ One) × (place + 9 ≤ size)
 EndFits version place size Bad = place ≤ size
 
 abbrev pub StepFits : Version → ℕ → ℕ → Step → Type 0
-StepFits version place size (Record line) = IsLine line.items × (place + 1 + head_size version + length line.items ≤ size)
+StepFits version place size (Record line) = IsLine line.items
+    × (place + 1 + head_size version + length line.items ≤ size)
 StepFits version place size (Ends end) = EndFits version place size end

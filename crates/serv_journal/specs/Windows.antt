@@ -16,8 +16,10 @@ pub record Shows (window : WindowState) (file : List ℕ) : Type 0 where
 abbrev pub ShowsTold : Option (List ℕ) → WindowState → Type 0
 ShowsTold told window = (s : List ℕ) → told ≡ Some s → Shows window s
 
--- a run of reads through a window: the disk stays as it was, its count of faults does not fall, and the window shows it
-pub record IsReading {D : Type 0} (seen : D → Option (List ℕ)) (images : D → List ℕ → Type 0) (moment : D → ℕ) (images_since : D → ℕ → List ℕ → Type 0)
+-- a run of reads through a window: the disk stays as it was, its count of faults does not fall, and the
+-- window shows it
+pub record IsReading {D : Type 0} (seen : D → Option (List ℕ)) (images : D → List ℕ → Type 0) (moment : D
+    → ℕ) (images_since : D → ℕ → List ℕ → Type 0)
     (faults : D → ℕ) (old new : D) (before after : WindowState) : Type 0 where
   pub stays : Stays seen images moment images_since old new
   pub later : faults old ≤ faults new

@@ -38,10 +38,12 @@ fn find_two<D: Disk>(
     requires shows { ShowsTold (D.seen disk.old) window.old }
     requires front { (s : List ℕ) → D.seen disk.old ≡ Some s → IsFront Version.Two (take from s) }
     requires form { (front : List ℕ) × IsFront Version.Two front × (length front ≡ from) }
-    ensures found { IfOk result (λ r. (s : List ℕ) → D.seen disk.old ≡ Some s → IsFound r.version r.frames r.place r.commit s) }
+    ensures found { IfOk result (λ r. (s : List ℕ) → D.seen disk.old ≡ Some s
+        → IsFound r.version r.frames r.place r.commit s) }
     ensures form { IfOk result (λ r. HasForm r.version r.frames r.place) }
     ensures fits { IfOk result (λ r. r.place + 1 ≤ window.old.size) }
-    ensures reading { IsReading D.seen D.images D.moment D.images_since D.faults disk.old disk.new window.old window.new }
+    ensures reading { IsReading D.seen D.images D.moment D.images_since D.faults disk.old disk.new
+        window.old window.new }
     ensures fault { IfErr result (IsFindFault (D.seen disk.old) (D.faults disk.old) (D.faults disk.new)) }
 {
     let scan = scan_from(alloc, window, disk, Version::Two, from)?;
@@ -67,10 +69,12 @@ fn find_one<D: Disk>(
     requires within { 8 ≤ window.old.size }
     requires shows { ShowsTold (D.seen disk.old) window.old }
     requires front { (s : List ℕ) → D.seen disk.old ≡ Some s → IsFront Version.One (take 8 s) }
-    ensures found { IfOk result (λ r. (s : List ℕ) → D.seen disk.old ≡ Some s → IsFound r.version r.frames r.place r.commit s) }
+    ensures found { IfOk result (λ r. (s : List ℕ) → D.seen disk.old ≡ Some s
+        → IsFound r.version r.frames r.place r.commit s) }
     ensures form { IfOk result (λ r. HasForm r.version r.frames r.place) }
     ensures fits { IfOk result (λ r. r.place + 1 ≤ window.old.size) }
-    ensures reading { IsReading D.seen D.images D.moment D.images_since D.faults disk.old disk.new window.old window.new }
+    ensures reading { IsReading D.seen D.images D.moment D.images_since D.faults disk.old disk.new
+        window.old window.new }
     ensures fault { IfErr result (IsFindFault (D.seen disk.old) (D.faults disk.old) (D.faults disk.new)) }
 {
     let _size = window.size();
@@ -95,10 +99,12 @@ pub(crate) fn find<D: Disk>(
     disk: &mut D,
 ) -> Result<Found, JournalFault>
     requires shows { ShowsTold (D.seen disk.old) window.old }
-    ensures found { IfOk result (λ r. (s : List ℕ) → D.seen disk.old ≡ Some s → IsFound r.version r.frames r.place r.commit s) }
+    ensures found { IfOk result (λ r. (s : List ℕ) → D.seen disk.old ≡ Some s
+        → IsFound r.version r.frames r.place r.commit s) }
     ensures form { IfOk result (λ r. HasForm r.version r.frames r.place) }
     ensures fits { IfOk result (λ r. r.place + 1 ≤ window.old.size) }
-    ensures reading { IsReading D.seen D.images D.moment D.images_since D.faults disk.old disk.new window.old window.new }
+    ensures reading { IsReading D.seen D.images D.moment D.images_since D.faults disk.old disk.new
+        window.old window.new }
     ensures fault { IfErr result (IsFindFault (D.seen disk.old) (D.faults disk.old) (D.faults disk.new)) }
 {
     let is_two = window.has_text(disk, 0, &HEADER_TWO)?;

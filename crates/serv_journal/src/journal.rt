@@ -32,7 +32,13 @@ impl Model for Journal {
 
     ghost Value = { JournalState };
 
-    ghost view = { λ j. record { size = j.size; limit = j.limit; count = j.count; version = j.version; spent = j.spent } };
+    ghost view = { λ j. record {
+      size = j.size;
+      limit = j.limit;
+      count = j.count;
+      version = j.version;
+      spent = j.spent;
+    } };
 
     ghost invariant = { λ j. (j.limit ≤ 2 ^ 32) × (8 + (head_size j.version + 2) * j.count < j.size) };
 }
@@ -78,8 +84,10 @@ impl Journal {
             → Each (D.images disk.old) (IsWholeIn form lines)
             → OnOk result (Each (D.images disk.new) (IsWholeIn form (lines ++ line.now ∷ []))) }
         // `Full` comes exactly where the length would pass the limit, and then nothing is written.
-        ensures full { IsErrOf result (JournalFault.Full self.old.size) ↔ (self.old.limit < self.old.size + 7 + length line.now) }
-        ensures kept { self.old.limit < self.old.size + 7 + length line.now → (self.new ≡ self.old) × (disk.new ≡ disk.old) }
+        ensures full { IsErrOf result (JournalFault.Full self.old.size) ↔
+            (self.old.limit < self.old.size + 7 + length line.now) }
+        ensures kept { self.old.limit < self.old.size + 7 + length line.now
+            → (self.new ≡ self.old) × (disk.new ≡ disk.old) }
         ensures fault { IfErr result (λ fault. (fault ≡ JournalFault.Full self.old.size)
             ⊎ ((fault ≡ JournalFault.DiskFault) × HasRisen (D.faults disk.old) (D.faults disk.new))) }
         // The journal is spent exactly after `DiskFault`.

@@ -26,11 +26,13 @@ pub fn init<D: Disk>(disk: &mut D) -> Result<(), JournalFault>
     ensures moments { Each (D.images disk.old) (λ c. length c ≤ 9)
         → LeavesOnly D.moment D.images_since disk.old disk.new (λ c. length c ≤ 9) }
     // `AlreadyThere` comes exactly where the file is longer, and then nothing is written.
-    ensures already { IsErrOf result JournalFault.AlreadyThere → (s : List ℕ) → D.seen disk.old ≡ Some s → 9 < length s }
+    ensures already { IsErrOf result JournalFault.AlreadyThere → (s : List ℕ) → D.seen disk.old ≡ Some s
+        → 9 < length s }
     ensures longer { (s : List ℕ) → D.seen disk.old ≡ Some s → 9 < length s
         → IsOnlyFault JournalFault.AlreadyThere (D.faults disk.old) (D.faults disk.new) result }
     ensures kept { IsErrOf result JournalFault.AlreadyThere → D.seen disk.new ≡ D.seen disk.old }
-    ensures kept_images { IsErrOf result JournalFault.AlreadyThere → Each (D.images disk.new) (D.images disk.old) }
+    ensures kept_images { IsErrOf result JournalFault.AlreadyThere
+        → Each (D.images disk.new) (D.images disk.old) }
     // Any other fault is the disk's, whose count has risen.
     ensures fault { IfErr result (λ fault. (fault ≡ JournalFault.AlreadyThere)
         ⊎ ((fault ≡ JournalFault.DiskFault) × HasRisen (D.faults disk.old) (D.faults disk.new))) }

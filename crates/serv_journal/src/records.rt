@@ -53,10 +53,14 @@ fn add_in<D: Disk>(
     requires room { length room.old ≡ 7 + length line.now }
     requires some { 1 ≤ size }
     requires reaches { Reaches (D.seen disk.old) size }
-    ensures durable { (front : List ℕ) → length front + 1 ≡ size → Each (D.images disk.old) (Starts (front ++ 0 ∷ []))
-        → OnOk result (Each (D.images disk.new) (Starts (front ++ 1 ∷ (body Version.Two number line.now ++ 0 ∷ [])))) }
-    ensures moments { (front : List ℕ) → length front + 1 ≡ size → Each (D.images disk.old) (Starts (front ++ 0 ∷ []))
-        → LeavesOnly D.moment D.images_since disk.old disk.new (IsOpening front (body Version.Two number line.now ++ 0 ∷ [])) }
+    ensures durable { (front : List ℕ) → length front + 1 ≡ size
+        → Each (D.images disk.old) (Starts (front ++ 0 ∷ []))
+        → OnOk result (Each (D.images disk.new)
+        (Starts (front ++ 1 ∷ (body Version.Two number line.now ++ 0 ∷ [])))) }
+    ensures moments { (front : List ℕ) → length front + 1 ≡ size
+        → Each (D.images disk.old) (Starts (front ++ 0 ∷ []))
+        → LeavesOnly D.moment D.images_since disk.old disk.new
+        (IsOpening front (body Version.Two number line.now ++ 0 ∷ [])) }
     ensures cause { HasCause (D.faults disk.old) (D.faults disk.new) result }
 {
     lay_out(number, line, 0, room);
@@ -73,10 +77,14 @@ pub(crate) fn add_record<D: Disk>(
     requires line { IsLine line.now }
     requires some { 1 ≤ size }
     requires reaches { Reaches (D.seen disk.old) size }
-    ensures durable { (front : List ℕ) → length front + 1 ≡ size → Each (D.images disk.old) (Starts (front ++ 0 ∷ []))
-        → OnOk result (Each (D.images disk.new) (Starts (front ++ 1 ∷ (body Version.Two number line.now ++ 0 ∷ [])))) }
-    ensures moments { (front : List ℕ) → length front + 1 ≡ size → Each (D.images disk.old) (Starts (front ++ 0 ∷ []))
-        → LeavesOnly D.moment D.images_since disk.old disk.new (IsOpening front (body Version.Two number line.now ++ 0 ∷ [])) }
+    ensures durable { (front : List ℕ) → length front + 1 ≡ size
+        → Each (D.images disk.old) (Starts (front ++ 0 ∷ []))
+        → OnOk result (Each (D.images disk.new)
+        (Starts (front ++ 1 ∷ (body Version.Two number line.now ++ 0 ∷ [])))) }
+    ensures moments { (front : List ℕ) → length front + 1 ≡ size
+        → Each (D.images disk.old) (Starts (front ++ 0 ∷ []))
+        → LeavesOnly D.moment D.images_since disk.old disk.new
+        (IsOpening front (body Version.Two number line.now ++ 0 ∷ [])) }
     ensures cause { HasCause (D.faults disk.old) (D.faults disk.new) result }
 {
     let mut room = [0; ROOM];

@@ -40,8 +40,10 @@ pub(crate) enum Step {
 fn two_at<D: Disk>(window: &mut Window, disk: &mut D, place: u64) -> Result<u16, JournalFault>
     requires within { place + 2 ≤ window.old.size }
     requires shows { ShowsTold (D.seen disk.old) window.old }
-    ensures number { IfOk result (λ n. (s : List ℕ) → D.seen disk.old ≡ Some s → Starts (two_bytes n) (drop place s)) }
-    ensures reading { IsReading D.seen D.images D.moment D.images_since D.faults disk.old disk.new window.old window.new }
+    ensures number { IfOk result (λ n. (s : List ℕ) → D.seen disk.old ≡ Some s
+        → Starts (two_bytes n) (drop place s)) }
+    ensures reading { IsReading D.seen D.images D.moment D.images_since D.faults disk.old disk.new
+        window.old window.new }
     ensures fault { IfErr result (IsPassing (D.faults disk.old) (D.faults disk.new)) }
 {
     let mut room = [0; 2];
@@ -61,8 +63,10 @@ fn two_of(high: u8, low: u8) -> u16
 fn four_at<D: Disk>(window: &mut Window, disk: &mut D, place: u64) -> Result<u32, JournalFault>
     requires within { place + 4 ≤ window.old.size }
     requires shows { ShowsTold (D.seen disk.old) window.old }
-    ensures number { IfOk result (λ n. (s : List ℕ) → D.seen disk.old ≡ Some s → Starts (four_bytes n) (drop place s)) }
-    ensures reading { IsReading D.seen D.images D.moment D.images_since D.faults disk.old disk.new window.old window.new }
+    ensures number { IfOk result (λ n. (s : List ℕ) → D.seen disk.old ≡ Some s
+        → Starts (four_bytes n) (drop place s)) }
+    ensures reading { IsReading D.seen D.images D.moment D.images_since D.faults disk.old disk.new
+        window.old window.new }
     ensures fault { IfErr result (IsPassing (D.faults disk.old) (D.faults disk.new)) }
 {
     let mut room = [0; 4];
@@ -87,10 +91,13 @@ fn line_at<D: Disk>(
 ) -> Result<Option<Vec<u8>>, JournalFault>
     requires within { place ≤ window.old.size }
     requires shows { ShowsTold (D.seen disk.old) window.old }
-    ensures line { IfOk result (λ found. IfSome found (λ line. IsLine line.items × (place + 2 + length line.items ≤ window.old.size))) }
-    ensures found { IfOk result (λ found. (s : List ℕ) → D.seen disk.old ≡ Some s → MatchOption found (IsBadLine (drop place s))
+    ensures line { IfOk result (λ found. IfSome found (λ line. IsLine line.items
+        × (place + 2 + length line.items ≤ window.old.size))) }
+    ensures found { IfOk result (λ found. (s : List ℕ) → D.seen disk.old ≡ Some s
+        → MatchOption found (IsBadLine (drop place s))
         (λ line. Starts (two_bytes (length line.items) ++ line.items) (drop place s))) }
-    ensures reading { IsReading D.seen D.images D.moment D.images_since D.faults disk.old disk.new window.old window.new }
+    ensures reading { IsReading D.seen D.images D.moment D.images_since D.faults disk.old disk.new
+        window.old window.new }
     ensures fault { IfErr result (IsPassing (D.faults disk.old) (D.faults disk.new)) }
 {
     if window.size() - place < 2 {
@@ -114,10 +121,13 @@ fn numbered_at<D: Disk>(
 ) -> Result<Option<Vec<u8>>, JournalFault>
     requires within { place ≤ window.old.size }
     requires shows { ShowsTold (D.seen disk.old) window.old }
-    ensures line { IfOk result (λ found. IfSome found (λ line. IsLine line.items × (place + 6 + length line.items ≤ window.old.size))) }
-    ensures found { IfOk result (λ found. (s : List ℕ) → D.seen disk.old ≡ Some s → MatchOption found (IsBadRecord Version.Two number (drop place s))
+    ensures line { IfOk result (λ found. IfSome found (λ line. IsLine line.items
+        × (place + 6 + length line.items ≤ window.old.size))) }
+    ensures found { IfOk result (λ found. (s : List ℕ) → D.seen disk.old ≡ Some s
+        → MatchOption found (IsBadRecord Version.Two number (drop place s))
         (λ line. Starts (body Version.Two number line.items) (drop place s))) }
-    ensures reading { IsReading D.seen D.images D.moment D.images_since D.faults disk.old disk.new window.old window.new }
+    ensures reading { IsReading D.seen D.images D.moment D.images_since D.faults disk.old disk.new
+        window.old window.new }
     ensures fault { IfErr result (IsPassing (D.faults disk.old) (D.faults disk.new)) }
 {
     if window.size() - place < 6 {
@@ -142,11 +152,15 @@ fn record_at<D: Disk>(
 ) -> Result<Option<Vec<u8>>, JournalFault>
     requires within { place ≤ window.old.size }
     requires shows { ShowsTold (D.seen disk.old) window.old }
-    requires unmarked { version ≡ Version.One → (s : List ℕ) → D.seen disk.old ≡ Some s → Starts (header Version.Two) (drop place s) → ⊥ }
-    ensures line { IfOk result (λ found. IfSome found (λ line. IsLine line.items × (place + head_size version + length line.items ≤ window.old.size))) }
-    ensures found { IfOk result (λ found. (s : List ℕ) → D.seen disk.old ≡ Some s → MatchOption found (IsBadRecord version number (drop place s))
+    requires unmarked { version ≡ Version.One → (s : List ℕ) → D.seen disk.old ≡ Some s
+        → Starts (header Version.Two) (drop place s) → ⊥ }
+    ensures line { IfOk result (λ found. IfSome found (λ line. IsLine line.items
+        × (place + head_size version + length line.items ≤ window.old.size))) }
+    ensures found { IfOk result (λ found. (s : List ℕ) → D.seen disk.old ≡ Some s
+        → MatchOption found (IsBadRecord version number (drop place s))
         (λ line. Starts (body version number line.items) (drop place s))) }
-    ensures reading { IsReading D.seen D.images D.moment D.images_since D.faults disk.old disk.new window.old window.new }
+    ensures reading { IsReading D.seen D.images D.moment D.images_since D.faults disk.old disk.new
+        window.old window.new }
     ensures fault { IfErr result (IsPassing (D.faults disk.old) (D.faults disk.new)) }
 {
     match version {
@@ -166,10 +180,14 @@ fn ends_part<D: Disk>(
 ) -> Result<bool, JournalFault>
     requires within { place ≤ window.old.size }
     requires shows { ShowsTold (D.seen disk.old) window.old }
-    ensures fits { IfOk result (λ b. IsTrue b → (version ≡ Version.One) × (commit ≢ 0) × (place + 8 ≤ window.old.size)) }
-    ensures mark { IfOk result (λ b. (s : List ℕ) → D.seen disk.old ≡ Some s → IsTrue b → Starts (header Version.Two) (drop place s)) }
-    ensures unmarked { IfOk result (λ b. (s : List ℕ) → D.seen disk.old ≡ Some s → b ≡ false → version ≡ Version.One → IsMark commit (drop place s) → ⊥) }
-    ensures reading { IsReading D.seen D.images D.moment D.images_since D.faults disk.old disk.new window.old window.new }
+    ensures fits { IfOk result (λ b. IsTrue b
+        → (version ≡ Version.One) × (commit ≢ 0) × (place + 8 ≤ window.old.size)) }
+    ensures mark { IfOk result (λ b. (s : List ℕ) → D.seen disk.old ≡ Some s → IsTrue b
+        → Starts (header Version.Two) (drop place s)) }
+    ensures unmarked { IfOk result (λ b. (s : List ℕ) → D.seen disk.old ≡ Some s → b ≡ false
+        → version ≡ Version.One → IsMark commit (drop place s) → ⊥) }
+    ensures reading { IsReading D.seen D.images D.moment D.images_since D.faults disk.old disk.new
+        window.old window.new }
     ensures fault { IfErr result (IsPassing (D.faults disk.old) (D.faults disk.new)) }
 {
     if commit == 0 {
@@ -194,8 +212,10 @@ pub(crate) fn step_at<D: Disk>(
     requires within { place ≤ window.old.size }
     requires shows { ShowsTold (D.seen disk.old) window.old }
     ensures fits { IfOk result (StepFits version place window.old.size) }
-    ensures step { IfOk result (λ step. (s : List ℕ) → D.seen disk.old ≡ Some s → IsStep version number (drop place s) step) }
-    ensures reading { IsReading D.seen D.images D.moment D.images_since D.faults disk.old disk.new window.old window.new }
+    ensures step { IfOk result (λ step. (s : List ℕ) → D.seen disk.old ≡ Some s
+        → IsStep version number (drop place s) step) }
+    ensures reading { IsReading D.seen D.images D.moment D.images_since D.faults disk.old disk.new
+        window.old window.new }
     ensures fault { IfErr result (IsPassing (D.faults disk.old) (D.faults disk.new)) }
 {
     if place == window.size() {

@@ -88,8 +88,10 @@ fn lay_in<D: Disk>(
     requires line { IsLine line.now }
     requires room { length room.old ≡ 7 + length line.now }
     requires reaches { Reaches (D.seen disk.old) at }
-    ensures told { OnOk result (Told (D.seen disk.old) (D.seen disk.new) (Holds at (body Version.Two number line.now ++ next ∷ []))) }
-    ensures crash { (front : List ℕ) → length front ≤ at → Each (D.images disk.old) (Starts front) → Each (D.images disk.new) (Starts front) }
+    ensures told { OnOk result (Told (D.seen disk.old) (D.seen disk.new)
+        (Holds at (body Version.Two number line.now ++ next ∷ []))) }
+    ensures crash { (front : List ℕ) → length front ≤ at → Each (D.images disk.old) (Starts front)
+        → Each (D.images disk.new) (Starts front) }
     ensures moments { (front : List ℕ) → length front ≤ at → Each (D.images disk.old) (Starts front)
         → LeavesOnly D.moment D.images_since disk.old disk.new (Starts front) }
     ensures cause { HasCause (D.faults disk.old) (D.faults disk.new) result }
@@ -108,8 +110,10 @@ fn lay_record<D: Disk>(
 ) -> Result<(), Failed>
     requires line { IsLine line.now }
     requires reaches { Reaches (D.seen disk.old) at }
-    ensures told { OnOk result (Told (D.seen disk.old) (D.seen disk.new) (Holds at (body Version.Two number line.now ++ next ∷ []))) }
-    ensures crash { (front : List ℕ) → length front ≤ at → Each (D.images disk.old) (Starts front) → Each (D.images disk.new) (Starts front) }
+    ensures told { OnOk result (Told (D.seen disk.old) (D.seen disk.new)
+        (Holds at (body Version.Two number line.now ++ next ∷ []))) }
+    ensures crash { (front : List ℕ) → length front ≤ at → Each (D.images disk.old) (Starts front)
+        → Each (D.images disk.new) (Starts front) }
     ensures moments { (front : List ℕ) → length front ≤ at → Each (D.images disk.old) (Starts front)
         → LeavesOnly D.moment D.images_since disk.old disk.new (Starts front) }
     ensures cause { HasCause (D.faults disk.old) (D.faults disk.new) result }
@@ -123,10 +127,13 @@ fn lay_all<D: Disk>(disk: &mut D, size: u64, frames: &Frames) -> Result<(), Fail
     requires lines { AreLines (lines_in frames.now) }
     requires small { size + 9 + length (records Version.Two 1 (lines_in frames.now)) ≤ 2 ^ 32 }
     requires reaches { Reaches (D.seen disk.old) size }
-    ensures told { (front : List ℕ) → length front ≡ size → ((s : List ℕ) → D.seen disk.old ≡ Some s → Starts front s)
-        → OnOk result ((s : List ℕ) → D.seen disk.new ≡ Some s → Starts (front ++ rewritten (lines_in frames.now)) s) }
+    ensures told { (front : List ℕ) → length front ≡ size
+        → ((s : List ℕ) → D.seen disk.old ≡ Some s → Starts front s)
+        → OnOk result ((s : List ℕ) → D.seen disk.new ≡ Some s
+        → Starts (front ++ rewritten (lines_in frames.now)) s) }
     ensures reach { OnOk result (Reaches (D.seen disk.new) size) }
-    ensures crash { (front : List ℕ) → length front ≡ size → Each (D.images disk.old) (Starts front) → Each (D.images disk.new) (Starts front) }
+    ensures crash { (front : List ℕ) → length front ≡ size → Each (D.images disk.old) (Starts front)
+        → Each (D.images disk.new) (Starts front) }
     ensures moments { (front : List ℕ) → length front ≡ size → Each (D.images disk.old) (Starts front)
         → LeavesOnly D.moment D.images_since disk.old disk.new (Starts front) }
     ensures cause { HasCause (D.faults disk.old) (D.faults disk.new) result }
@@ -148,10 +155,13 @@ fn write_upgrade<D: Disk>(disk: &mut D, size: u64, frames: &Frames) -> Result<()
     requires lines { AreLines (lines_in frames.now) }
     requires small { size + 9 + length (records Version.Two 1 (lines_in frames.now)) ≤ 2 ^ 32 }
     requires reaches { Reaches (D.seen disk.old) size }
-    ensures durable { (front : List ℕ) → length front + 1 ≡ size → Each (D.images disk.old) (Starts (front ++ 0 ∷ []))
+    ensures durable { (front : List ℕ) → length front + 1 ≡ size
+        → Each (D.images disk.old) (Starts (front ++ 0 ∷ []))
         → OnOk result (Each (D.images disk.new) (Starts (front ++ 2 ∷ rewritten (lines_in frames.now)))) }
-    ensures moments { (front : List ℕ) → length front + 1 ≡ size → Each (D.images disk.old) (Starts (front ++ 0 ∷ []))
-        → LeavesOnly D.moment D.images_since disk.old disk.new (IsOpening front (rewritten (lines_in frames.now))) }
+    ensures moments { (front : List ℕ) → length front + 1 ≡ size
+        → Each (D.images disk.old) (Starts (front ++ 0 ∷ []))
+        → LeavesOnly D.moment D.images_since disk.old disk.new
+        (IsOpening front (rewritten (lines_in frames.now))) }
     ensures cause { HasCause (D.faults disk.old) (D.faults disk.new) result }
 {
     lay_all(disk, size, frames)?;
@@ -168,16 +178,21 @@ impl Journal {
         requires lines { AreLines (lines_in frames.now) }
         requires reaches { Reaches (D.seen disk.old) self.old.size }
         // A crash at any moment leaves the same lines, in one version or the other.
-        ensures moments { (form : Form) → StandsFor form (lines_in frames.now) self.old → Each (D.images disk.old) (IsWholeIn form (lines_in frames.now))
+        ensures moments { (form : Form) → StandsFor form (lines_in frames.now) self.old
+            → Each (D.images disk.old) (IsWholeIn form (lines_in frames.now))
             → LeavesOnly D.moment D.images_since disk.old disk.new (IsWhole (lines_in frames.now)) }
         ensures upgraded { (form : Form) → StandsFor form (lines_in frames.now) self.old
-            → OnOk result (StandsFor (upgraded_form form (lines_in frames.now)) (lines_in frames.now) self.new) }
-        ensures durable { (form : Form) → StandsFor form (lines_in frames.now) self.old → Each (D.images disk.old) (IsWholeIn form (lines_in frames.now))
-            → OnOk result (Each (D.images disk.new) (IsWholeIn (upgraded_form form (lines_in frames.now)) (lines_in frames.now))) }
+            → OnOk result (StandsFor (upgraded_form form (lines_in frames.now))
+            (lines_in frames.now) self.new) }
+        ensures durable { (form : Form) → StandsFor form (lines_in frames.now) self.old
+            → Each (D.images disk.old) (IsWholeIn form (lines_in frames.now))
+            → OnOk result (Each (D.images disk.new)
+            (IsWholeIn (upgraded_form form (lines_in frames.now)) (lines_in frames.now))) }
         // `Full` comes exactly where the length would pass the limit, and then nothing is written.
         ensures full { IsErrOf result (JournalFault.Full self.old.size)
             ↔ (self.old.limit < self.old.size + 9 + length (records Version.Two 1 (lines_in frames.now))) }
-        ensures kept { self.old.limit < self.old.size + 9 + length (records Version.Two 1 (lines_in frames.now))
+        ensures kept { self.old.limit < self.old.size + 9 + length
+            (records Version.Two 1 (lines_in frames.now))
             → (self.new ≡ self.old) × (disk.new ≡ disk.old) }
         ensures fault { IfErr result (λ fault. (fault ≡ JournalFault.Full self.old.size)
             ⊎ ((fault ≡ JournalFault.DiskFault) × HasRisen (D.faults disk.old) (D.faults disk.new))) }

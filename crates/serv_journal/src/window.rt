@@ -60,7 +60,8 @@ impl Window {
         requires within { place < self.old.size }
         requires shows { ShowsTold (D.seen disk.old) self.old }
         ensures holds { OnOk result ((self.new.at ≤ place) × (place < self.new.at + length self.new.bytes)) }
-        ensures reading { IsReading D.seen D.images D.moment D.images_since D.faults disk.old disk.new self.old self.new }
+        ensures reading { IsReading D.seen D.images D.moment D.images_since D.faults disk.old disk.new
+            self.old self.new }
         ensures cause { HasCause (D.faults disk.old) (D.faults disk.new) result }
     {
         let count = (self.size - place).min(SPAN as u64) as usize;
@@ -83,7 +84,8 @@ impl Window {
         requires within { place < self.old.size }
         requires shows { ShowsTold (D.seen disk.old) self.old }
         ensures holds { OnOk result ((self.new.at ≤ place) × (place < self.new.at + length self.new.bytes)) }
-        ensures reading { IsReading D.seen D.images D.moment D.images_since D.faults disk.old disk.new self.old self.new }
+        ensures reading { IsReading D.seen D.images D.moment D.images_since D.faults disk.old disk.new
+            self.old self.new }
         ensures cause { HasCause (D.faults disk.old) (D.faults disk.new) result }
     {
         if self.has(place) {
@@ -106,7 +108,8 @@ impl Window {
         requires within { place < self.old.size }
         requires shows { ShowsTold (D.seen disk.old) self.old }
         ensures byte { IfOk result (λ b. (s : List ℕ) → D.seen disk.old ≡ Some s → b ≡ slice_index s place) }
-        ensures reading { IsReading D.seen D.images D.moment D.images_since D.faults disk.old disk.new self.old self.new }
+        ensures reading { IsReading D.seen D.images D.moment D.images_since D.faults disk.old disk.new
+            self.old self.new }
         ensures fault { IfErr result (IsPassing (D.faults disk.old) (D.faults disk.new)) }
     {
         self.bring(disk, place)?;
@@ -123,8 +126,10 @@ impl Window {
     ) -> Result<(), JournalFault>
         requires within { place + length room.old ≤ self.old.size }
         requires shows { ShowsTold (D.seen disk.old) self.old }
-        ensures bytes { OnOk result ((s : List ℕ) → D.seen disk.old ≡ Some s → room.new ≡ take (length room.old) (drop place s)) }
-        ensures reading { IsReading D.seen D.images D.moment D.images_since D.faults disk.old disk.new self.old self.new }
+        ensures bytes { OnOk result ((s : List ℕ) → D.seen disk.old ≡ Some s
+            → room.new ≡ take (length room.old) (drop place s)) }
+        ensures reading { IsReading D.seen D.images D.moment D.images_since D.faults disk.old disk.new
+            self.old self.new }
         ensures fault { IfErr result (IsPassing (D.faults disk.old) (D.faults disk.new)) }
     {
         let _size = self.size();
@@ -146,8 +151,10 @@ impl Window {
         requires within { place + count ≤ self.old.size }
         requires shows { ShowsTold (D.seen disk.old) self.old }
         ensures count { IfOk result (λ bytes. length bytes.items ≡ count) }
-        ensures bytes { IfOk result (λ bytes. (s : List ℕ) → D.seen disk.old ≡ Some s → bytes.items ≡ take count (drop place s)) }
-        ensures reading { IsReading D.seen D.images D.moment D.images_since D.faults disk.old disk.new self.old self.new }
+        ensures bytes { IfOk result (λ bytes. (s : List ℕ) → D.seen disk.old ≡ Some s
+            → bytes.items ≡ take count (drop place s)) }
+        ensures reading { IsReading D.seen D.images D.moment D.images_since D.faults disk.old disk.new
+            self.old self.new }
         ensures fault { IfErr result (IsPassing (D.faults disk.old) (D.faults disk.new)) }
     {
         let mut bytes = vec![in alloc; 0; count]?;
@@ -166,8 +173,10 @@ impl Window {
         requires within { place ≤ self.old.size }
         requires shows { ShowsTold (D.seen disk.old) self.old }
         ensures found { IfOk result (λ b. IsTrue b → place + 8 ≤ self.old.size) }
-        ensures text { IfOk result (λ b. (s : List ℕ) → D.seen disk.old ≡ Some s → (IsTrue b ↔ Starts text.now (drop place s))) }
-        ensures reading { IsReading D.seen D.images D.moment D.images_since D.faults disk.old disk.new self.old self.new }
+        ensures text { IfOk result (λ b. (s : List ℕ) → D.seen disk.old ≡ Some s
+            → (IsTrue b ↔ Starts text.now (drop place s))) }
+        ensures reading { IsReading D.seen D.images D.moment D.images_since D.faults disk.old disk.new
+            self.old self.new }
         ensures fault { IfErr result (IsPassing (D.faults disk.old) (D.faults disk.new)) }
     {
         if self.size() - place < 8 {

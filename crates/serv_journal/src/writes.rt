@@ -12,7 +12,8 @@ use serv_disk::{Disk, Failed};
 pub(crate) fn put<D: Disk>(disk: &mut D, at: u64, bytes: &[u8]) -> Result<(), Failed>
     requires { Reaches (D.seen disk.old) at }
     ensures told { OnOk result (Told (D.seen disk.old) (D.seen disk.new) (Holds at bytes.now)) }
-    ensures durable { OnOk result (Each (D.images disk.new) (After (Holds at bytes.now) (D.images disk.old))) }
+    ensures durable { OnOk result (Each (D.images disk.new)
+        (After (Holds at bytes.now) (D.images disk.old))) }
     ensures only { OnOk result (Only (D.seen disk.new) (D.images disk.new)) }
     ensures moments { LeavesOnly D.moment D.images_since disk.old disk.new
         (After (TornAt at (length bytes.now)) (D.images disk.old)) }
@@ -39,9 +40,11 @@ fn stage<D: Disk>(disk: &mut D, at: u64, bytes: &[u8]) -> Result<(), Failed>
 pub(crate) fn set_byte<D: Disk>(disk: &mut D, at: u64, value: u8) -> Result<(), Failed>
     requires { Reaches (D.seen disk.old) at }
     ensures told { OnOk result (Told (D.seen disk.old) (D.seen disk.new) (Holds at (value ∷ []))) }
-    ensures durable { (front rest : List ℕ) → length front ≡ at → Each (D.images disk.old) (Between front rest)
+    ensures durable { (front rest : List ℕ) → length front ≡ at
+        → Each (D.images disk.old) (Between front rest)
         → OnOk result (Each (D.images disk.new) (Starts (front ++ value ∷ rest))) }
-    ensures moments { (front rest : List ℕ) → length front ≡ at → Each (D.images disk.old) (Between front rest)
+    ensures moments { (front rest : List ℕ) → length front ≡ at
+        → Each (D.images disk.old) (Between front rest)
         → LeavesOnly D.moment D.images_since disk.old disk.new (Between front rest) }
     ensures cause { HasCause (D.faults disk.old) (D.faults disk.new) result }
 {
@@ -52,9 +55,11 @@ pub(crate) fn set_byte<D: Disk>(disk: &mut D, at: u64, value: u8) -> Result<(), 
 pub(crate) fn open_after<D: Disk>(disk: &mut D, size: u64, bytes: &[u8]) -> Result<(), Failed>
     requires some { 1 ≤ size }
     requires reaches { Reaches (D.seen disk.old) size }
-    ensures durable { (front : List ℕ) → length front + 1 ≡ size → Each (D.images disk.old) (Starts (front ++ 0 ∷ []))
+    ensures durable { (front : List ℕ) → length front + 1 ≡ size
+        → Each (D.images disk.old) (Starts (front ++ 0 ∷ []))
         → OnOk result (Each (D.images disk.new) (Starts (front ++ 1 ∷ bytes.now))) }
-    ensures moments { (front : List ℕ) → length front + 1 ≡ size → Each (D.images disk.old) (Starts (front ++ 0 ∷ []))
+    ensures moments { (front : List ℕ) → length front + 1 ≡ size
+        → Each (D.images disk.old) (Starts (front ++ 0 ∷ []))
         → LeavesOnly D.moment D.images_since disk.old disk.new (IsOpening front bytes.now) }
     ensures cause { HasCause (D.faults disk.old) (D.faults disk.new) result }
 {
@@ -68,7 +73,8 @@ pub(crate) fn close_byte<D: Disk>(disk: &mut D, at: u64, commit: u8) -> Result<(
     ensures told { (front rest : List ℕ) → length front ≡ at → D.seen disk.old ≡ Some (front ++ commit ∷ rest)
         → OnOk result (D.seen disk.new ≡ Some (front ++ 0 ∷ rest)) }
     ensures untold { D.seen disk.old ≡ None → OnOk result (D.seen disk.new ≡ None) }
-    ensures only { Only (D.seen disk.old) (D.images disk.old) → OnOk result (Only (D.seen disk.new) (D.images disk.new)) }
+    ensures only { Only (D.seen disk.old) (D.images disk.old)
+        → OnOk result (Only (D.seen disk.new) (D.images disk.new)) }
     ensures moments { LeavesOnly D.moment D.images_since disk.old disk.new
         (λ c. D.images disk.old c ⊎ ((commit ≢ 0) × After (TornAt at 1) (D.images disk.old) c)) }
     ensures cause { HasCause (D.faults disk.old) (D.faults disk.new) result }
