@@ -69,7 +69,8 @@ pub record IsNoJournal (file : List ℕ) : Type 0 where
   pub not_two : Starts (header Two) file → ⊥
 
 -- what opening gives of a file: the lines that it has, with their places, the journal that stands for
--- them, and what -- reads give afterwards: the same bytes, but for the commit byte after the last record, which is 0
+-- them, and what reads give afterwards: the same bytes, but for the commit byte after the last record,
+-- which is 0
 pub record IsOpened (told : Option (List ℕ)) (journal : JournalState) (frames : List (ℕ × List ℕ))
     (file : List ℕ) : Type 0 where
   pub form : Form
