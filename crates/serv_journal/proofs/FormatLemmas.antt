@@ -4,7 +4,7 @@ use Rattle.std.proofs.lemmas.List.{append-nil}
 use Rattle.serv_journal.specs.declared.format.Version.{Version}
 use Rattle.serv_journal.specs.declared.format.Version.TheVariants.{One, Two}
 use Rattle.serv_journal.specs.Bytes.{Starts, Between, IsOpening}
-use Rattle.serv_journal.specs.Format.{Form, IsLine, AreLines, body, records, base, header, two_bytes, four_bytes, head_size, IsForm}
+use Rattle.serv_journal.specs.Format.{Form, IsLine, AreLines, body, records, base, header, two_bytes, four_bytes, head_size, version_number, IsForm}
 use Rattle.serv_journal.specs.States.{JournalState, StandsFor}
 use Rattle.serv_journal.specs.Disks.{IsWholeIn, IsTornIn, IsGoodIn}
 use Rattle.serv_journal.proofs.ByteLemmas.{first_starts}
@@ -97,3 +97,11 @@ stands_push form lines line old new is_line stands two version count size = reco
   );
   fit = lines_push lines line stands.fit is_line;
 }
+
+pub number_two : (version : Version) → version_number version ≡ 2 → version ≡ Two
+number_two One is = absurd (omega (arith, is))
+number_two Two is = refl
+
+pub number_one : (version : Version) → version_number version ≢ 2 → version ≡ One
+number_one One other = refl
+number_one Two other = absurd (other refl)

@@ -41,6 +41,7 @@ fn changed(alloc: Global, content: &[u8], at: usize, value: u8) -> Result<Vec<u8
 }
 
 /// An append whose conditions are tested first.
+#[tactic(auto, using(crate::proofs::FormatLemmas::number_two))]
 fn add(journal: &mut Journal, disk: &mut MemDisk, line: &[u8]) -> Result<(), JournalFault> {
     if line.is_empty() || line.len() > 512 {
         return Err(JournalFault::NotJournal);
@@ -73,6 +74,7 @@ fn open_upgraded(
 }
 
 /// An upgrade whose conditions are tested first, but for that the lines are lines.
+#[tactic(auto, using(crate::proofs::FormatLemmas::number_one))]
 fn upgrade_now(
     journal: &mut Journal,
     disk: &mut MemDisk,
