@@ -1,0 +1,13 @@
+pub mod ByteLemmas
+pub mod FormatLemmas
+pub mod StaysLemmas
+pub mod RecordLemmas
+pub mod OutcomeLemmas
+pub mod UniqueLemmas
+pub mod ReadingLemmas
+pub mod StepLemmas
+pub mod ScanLemmas
+pub mod FindLemmas
+pub mod ExactLemmas
+pub mod CloseLemmas
+pub mod UpgradeLemmas

@@ -1,0 +1,163 @@
+-- Runs of reads through a window, and what the bytes that were read say of the file.
+use Rattle.std.proofs.Common.{◌≡◌, ◌⊎◌, ℕ, ◌+◌, ◌*◌, ◌/◌, ◌%◌, ◌<◌, ◌≤◌, List, [], ◌∷◌, ◌++◌, Option, Some, None, MatchOption, ◌≢◌, append_assoc, length, take, drop, get_or, map, refl, sym, ap, subst, ◌∙◌, inl, inr, ⊎_elim, arith, min, set}
+use Rattle.std.proofs.lemmas.List.{take_at, take-take, take_all, length-take, get_or-map, length-map, take_more, take_more_set, get_or-drop, length-drop, drop_at, drop-drop}
+use Rattle.std.proofs.lemmas.Bool.{cases_lt}
+use Rattle.std.specs.declared.vec.Vec.{Vec}
+use Rattle.std.specs.declared.alloc.Global.{Global}
+use Rattle.serv_journal.specs.declared.format.Version.TheVariants.{Two}
+use Rattle.serv_disk.specs.Faults.{HasRisen}
+use Rattle.serv_journal.specs.declared.frames.Frame.{Frame}
+use Rattle.serv_journal.specs.declared.faults.JournalFault.{JournalFault}
+use Rattle.serv_journal.specs.Bytes.{Starts}
+use Rattle.serv_journal.specs.Format.{two_bytes, four_bytes, body}
+use Rattle.serv_journal.specs.Reading.{lines_in, places_in, IsBadLine, IsBadRecord}
+use Rattle.serv_journal.specs.Outcomes.{IsPassing}
+use Rattle.serv_journal.specs.Stays.{Stays}
+use Rattle.serv_journal.specs.Windows.{WindowState, Shows, ShowsTold, IsReading}
+use Rattle.serv_journal.proofs.ByteLemmas.{taken_starts, starts_fits}
+use Rattle.serv_journal.proofs.UniqueLemmas.{four_same}
+use Rattle.serv_journal.proofs.StaysLemmas.{stays_here, stays_on}
+
+module _ {D : Type 0} (seen : D → Option (List ℕ)) (images : D → List ℕ → Type 0) (moment : D → ℕ) (images_since : D → ℕ → List ℕ → Type 0) (faults : D → ℕ) where
+  pub reading_here : (old : D) (window : WindowState) → ((c : List ℕ) → images_since old (moment old) c → images old c) → ShowsTold (seen old) window
+      → IsReading seen images moment images_since faults old old window window
+  reading_here old window here shows = record { stays = stays_here seen images moment images_since old here; later = omega arith; size = refl; shows = shows }
+
+  pub reading_on : (old mid new : D) (before between after : WindowState) → IsReading seen images moment images_since faults old mid before between
+      → IsReading seen images moment images_since faults mid new between after → IsReading seen images moment images_since faults old new before after
+  reading_on old mid new before between after first second = record {
+    stays = stays_on seen images moment images_since old mid new first.stays second.stays;
+    later = omega (arith, first.later, second.later);
+    size = second.size ∙ first.size;
+    shows = second.shows;
+  }
+
+pub risen_from : (old mid new : ℕ) → old ≤ mid → mid ≤ new → HasRisen mid new → HasRisen old new
+risen_from old mid new later end risen =
+    ⊎_elim
+    (λ less. inl (omega arith))
+    (λ top. ⊎_elim (λ less. inl (omega arith)) (λ same. inr (omega arith)) (cases_lt old mid))
+    risen
+
+pub passing_from : (old mid new : ℕ) (fault : JournalFault) → old ≤ mid → mid ≤ new → IsPassing mid new fault → IsPassing old new fault
+passing_from old mid new fault later end passing =
+    ⊎_elim (λ memory. inl memory) (λ disk. inr (disk.0, risen_from old mid new later end disk.1)) passing
+
+pub window_shown : (buf post rest : List ℕ) (count n : ℕ) → length buf ≡ count → buf ≡ take n rest
+    → take count (buf ++ post) ≡ take (length (take count (buf ++ post))) rest
+window_shown buf post rest count n long is =
+    let first : take count (buf ++ post) ≡ buf = take_at buf post count long in
+    let fits : length buf ≤ n = omega (arith, ap length is, length-take n rest) in
+    let same : buf ≡ take (length buf) rest = sym (take_all (length buf) buf (omega arith)) ∙ (ap (take (length buf)) is ∙ take-take (length buf) n rest fits) in
+    first ∙ subst (λ t. buf ≡ take (length t) rest) (sym first) same
+
+pub two_is : (a b : ℕ) → b < 256 → two_bytes (a * 256 + b) ≡ a ∷ b ∷ []
+unfolding two_bytes
+two_is a b less =
+    let high : (a * 256 + b) / 256 ≡ a = omega arith in
+    let low : (a * 256 + b) % 256 ≡ b = omega arith in
+    cc
+
+digit : (a b : ℕ) → b < 256 → ((a * 256 + b) / 256 ≡ a) × ((a * 256 + b) % 256 ≡ b)
+digit a b less = (omega arith, omega arith)
+
+four_parts : (a b c d n x y : ℕ) → b < 256 → c < 256 → d < 256 → x ≡ a * 256 + b → y ≡ x * 256 + c → n ≡ y * 256 + d
+    → (n / 256 / 256 / 256) ∷ (n / 256 / 256 % 256) ∷ (n / 256 % 256) ∷ (n % 256) ∷ [] ≡ a ∷ b ∷ c ∷ d ∷ []
+four_parts a b c d n x y p q r ex ey en =
+    let n1 : n / 256 ≡ y = ap (λ k. k / 256) en ∙ (digit y d r).0 in
+    let d1 : n % 256 ≡ d = ap (λ k. k % 256) en ∙ (digit y d r).1 in
+    let y1 : y / 256 ≡ x = ap (λ k. k / 256) ey ∙ (digit x c q).0 in
+    let c1 : y % 256 ≡ c = ap (λ k. k % 256) ey ∙ (digit x c q).1 in
+    let x1 : x / 256 ≡ a = ap (λ k. k / 256) ex ∙ (digit a b p).0 in
+    let b1 : x % 256 ≡ b = ap (λ k. k % 256) ex ∙ (digit a b p).1 in
+    let n2 : n / 256 / 256 ≡ x = ap (λ k. k / 256) n1 ∙ y1 in
+    let n3 : n / 256 / 256 / 256 ≡ a = ap (λ k. k / 256) n2 ∙ x1 in
+    let m1 : n / 256 % 256 ≡ c = ap (λ k. k % 256) n1 ∙ c1 in
+    let m2 : n / 256 / 256 % 256 ≡ b = ap (λ k. k % 256) n2 ∙ b1 in
+    cc
+
+pub four_is : (a b c d : ℕ) → b < 256 → c < 256 → d < 256 → four_bytes (((a * 256 + b) * 256 + c) * 256 + d) ≡ a ∷ b ∷ c ∷ d ∷ []
+unfolding four_bytes
+four_is a b c d p q r = four_parts a b c d (((a * 256 + b) * 256 + c) * 256 + d) (a * 256 + b) ((a * 256 + b) * 256 + c) p q r refl refl refl
+
+two_items : (room : List ℕ) → length room ≡ 2 → get_or room 0 0 ∷ get_or room 1 0 ∷ [] ≡ room
+two_items [] long = absurd (omega (arith, long))
+two_items (a ∷ []) long = absurd (omega (arith, long))
+two_items (a ∷ b ∷ []) long = refl
+two_items (a ∷ b ∷ c ∷ t) long = absurd (omega (arith, long))
+
+four_items : (room : List ℕ) → length room ≡ 4 → get_or room 0 0 ∷ get_or room 1 0 ∷ get_or room 2 0 ∷ get_or room 3 0 ∷ [] ≡ room
+four_items [] long = absurd (omega (arith, long))
+four_items (a ∷ []) long = absurd (omega (arith, long))
+four_items (a ∷ b ∷ []) long = absurd (omega (arith, long))
+four_items (a ∷ b ∷ c ∷ []) long = absurd (omega (arith, long))
+four_items (a ∷ b ∷ c ∷ d ∷ []) long = refl
+four_items (a ∷ b ∷ c ∷ d ∷ e ∷ t) long = absurd (omega (arith, long))
+
+-- a number that was read stands in the file
+pub two_found : (room rest : List ℕ) (n : ℕ) → length room ≡ 2 → room ≡ take 2 rest → two_bytes n ≡ get_or room 0 0 ∷ get_or room 1 0 ∷ [] → Starts (two_bytes n) rest
+two_found room rest n long is number = taken_starts (two_bytes n) rest 2 (sym (number ∙ (two_items room long ∙ is)))
+
+pub four_found : (room rest : List ℕ) (n : ℕ) → length room ≡ 4 → room ≡ take 4 rest
+    → four_bytes n ≡ get_or room 0 0 ∷ get_or room 1 0 ∷ get_or room 2 0 ∷ get_or room 3 0 ∷ [] → Starts (four_bytes n) rest
+four_found room rest n long is number = taken_starts (four_bytes n) rest 4 (sym (number ∙ (four_items room long ∙ is)))
+
+-- a room with one byte more
+pub filled_more : (room file : List ℕ) (i place b : ℕ) → i < length room → place + i < length file → take i room ≡ take i (drop place file) → b ≡ get_or file (place + i) 0
+    → take (i + 1) (set room i b) ≡ take (i + 1) (drop place file)
+filled_more room file i place b within inside so_far byte =
+    let left : i < length (drop place file) = omega (arith, length-drop place file) in
+    take_more_set room i b within ∙ (ap (λ t. t ++ b ∷ []) so_far ∙ (ap (λ x. take i (drop place file) ++ x ∷ []) (byte ∙ sym (get_or-drop place file i 0))
+    ∙ sym (take_more (drop place file) i 0 left)))
+
+view_at : (frames : List Frame) (seen : List (ℕ × List ℕ)) (i : ℕ) (frame : Frame) → map (λ (f : Frame). (f.place, f.line.items)) frames ≡ seen
+    → i < length seen → frame ≡ get_or frames i frame → get_or seen i (frame.place, frame.line.items) ≡ (frame.place, frame.line.items)
+view_at frames seen i frame view within is =
+    let v : Frame → ℕ × List ℕ = λ f. (f.place, f.line.items) in
+    let few : i < length frames = omega (arith, within, ap length view, length-map frames v) in
+    ap (λ t. get_or t i (v frame)) (sym view) ∙ (get_or-map v frames i frame (v frame) few ∙ ap v (sym is))
+
+pub line_at : (frames : List Frame) (seen : List (ℕ × List ℕ)) (i : ℕ) (frame : Frame) → map (λ (f : Frame). (f.place, f.line.items)) frames ≡ seen
+    → i < length seen → frame ≡ get_or frames i frame → frame.line.items ≡ get_or (lines_in seen) i []
+line_at frames seen i frame view within is =
+    sym (get_or-map (λ (f : ℕ × List ℕ). f.1) seen i (frame.place, frame.line.items) [] within ∙ ap (λ (f : ℕ × List ℕ). f.1) (view_at frames seen i frame view within is))
+
+pub place_at : (frames : List Frame) (seen : List (ℕ × List ℕ)) (i : ℕ) (frame : Frame) → map (λ (f : Frame). (f.place, f.line.items)) frames ≡ seen
+    → i < length seen → frame ≡ get_or frames i frame → frame.place ≡ get_or (places_in seen) i 0
+place_at frames seen i frame view within is =
+    sym (get_or-map (λ (f : ℕ × List ℕ). f.0) seen i (frame.place, frame.line.items) 0 within ∙ ap (λ (f : ℕ × List ℕ). f.0) (view_at frames seen i frame view within is))
+
+-- a list, and what comes after it
+pub follows : (front rest file : List ℕ) (n : ℕ) → length front ≡ n → Starts front file → Starts rest (drop n file) → Starts (front ++ rest) file
+follows front rest file n long first second =
+    let tail : drop n file ≡ first.tail = rw first.is (drop_at front first.tail n long) in
+    record {
+      tail = second.tail;
+      is = first.is ∙ (ap (λ t. front ++ t) (sym tail ∙ second.is) ∙ sym (append_assoc front rest second.tail));
+    }
+
+-- bytes that are too few for a text
+pub too_few : (text rest : List ℕ) → length rest < length text → Starts text rest → ⊥
+too_few text rest few starts = omega (arith, starts_fits text rest starts)
+
+pub line_found : (s items : List ℕ) (place count : ℕ) → Starts (two_bytes count) (drop place s) → items ≡ take count (drop (place + 2) s) → length items ≡ count
+    → Starts (two_bytes (length items) ++ items) (drop place s)
+unfolding two_bytes
+line_found s items place count number is long =
+    let after : Starts items (drop 2 (drop place s)) = taken_starts items (drop 2 (drop place s)) count (ap (take count) (drop-drop 2 place s) ∙ sym is) in
+    follows (two_bytes (length items)) items (drop place s) 2 refl (subst (λ n. Starts (two_bytes n) (drop place s)) (sym long) number) after
+
+-- a record of version 2, read as its line after its number
+pub numbered_found : (s : List ℕ) (place number : ℕ) (found : Option (Vec ℕ Global)) → Starts (four_bytes number) (drop place s)
+    → MatchOption found (IsBadLine (drop (place + 4) s)) (λ line. Starts (two_bytes (length line.items) ++ line.items) (drop (place + 4) s))
+    → MatchOption found (IsBadRecord Two number (drop place s)) (λ line. Starts (body Two number line.items) (drop place s))
+unfolding four_bytes
+numbered_found s place number None starts bad = inr (inr (subst IsBadLine (sym (drop-drop 4 place s)) bad))
+numbered_found s place number (Some line) starts good =
+    let content : List ℕ = two_bytes (length line.items) ++ line.items in
+    let after : Starts content (drop 4 (drop place s)) = subst (λ t. Starts content t) (sym (drop-drop 4 place s)) good in
+    subst (λ t. Starts t (drop place s)) (sym (append_assoc (four_bytes number) (two_bytes (length line.items)) line.items)) (follows (four_bytes number) content (drop place s) 4 refl starts after)
+
+-- another number stands there
+pub other_number : (rest : List ℕ) (a b : ℕ) → a ≢ b → Starts (four_bytes a) rest → Starts (four_bytes b) rest → ⊥
+other_number rest a b apart one two = apart (four_same a b one.tail two.tail (sym one.is ∙ two.is)).0

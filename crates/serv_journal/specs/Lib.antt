@@ -1,0 +1,11 @@
+pub mod Bytes
+pub mod Format
+pub mod States
+pub mod Disks
+pub mod Outcomes
+pub mod Stays
+pub mod Reading
+pub mod Windows
+pub mod Steps
+pub mod Scans
+pub mod Finds

@@ -1,0 +1,89 @@
+//! Opening a journal.
+
+ghost use Rattle.std.specs.Prelude.{◌≡◌, ◌⊎◌, ℕ, ◌+◌, ◌<◌, ◌≤◌, ◌^◌, List, length, Some, false, IfOk, IfErr, OnOk, IsErrOf};
+ghost use Rattle.serv_disk.specs.Disks.{Each, Only, LeavesOnly};
+ghost use Rattle.serv_journal.specs.Format.{IsLine, AreLines};
+ghost use Rattle.serv_journal.specs.Disks.{IsGood, IsDurableFor};
+ghost use Rattle.serv_journal.specs.Reading.{lines_in, IsOpened, IsDamaged, IsNoJournal};
+ghost use Rattle.serv_journal.specs.Outcomes.{IsOnlyFault, IsOpenFault, Reaches};
+ghost use Rattle.serv_journal.specs.Stays.{Stays};
+ghost use Rattle.serv_journal.specs.Finds.{IsFound, HasForm, IsFindFault};
+
+use crate::calls::settle;
+use crate::faults::JournalFault;
+use crate::finds::{Found, find};
+use crate::frames::Frames;
+use crate::journal::Journal;
+use crate::window::Window;
+use crate::writes::close_byte;
+use serv_disk::Disk;
+use std::alloc::Global;
+
+/// Syncs, and reads the records of the part that is in force.
+fn read_all<D: Disk>(alloc: Global, disk: &mut D) -> Result<Found, JournalFault>
+    ensures found { IfOk result (λ r. (s : List ℕ) → D.seen disk.old ≡ Some s
+        → IsFound r.version r.frames r.place r.commit s) }
+    ensures form { IfOk result (λ r. HasForm r.version r.frames r.place) }
+    ensures reach { IfOk result (λ r. Reaches (D.seen disk.old) (r.place + 1)) }
+    ensures small { IfOk result (λ r. r.place + 1 < 2 ^ 64) }
+    ensures only { OnOk result (Only (D.seen disk.new) (D.images disk.new)) }
+    ensures stays { Stays D.seen D.images D.moment D.images_since disk.old disk.new }
+    ensures faults { D.faults disk.old ≤ D.faults disk.new }
+    ensures fault { IfErr result (IsFindFault (D.seen disk.old) (D.faults disk.old) (D.faults disk.new)) }
+{
+    let size = settle(disk)?;
+    let mut window = Window::new(size);
+    find(alloc, &mut window, disk)
+}
+
+impl Journal {
+    /// Opens the journal of a disk: each line that it has, with its place. A commit byte after them that
+    /// is not 0 is set to 0. A journal that is longer than the limit opens too.
+    pub fn open<D: Disk>(
+        alloc: Global,
+        disk: &mut D,
+        limit: u64,
+    ) -> Result<(Journal, Frames), JournalFault>
+        requires { limit ≤ 2 ^ 32 }
+        // What it gives is what the file has.
+        ensures opened { IfOk result (λ r. (s : List ℕ) → D.seen disk.old ≡ Some s
+            → IsOpened (D.seen disk.new) r.0 r.1 s) }
+        // Each image of the disk has these lines, whether the disk tells what it holds or not.
+        ensures durable { IfOk result (λ r. IsDurableFor (D.images disk.new) r.0 (lines_in r.1)) }
+        ensures only { OnOk result (Only (D.seen disk.new) (D.images disk.new)) }
+        ensures fresh { IfOk result (λ r. (r.0.limit ≡ limit) × (r.0.spent ≡ false)) }
+        // A crash at any moment leaves a disk that was good for some lines and one line more as good.
+        ensures moments { (s : List ℕ) → D.seen disk.old ≡ Some s → (lines : List (List ℕ)) (line : List ℕ)
+            → AreLines lines → IsLine line
+            → Each (D.images disk.old) (IsGood lines line)
+            → LeavesOnly D.moment D.images_since disk.old disk.new (IsGood lines line) }
+        // `NotJournal` comes exactly where the file begins with no header.
+        ensures not_journal { IsErrOf result JournalFault.NotJournal → (s : List ℕ)
+            → D.seen disk.old ≡ Some s → IsNoJournal s }
+        ensures exactly_not_journal { (s : List ℕ) → D.seen disk.old ≡ Some s → IsNoJournal s
+            → IsOnlyFault JournalFault.NotJournal (D.faults disk.old) (D.faults disk.new) result }
+        // `Damaged` comes exactly where the file is damaged, with the place.
+        ensures damaged { IfErr result (λ fault. (place : ℕ) → fault ≡ JournalFault.Damaged place
+            → (s : List ℕ) → D.seen disk.old ≡ Some s → IsDamaged place s) }
+        ensures exactly_damaged { (s : List ℕ) (place : ℕ) → D.seen disk.old ≡ Some s → IsDamaged place s
+            → IsOnlyFault (JournalFault.Damaged place) (D.faults disk.old) (D.faults disk.new) result }
+        // Another fault than the disk's leaves what reads give.
+        ensures kept { IfErr result (λ fault. (fault ≡ JournalFault.DiskFault)
+            ⊎ (D.seen disk.new ≡ D.seen disk.old)) }
+        ensures fault { IfErr result (IsOpenFault (D.faults disk.old) (D.faults disk.new)) }
+        ensures faults { D.faults disk.old ≤ D.faults disk.new }
+    {
+        let found = read_all(alloc, disk)?;
+        close_byte(disk, found.place, found.commit)?;
+        Ok((
+            Journal {
+                size: found.place + 1,
+                limit,
+                count: found.frames.len() as u64,
+                version: found.version,
+                spent: false,
+            },
+            found.frames,
+        ))
+    }
+}

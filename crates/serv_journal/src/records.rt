@@ -1,0 +1,92 @@
+//! Records of version 2 as bytes.
+
+ghost use Rattle.std.specs.Prelude.{◌≡◌, ℕ, ◌+◌, ◌≤◌, ◌<◌, List, [], ◌∷◌, ◌++◌, length, OnOk};
+ghost use Rattle.serv_disk.specs.Faults.{HasCause};
+ghost use Rattle.serv_disk.specs.Disks.{Each, LeavesOnly};
+ghost use Rattle.serv_journal.specs.Bytes.{Starts, IsOpening};
+ghost use Rattle.serv_journal.specs.Format.{IsLine, body, two_bytes, four_bytes};
+ghost use Rattle.serv_journal.specs.Outcomes.{Reaches};
+
+use crate::format::Version;
+use crate::writes::open_after;
+use serv_disk::{Disk, Failed};
+
+/// The most bytes that stand between a record's commit byte and the end of the next one.
+pub(crate) const ROOM: usize = 519;
+
+/// A record's number and its line's length, the high byte first.
+#[tactic(auto, unfolding(crate::specs::Format::two_bytes, crate::specs::Format::four_bytes))]
+fn head_of(number: u32, size: u16) -> [u8; 6]
+    ensures { result ≡ four_bytes number ++ two_bytes size }
+{
+    [
+        (number / 256 / 256 / 256) as u8,
+        (number / 256 / 256 % 256) as u8,
+        (number / 256 % 256) as u8,
+        (number % 256) as u8,
+        (size / 256) as u8,
+        (size % 256) as u8,
+    ]
+}
+
+/// Lays out what stands after a record's commit byte, and the next commit byte.
+pub(crate) fn lay_out(number: u32, line: &[u8], next: u8, room: &mut [u8])
+    requires line { IsLine line.now }
+    requires room { length room.old ≡ 7 + length line.now }
+    ensures { room.new ≡ body Version.Two number line.now ++ next ∷ [] }
+{
+    let size = line.len();
+    room[..6].copy_from_slice(&head_of(number, size as u16));
+    room[6..6 + size].copy_from_slice(line);
+    room[6 + size] = next;
+}
+
+/// Adds a record that is laid out in this room.
+fn add_in<D: Disk>(
+    disk: &mut D,
+    size: u64,
+    number: u32,
+    line: &[u8],
+    room: &mut [u8],
+) -> Result<(), Failed>
+    requires line { IsLine line.now }
+    requires room { length room.old ≡ 7 + length line.now }
+    requires some { 1 ≤ size }
+    requires reaches { Reaches (D.seen disk.old) size }
+    ensures durable { (front : List ℕ) → length front + 1 ≡ size
+        → Each (D.images disk.old) (Starts (front ++ 0 ∷ []))
+        → OnOk result (Each (D.images disk.new)
+        (Starts (front ++ 1 ∷ (body Version.Two number line.now ++ 0 ∷ [])))) }
+    ensures moments { (front : List ℕ) → length front + 1 ≡ size
+        → Each (D.images disk.old) (Starts (front ++ 0 ∷ []))
+        → LeavesOnly D.moment D.images_since disk.old disk.new
+        (IsOpening front (body Version.Two number line.now ++ 0 ∷ [])) }
+    ensures cause { HasCause (D.faults disk.old) (D.faults disk.new) result }
+{
+    lay_out(number, line, 0, room);
+    open_after(disk, size, room)
+}
+
+/// Adds a record to a file of this length.
+pub(crate) fn add_record<D: Disk>(
+    disk: &mut D,
+    size: u64,
+    number: u32,
+    line: &[u8],
+) -> Result<(), Failed>
+    requires line { IsLine line.now }
+    requires some { 1 ≤ size }
+    requires reaches { Reaches (D.seen disk.old) size }
+    ensures durable { (front : List ℕ) → length front + 1 ≡ size
+        → Each (D.images disk.old) (Starts (front ++ 0 ∷ []))
+        → OnOk result (Each (D.images disk.new)
+        (Starts (front ++ 1 ∷ (body Version.Two number line.now ++ 0 ∷ [])))) }
+    ensures moments { (front : List ℕ) → length front + 1 ≡ size
+        → Each (D.images disk.old) (Starts (front ++ 0 ∷ []))
+        → LeavesOnly D.moment D.images_since disk.old disk.new
+        (IsOpening front (body Version.Two number line.now ++ 0 ∷ [])) }
+    ensures cause { HasCause (D.faults disk.old) (D.faults disk.new) result }
+{
+    let mut room = [0; ROOM];
+    add_in(disk, size, number, line, &mut room[..line.len() + 7])
+}

@@ -1,0 +1,189 @@
+//! Reading a file through a window.
+
+ghost use Rattle.std.specs.Prelude.{◌≡◌, ℕ, ◌+◌, ◌-◌, ◌≤◌, ◌<◌, ◌↔◌, List, [], length, take, drop, slice_index, Some, IfOk, IfErr, OnOk, IsTrue};
+ghost use Rattle.serv_disk.specs.Faults.{HasCause};
+ghost use Rattle.serv_journal.specs.Bytes.{Starts};
+ghost use Rattle.serv_journal.specs.Outcomes.{IsPassing};
+ghost use Rattle.serv_journal.specs.Windows.{Shows, ShowsTold, IsReading};
+
+use crate::faults::JournalFault;
+use serv_disk::{Disk, Failed};
+use std::alloc::Global;
+use std::marker::Model;
+
+/// The most bytes that are read at once.
+const SPAN: usize = 4096;
+
+/// A part of a file, of at most 4,096 bytes.
+#[derive(Drop)]
+pub(crate) struct Window {
+    size: u64,
+    at: u64,
+    filled: usize,
+    room: [u8; SPAN],
+}
+
+impl Model for Window {
+    ghost use Rattle.std.specs.Prelude.{ℕ, ◌+◌, ◌≤◌, take};
+    ghost use Rattle.serv_journal.specs.Windows.{WindowState};
+
+    ghost Value = { WindowState };
+
+    ghost view = { λ w. record { size = w.size; at = w.at; bytes = take w.filled w.room } };
+
+    ghost invariant = { λ w. (w.filled ≤ 4096) × (w.at + w.filled ≤ w.size) };
+}
+
+impl Window {
+    /// A window on a file of this length. Nothing is read yet.
+    pub(crate) fn new(size: u64) -> Window
+        ensures size { result.size ≡ size }
+        ensures shows { (s : List ℕ) → size ≡ length s → Shows result s }
+    {
+        Window {
+            size,
+            at: 0,
+            filled: 0,
+            room: [0; SPAN],
+        }
+    }
+
+    /// The length of the file.
+    pub(crate) fn size(&self) -> u64
+        ensures { result ≡ self.now.size }
+    {
+        self.size
+    }
+
+    /// Reads from this place on.
+    fn load<D: Disk>(&mut self, disk: &mut D, place: u64) -> Result<(), Failed>
+        requires within { place < self.old.size }
+        requires shows { ShowsTold (D.seen disk.old) self.old }
+        ensures holds { OnOk result ((self.new.at ≤ place) × (place < self.new.at + length self.new.bytes)) }
+        ensures reading { IsReading D.seen D.images D.moment D.images_since D.faults disk.old disk.new
+            self.old self.new }
+        ensures cause { HasCause (D.faults disk.old) (D.faults disk.new) result }
+    {
+        let count = (self.size - place).min(SPAN as u64) as usize;
+        self.filled = 0;
+        disk.read(place, &mut self.room[..count])?;
+        self.at = place;
+        self.filled = count;
+        Ok(())
+    }
+
+    /// Whether the window has the byte at this place.
+    fn has(&self, place: u64) -> bool
+        ensures { IsTrue result ↔ ((self.now.at ≤ place) × (place < self.now.at + length self.now.bytes)) }
+    {
+        self.at <= place && place - self.at < self.filled as u64
+    }
+
+    /// Moves the window, unless it has the byte at this place.
+    fn bring<D: Disk>(&mut self, disk: &mut D, place: u64) -> Result<(), Failed>
+        requires within { place < self.old.size }
+        requires shows { ShowsTold (D.seen disk.old) self.old }
+        ensures holds { OnOk result ((self.new.at ≤ place) × (place < self.new.at + length self.new.bytes)) }
+        ensures reading { IsReading D.seen D.images D.moment D.images_since D.faults disk.old disk.new
+            self.old self.new }
+        ensures cause { HasCause (D.faults disk.old) (D.faults disk.new) result }
+    {
+        if self.has(place) {
+            return Ok(());
+        }
+        self.load(disk, place)
+    }
+
+    /// The byte at a place that the window has.
+    fn byte_here(&self, place: u64) -> u8
+        requires from { self.now.at ≤ place }
+        requires to { place < self.now.at + length self.now.bytes }
+        ensures { result ≡ slice_index self.now.bytes (place - self.now.at) }
+    {
+        self.room[(place - self.at) as usize]
+    }
+
+    /// The byte at a place of the file.
+    pub(crate) fn byte_at<D: Disk>(&mut self, disk: &mut D, place: u64) -> Result<u8, JournalFault>
+        requires within { place < self.old.size }
+        requires shows { ShowsTold (D.seen disk.old) self.old }
+        ensures byte { IfOk result (λ b. (s : List ℕ) → D.seen disk.old ≡ Some s → b ≡ slice_index s place) }
+        ensures reading { IsReading D.seen D.images D.moment D.images_since D.faults disk.old disk.new
+            self.old self.new }
+        ensures fault { IfErr result (IsPassing (D.faults disk.old) (D.faults disk.new)) }
+    {
+        self.bring(disk, place)?;
+        Ok(self.byte_here(place))
+    }
+
+    /// Fills the room with the bytes from this place on.
+    #[tactic(auto, using(crate::proofs::ReadingLemmas::reading_on, crate::proofs::ReadingLemmas::passing_from))]
+    pub(crate) fn fill<D: Disk>(
+        &mut self,
+        disk: &mut D,
+        place: u64,
+        room: &mut [u8],
+    ) -> Result<(), JournalFault>
+        requires within { place + length room.old ≤ self.old.size }
+        requires shows { ShowsTold (D.seen disk.old) self.old }
+        ensures bytes { OnOk result ((s : List ℕ) → D.seen disk.old ≡ Some s
+            → room.new ≡ take (length room.old) (drop place s)) }
+        ensures reading { IsReading D.seen D.images D.moment D.images_since D.faults disk.old disk.new
+            self.old self.new }
+        ensures fault { IfErr result (IsPassing (D.faults disk.old) (D.faults disk.new)) }
+    {
+        let _size = self.size();
+        for i in 0..room.len() {
+            room[i] = self.byte_at(disk, place + i as u64)?;
+        }
+        Ok(())
+    }
+
+    /// As many bytes from this place on.
+    #[tactic(auto, using(crate::proofs::ReadingLemmas::reading_on, crate::proofs::ReadingLemmas::passing_from))]
+    pub(crate) fn bytes_at<D: Disk>(
+        &mut self,
+        alloc: Global,
+        disk: &mut D,
+        place: u64,
+        count: usize,
+    ) -> Result<Vec<u8>, JournalFault>
+        requires within { place + count ≤ self.old.size }
+        requires shows { ShowsTold (D.seen disk.old) self.old }
+        ensures count { IfOk result (λ bytes. length bytes.items ≡ count) }
+        ensures bytes { IfOk result (λ bytes. (s : List ℕ) → D.seen disk.old ≡ Some s
+            → bytes.items ≡ take count (drop place s)) }
+        ensures reading { IsReading D.seen D.images D.moment D.images_since D.faults disk.old disk.new
+            self.old self.new }
+        ensures fault { IfErr result (IsPassing (D.faults disk.old) (D.faults disk.new)) }
+    {
+        let mut bytes = vec![in alloc; 0; count]?;
+        self.fill(disk, place, &mut bytes)?;
+        Ok(bytes)
+    }
+
+    /// Whether this text stands at a place.
+    #[tactic(auto, using(crate::proofs::ReadingLemmas::reading_on, crate::proofs::ReadingLemmas::passing_from))]
+    pub(crate) fn has_text<D: Disk>(
+        &mut self,
+        disk: &mut D,
+        place: u64,
+        text: &[u8; 8],
+    ) -> Result<bool, JournalFault>
+        requires within { place ≤ self.old.size }
+        requires shows { ShowsTold (D.seen disk.old) self.old }
+        ensures found { IfOk result (λ b. IsTrue b → place + 8 ≤ self.old.size) }
+        ensures text { IfOk result (λ b. (s : List ℕ) → D.seen disk.old ≡ Some s
+            → (IsTrue b ↔ Starts text.now (drop place s))) }
+        ensures reading { IsReading D.seen D.images D.moment D.images_since D.faults disk.old disk.new
+            self.old self.new }
+        ensures fault { IfErr result (IsPassing (D.faults disk.old) (D.faults disk.new)) }
+    {
+        if self.size() - place < 8 {
+            return Ok(false);
+        }
+        let mut room = [0; 8];
+        self.fill(disk, place, &mut room)?;
+        Ok(room == *text)
+    }
+}

@@ -1,0 +1,99 @@
+//! Writes of which a crash leaves all, nothing, or what is of no account.
+
+ghost use Rattle.std.specs.Prelude.{◌≡◌, ◌≢◌, ◌⊎◌, ℕ, ◌+◌, ◌-◌, ◌≤◌, ◌<◌, List, [], ◌∷◌, ◌++◌, length, Some, None, OnOk};
+ghost use Rattle.serv_disk.specs.Faults.{HasCause};
+ghost use Rattle.serv_disk.specs.Disks.{Holds, TornAt, Told, Each, After, Only, LeavesOnly};
+ghost use Rattle.serv_journal.specs.Bytes.{Starts, Between, IsOpening};
+ghost use Rattle.serv_journal.specs.Outcomes.{Reaches};
+
+use serv_disk::{Disk, Failed};
+
+/// Writes, and syncs.
+pub(crate) fn put<D: Disk>(disk: &mut D, at: u64, bytes: &[u8]) -> Result<(), Failed>
+    requires { Reaches (D.seen disk.old) at }
+    ensures told { OnOk result (Told (D.seen disk.old) (D.seen disk.new) (Holds at bytes.now)) }
+    ensures durable { OnOk result (Each (D.images disk.new)
+        (After (Holds at bytes.now) (D.images disk.old))) }
+    ensures only { OnOk result (Only (D.seen disk.new) (D.images disk.new)) }
+    ensures moments { LeavesOnly D.moment D.images_since disk.old disk.new
+        (After (TornAt at (length bytes.now)) (D.images disk.old)) }
+    ensures cause { HasCause (D.faults disk.old) (D.faults disk.new) result }
+{
+    disk.write_at(at, bytes)?;
+    disk.sync()
+}
+
+/// Puts bytes after all that is of account.
+fn stage<D: Disk>(disk: &mut D, at: u64, bytes: &[u8]) -> Result<(), Failed>
+    requires { Reaches (D.seen disk.old) at }
+    ensures told { OnOk result (Told (D.seen disk.old) (D.seen disk.new) (Holds at bytes.now)) }
+    ensures durable { (front : List ℕ) → length front ≡ at → Each (D.images disk.old) (Starts front)
+        → OnOk result (Each (D.images disk.new) (Starts (front ++ bytes.now))) }
+    ensures moments { (front : List ℕ) → length front ≡ at → Each (D.images disk.old) (Starts front)
+        → LeavesOnly D.moment D.images_since disk.old disk.new (Starts front) }
+    ensures cause { HasCause (D.faults disk.old) (D.faults disk.new) result }
+{
+    put(disk, at, bytes)
+}
+
+/// Sets one byte.
+pub(crate) fn set_byte<D: Disk>(disk: &mut D, at: u64, value: u8) -> Result<(), Failed>
+    requires { Reaches (D.seen disk.old) at }
+    ensures told { OnOk result (Told (D.seen disk.old) (D.seen disk.new) (Holds at (value ∷ []))) }
+    ensures durable { (front rest : List ℕ) → length front ≡ at
+        → Each (D.images disk.old) (Between front rest)
+        → OnOk result (Each (D.images disk.new) (Starts (front ++ value ∷ rest))) }
+    ensures moments { (front rest : List ℕ) → length front ≡ at
+        → Each (D.images disk.old) (Between front rest)
+        → LeavesOnly D.moment D.images_since disk.old disk.new (Between front rest) }
+    ensures cause { HasCause (D.faults disk.old) (D.faults disk.new) result }
+{
+    put(disk, at, &[value])
+}
+
+/// Puts bytes after the closed commit byte with which a journal of this length ends, and then opens it.
+pub(crate) fn open_after<D: Disk>(disk: &mut D, size: u64, bytes: &[u8]) -> Result<(), Failed>
+    requires some { 1 ≤ size }
+    requires reaches { Reaches (D.seen disk.old) size }
+    ensures durable { (front : List ℕ) → length front + 1 ≡ size
+        → Each (D.images disk.old) (Starts (front ++ 0 ∷ []))
+        → OnOk result (Each (D.images disk.new) (Starts (front ++ 1 ∷ bytes.now))) }
+    ensures moments { (front : List ℕ) → length front + 1 ≡ size
+        → Each (D.images disk.old) (Starts (front ++ 0 ∷ []))
+        → LeavesOnly D.moment D.images_since disk.old disk.new (IsOpening front bytes.now) }
+    ensures cause { HasCause (D.faults disk.old) (D.faults disk.new) result }
+{
+    stage(disk, size, bytes)?;
+    set_byte(disk, size - 1, 1)
+}
+
+/// Sets a commit byte to 0, unless it is.
+pub(crate) fn close_byte<D: Disk>(disk: &mut D, at: u64, commit: u8) -> Result<(), Failed>
+    requires { Reaches (D.seen disk.old) at }
+    ensures told { (front rest : List ℕ) → length front ≡ at → D.seen disk.old ≡ Some (front ++ commit ∷ rest)
+        → OnOk result (D.seen disk.new ≡ Some (front ++ 0 ∷ rest)) }
+    ensures untold { D.seen disk.old ≡ None → OnOk result (D.seen disk.new ≡ None) }
+    ensures only { Only (D.seen disk.old) (D.images disk.old)
+        → OnOk result (Only (D.seen disk.new) (D.images disk.new)) }
+    ensures moments { LeavesOnly D.moment D.images_since disk.old disk.new
+        (λ c. D.images disk.old c ⊎ ((commit ≢ 0) × After (TornAt at 1) (D.images disk.old) c)) }
+    ensures cause { HasCause (D.faults disk.old) (D.faults disk.new) result }
+{
+    if commit == 0 {
+        return Ok(());
+    }
+    put(disk, at, &[0])
+}
+
+/// Puts bytes after all that is of account. Until the next sync a crash may leave any part of them.
+pub(crate) fn lay<D: Disk>(disk: &mut D, at: u64, bytes: &[u8]) -> Result<(), Failed>
+    requires { Reaches (D.seen disk.old) at }
+    ensures told { OnOk result (Told (D.seen disk.old) (D.seen disk.new) (Holds at bytes.now)) }
+    ensures crash { (front : List ℕ) → length front ≤ at → Each (D.images disk.old) (Starts front)
+        → Each (D.images disk.new) (Starts front) }
+    ensures moments { (front : List ℕ) → length front ≤ at → Each (D.images disk.old) (Starts front)
+        → LeavesOnly D.moment D.images_since disk.old disk.new (Starts front) }
+    ensures cause { HasCause (D.faults disk.old) (D.faults disk.new) result }
+{
+    disk.write_at(at, bytes)
+}
