@@ -1,0 +1,5 @@
+pub mod Fields
+pub mod Heads
+pub mod Routes
+pub mod Plans
+pub mod Streams

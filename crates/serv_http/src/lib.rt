@@ -1,0 +1,8 @@
+//! HTTP requests of a connection, whatever the pieces in which their bytes come, and responses.
+#![tactic(auto)]
+
+mod ask;
+mod route;
+
+pub use ask::{Allow, Ask, Body, Due, Plan};
+pub use route::{ContentLength, Route};
