@@ -1,2 +1,6 @@
 pub mod LineLemmas
 pub mod GrowthLemmas
+pub mod TargetLemmas
+pub mod HeadLemmas
+pub mod CountLemmas
+pub mod LimitLemmas

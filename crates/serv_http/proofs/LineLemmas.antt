@@ -98,7 +98,7 @@ line-is n s r e =
     let p = begun-is (after_lines n (from_request_line s)) r e in
     (p.0, p.1, ap begun (sym p.0) ∙ e)
 
-line-from : (n : ℕ) (s r : List ℕ) → after_lines n (from_request_line s) ≡ Some r → begun (Some r) ≡ Some r
+pub line-from : (n : ℕ) (s r : List ℕ) → after_lines n (from_request_line s) ≡ Some r → begun (Some r) ≡ Some r
     → line_after n s ≡ Some r
 unfolding line_after
 line-from n s r e b = ap begun e ∙ b
