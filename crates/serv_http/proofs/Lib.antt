@@ -4,3 +4,5 @@ pub mod TargetLemmas
 pub mod HeadLemmas
 pub mod CountLemmas
 pub mod LimitLemmas
+pub mod ScanLemmas
+pub mod OpenTargetLemmas

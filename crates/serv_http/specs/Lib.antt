@@ -3,3 +3,4 @@ pub mod Heads
 pub mod Routes
 pub mod Plans
 pub mod Streams
+pub mod Words

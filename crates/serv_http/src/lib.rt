@@ -3,6 +3,9 @@
 
 mod ask;
 mod route;
+mod target;
+mod window;
 
 pub use ask::{Allow, Ask, Body, Due, Plan};
 pub use route::{ContentLength, Route};
+pub use window::{HEAD_LIMIT, LINE_LIMIT};
