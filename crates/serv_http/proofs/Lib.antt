@@ -6,3 +6,5 @@ pub mod CountLemmas
 pub mod LimitLemmas
 pub mod ScanLemmas
 pub mod OpenTargetLemmas
+pub mod QueryLemmas
+pub mod StreamLemmas
