@@ -8,3 +8,6 @@ pub mod ScanLemmas
 pub mod OpenTargetLemmas
 pub mod QueryLemmas
 pub mod StreamLemmas
+pub mod PathLemmas
+pub mod FieldLemmas
+pub mod JudgeLemmas

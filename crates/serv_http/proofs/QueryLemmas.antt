@@ -19,11 +19,11 @@ use Rattle.serv_http.specs.Routes.{route_of, route_of_query, path_of_query, Spel
 use Rattle.serv_http.specs.Plans.{Step, FirstOf, IsQuestion, IsRouted, route_steps, body_length, IsPlan, length_steps, is_last}
 
 -- what stands between two texts
-between : (p a b s : List ℕ) → p ++ (a ++ s) ≡ p ++ (b ++ s) → a ≡ b
+pub between : (p a b s : List ℕ) → p ++ (a ++ s) ≡ p ++ (b ++ s) → a ≡ b
 between p a b s e = append_cancel_right a b s (append_cancel_left p (a ++ s) (b ++ s) e)
 
 -- two texts whose ends are as long
-same-ends : (u v x y : List ℕ) → length x ≡ length y → u ++ x ≡ v ++ y → (u ≡ v) × (x ≡ y)
+pub same-ends : (u v x y : List ℕ) → length x ≡ length y → u ++ x ≡ v ++ y → (u ≡ v) × (x ≡ y)
 same-ends u v x y l e =
     let size : length v ≡ length u = omega (arith, ap length e, length-append u x, length-append v y) in (
       sym (take_at u x (length u) refl) ∙ ap (take (length u)) e ∙ take_at v y (length u) size,

@@ -39,3 +39,9 @@ abbrev pub content_length : List (List ℕ) → ContentLength
 content_length [] = Missing
 content_length (value ∷ []) = length_of_value value
 content_length (value ∷ other ∷ more) = Bad
+
+-- what was said so far, with a value more
+abbrev pub with_value : ContentLength → List ℕ → ContentLength
+with_value Missing value = length_of_value value
+with_value (Given n) value = Bad
+with_value Bad value = Bad

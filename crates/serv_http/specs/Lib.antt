@@ -4,3 +4,4 @@ pub mod Routes
 pub mod Plans
 pub mod Streams
 pub mod Words
+pub mod Judging

@@ -1,9 +1,10 @@
 -- What a head asks for: the first of its steps that holds, or the question of its path.
-use Rattle.std.specs.Prelude.{◌≡◌, ℕ, ◌⊎◌, List, [], ◌∷◌, map, Bool, true, false, ◌==◌, ◌||◌, ◌&&◌, not, nat_lt, Option, Some, None, MatchBool, codes, ◌≤◌}
+use Rattle.std.specs.Prelude.{◌≡◌, ℕ, ◌⊎◌, List, [], ◌∷◌, map, Bool, true, false, ◌==◌, ◌||◌, ◌&&◌, not, nat_lt, Option, Some, None, MatchBool, codes, ◌≤◌, if◌then◌else◌}
 use Rattle.std.specs.List.{list_any}
 use Rattle.std.specs.Str.{bytes_eq}
 use Rattle.httparse.specs.Grammar.{RequestHead}
-use Rattle.httparse.specs.Spans.{name_and_value}
+use Rattle.httparse.specs.Spans.{name_and_value, span_bytes}
+use Rattle.httparse.specs.declared.spans.RequestSpans.{RequestSpans}
 use Rattle.svc_types.specs.declared.requests.Query.{Query}
 use Rattle.serv_http.specs.declared.ask.Allow.{Allow}
 use Rattle.serv_http.specs.declared.ask.Allow.TheVariants as allow
@@ -132,3 +133,15 @@ abbrev pub PlanFits : Plan → Type 0
 PlanFits (Now d) = 0 ≤ body_limit
 PlanFits (Pass n d) = n ≤ body_limit
 PlanFits (Keep n last) = n ≤ body_limit
+
+-- the first fault of the lengths: its status, where there is one
+abbrev pub length_fault : Bool → ContentLength → Option ℕ
+length_fault encoded length =
+    if encoded then Some 411 else (if is_bad length then Some 400 else (if is_above body_limit length then Some 413 else None))
+
+-- the method and the target that spans cover
+abbrev pub method_at : List ℕ → RequestSpans → List ℕ
+method_at buf spans = span_bytes buf spans.method
+
+abbrev pub target_at : List ℕ → RequestSpans → List ℕ
+target_at buf spans = span_bytes buf spans.path
