@@ -4,4 +4,6 @@ pub mod Routes
 pub mod Plans
 pub mod Streams
 pub mod Words
+pub mod Conns
+pub mod Stages
 pub mod Judging
