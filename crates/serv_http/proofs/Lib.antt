@@ -11,3 +11,4 @@ pub mod StreamLemmas
 pub mod PathLemmas
 pub mod FieldLemmas
 pub mod JudgeLemmas
+pub mod StepLemmas

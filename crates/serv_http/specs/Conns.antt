@@ -7,6 +7,8 @@ use Rattle.serv_http.specs.declared.ask.Plan.TheVariants.{Pass, Keep}
 use Rattle.serv_http.specs.declared.stage.Stage.{Stage}
 use Rattle.serv_http.specs.declared.stage.Stage.TheVariants.{Heading, Passing, Keeping, Over}
 use Rattle.serv_http.specs.declared.conn.Conn.{Conn}
+use Rattle.serv_http.specs.declared.head_step.HeadStep.{HeadStep}
+use Rattle.serv_http.specs.declared.head_step.HeadStep.TheVariants.{Asked, Begun, Waits}
 use Rattle.serv_http.specs.Heads.{HasHead, IsClosed, IsOpen}
 use Rattle.serv_http.specs.Plans.{IsPlan}
 use Rattle.serv_http.specs.Stages.{is_ended}
@@ -70,3 +72,24 @@ IsStep s piece c used (Some a) =
     (used ≤ length piece)
     × ((t : List ℕ) × IsFirst (s ++ take used piece) a t
         × (c.stage ≡ stage_after (ends a)) × (c.filled ≡ 0) × (ends a ≡ false → t ≡ []))
+
+-- the bytes are a whole head and a part of its body, which may be all of it
+abbrev pub BegunAt : Conn → Stage → List ℕ → Type 0
+BegunAt c Heading s = ⊥
+BegunAt c (Passing left due) s = IsPassing left due s
+BegunAt c (Keeping have need last) s = IsKeeping c.body have need last s
+BegunAt c Over s = ⊥
+
+abbrev pub BegunFor : Conn → List ℕ → Type 0
+BegunFor c s = BegunAt c c.stage s
+
+-- the bytes are a whole head alone
+pub record IsWhole (s : List ℕ) (h : RequestHead) : Type 0 where
+  pub here : HasHead s h
+  pub alone : after_head s h ≡ []
+
+-- what a piece made of a head
+abbrev pub IsHeadStep : List ℕ → List ℕ → Conn → HeadStep → Type 0
+IsHeadStep s piece c (Asked used a) = IsStep s piece c used (Some a)
+IsHeadStep s piece c (Begun used) = (used ≤ length piece) × BegunFor c (s ++ take used piece)
+IsHeadStep s piece c Waits = StandsFor c (s ++ piece)

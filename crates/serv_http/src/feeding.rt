@@ -6,11 +6,9 @@ ghost use Rattle.serv_http.specs.Conns as conns;
 ghost use Rattle.serv_http.specs.Streams as streams;
 ghost use Rattle.serv_http.specs.Stages.{stage_fits};
 
-use crate::ask::{Ask, Body, Due, Plan};
+use crate::ask::{Ask, Body, Due};
 use crate::conn::Conn;
 use crate::ending::has_ended;
-use crate::found::Found;
-use crate::judging::judge;
 use crate::plan::BODY_LIMIT;
 use crate::room::Room;
 use crate::router::routes;
@@ -20,7 +18,7 @@ use std::alloc::Global;
 use svc_base::OutOfMemory;
 
 /// What is due, as it is asked.
-fn asked(due: &Due) -> Ask
+pub(crate) fn asked(due: &Due) -> Ask
     ensures { result ≡ streams.ask_of due.now }
 {
     match *due {
@@ -30,7 +28,7 @@ fn asked(due: &Due) -> Ask
 }
 
 /// Whether the connection ends after what is due.
-fn is_last(due: &Due) -> bool
+pub(crate) fn is_last(due: &Due) -> bool
     ensures { result ≡ streams.ends (streams.ask_of due.now) }
 {
     match *due {
@@ -40,7 +38,7 @@ fn is_last(due: &Due) -> bool
 }
 
 /// The stage after a request.
-fn after(last: bool) -> Stage
+pub(crate) fn after(last: bool) -> Stage
     ensures value { result ≡ conns.stage_after last }
     ensures fits { stage_fits result ≡ true }
 {
@@ -48,7 +46,7 @@ fn after(last: bool) -> Stage
 }
 
 /// The bytes of a body, in memory of its own.
-fn body_of(alloc: Global, bytes: &[u8]) -> Result<Body, OutOfMemory>
+pub(crate) fn body_of(alloc: Global, bytes: &[u8]) -> Result<Body, OutOfMemory>
     ensures { IfOk result (λ body. body ≡ bytes.now) }
 {
     Ok(Body::from_vec(Vec::from_slice(alloc, bytes)?))

@@ -7,6 +7,7 @@ mod conn;
 mod ending;
 mod feeding;
 mod found;
+mod head_step;
 mod judging;
 mod plan;
 mod queries;
@@ -14,6 +15,7 @@ mod room;
 mod route;
 mod router;
 mod stage;
+mod steps;
 mod target;
 mod window;
 

@@ -1,0 +1,187 @@
+-- What a step of a connection does with the bytes of a piece.
+use Rattle.std.proofs.Common.{◌≡◌, ℕ, ◌+◌, ◌-◌, ◌<◌, ◌≤◌, ◌⊎◌, inl, inr, Bool, true, false, List, [], ◌∷◌, ◌++◌, length, take, drop, refl, sym, ap, ◌∙◌, subst, arith, append_assoc, append-nil, length-append, length-take, length-drop, Option, Some, None}
+use Rattle.std.specs.Prelude.{min}
+use Rattle.std.proofs.lemmas.Bool.{cases_lt}
+use Rattle.std.proofs.lemmas.List.{take_at, take_all, drop_all, take-append-drop, take-append-le, take-take}
+use Rattle.httparse.specs.Grammar.{RequestHead, print_request}
+use Rattle.serv_http.specs.declared.ask.Ask.{Ask}
+use Rattle.serv_http.specs.declared.ask.Ask.TheVariants.{Post, Fault}
+use Rattle.serv_http.specs.declared.ask.Due.{Due}
+use Rattle.serv_http.specs.declared.ask.Plan.{Plan}
+use Rattle.serv_http.specs.declared.ask.Plan.TheVariants.{Now, Pass, Keep}
+use Rattle.serv_http.specs.declared.stage.Stage.{Stage}
+use Rattle.serv_http.specs.declared.stage.Stage.TheVariants.{Heading, Passing, Keeping, Over}
+use Rattle.serv_http.specs.declared.conn.Conn.{Conn}
+use Rattle.serv_http.specs.declared.head_step.HeadStep.{HeadStep}
+use Rattle.serv_http.specs.declared.head_step.HeadStep.TheVariants.{Asked, Begun, Waits}
+use Rattle.serv_http.specs.Heads.{head_limit, judged, HasHead, IsClosed, IsOpen, IsRefused, IsTooLong}
+use Rattle.serv_http.specs.Judging.{IsWholeHead}
+use Rattle.serv_http.specs.Plans.{IsPlan}
+use Rattle.serv_http.specs.Streams.{ask_of, ends, after_head, IsFirst, IsAwaited}
+use Rattle.serv_http.specs.Conns.{IsHeading, IsPassing, IsKeeping, StandsAt, StandsFor, BegunAt, BegunFor, IsWhole, IsStep, IsHeadStep, stage_after}
+use Rattle.serv_http.proofs.GrowthLemmas.{judged-open}
+use Rattle.serv_http.proofs.HeadLemmas.{head-grows, after_head-grows, head-first, head-length}
+use Rattle.serv_http.proofs.LimitLemmas.{head-in-limits}
+use Rattle.serv_http.proofs.StreamLemmas.{first-grows, first-not-awaited}
+use Rattle.serv_http.proofs.TargetLemmas.{meet}
+
+stands-at-awaited : (c : Conn) (g : Stage) (s : List ℕ) → StandsAt c g s → IsAwaited s
+stands-at-awaited c Heading s x = inl (x.going, x.may)
+stands-at-awaited c (Passing left due) s x = inr (record {
+  head = x.0.head;
+  here = x.0.here;
+  plan = Pass x.0.total due;
+  planned = x.0.planned;
+  lacks = omega (arith, x.0.count, x.1);
+})
+stands-at-awaited c (Keeping have need last) s x = inr (record {
+  head = x.0.head;
+  here = x.0.here;
+  plan = Keep need last;
+  planned = x.0.planned;
+  lacks = omega (arith, x.0.count, x.1);
+})
+stands-at-awaited c Over s x = absurd x
+
+pub stands-awaited : (c : Conn) (s : List ℕ) → StandsFor c s → IsAwaited s
+stands-awaited c s x = stands-at-awaited c c.stage s x
+
+-- a body that is passed over
+pub pass-more : (left : ℕ) (due : Due) (s piece : List ℕ) → IsPassing left due s → length piece < left
+    → IsPassing (left - length piece) due (s ++ piece) × (0 < left - length piece)
+pass-more left due s piece x l = (
+  record {
+    head = x.head;
+    here = head-grows s piece x.head x.here;
+    total = x.total;
+    planned = x.planned;
+    count = omega (arith, ap length (after_head-grows s piece x.head x.here), length-append (after_head s x.head) piece, x.count);
+  },
+  omega arith,
+)
+
+pub pass-whole : (left : ℕ) (due : Due) (s piece : List ℕ) → IsPassing left due s → left ≤ length piece
+    → IsFirst (s ++ take left piece) (ask_of due) []
+pass-whole left due s piece x l =
+    let more : List ℕ = take left piece in
+    let grown = after_head-grows s more x.head x.here in
+    let size : length (after_head (s ++ more) x.head) ≡ x.total =
+        omega (arith, ap length grown, length-append (after_head s x.head) more, length-take left piece, x.count) in
+    inr (inr (record {
+      head = x.head;
+      here = head-grows s more x.head x.here;
+      plan = Pass x.total due;
+      planned = x.planned;
+      whole = (omega arith, refl, sym (drop_all x.total (after_head (s ++ more) x.head) (omega arith)));
+    }))
+
+-- a command's body
+pub keep-more : (room room' : List ℕ) (have need : ℕ) (last : Bool) (s piece : List ℕ) → IsKeeping room have need last s
+    → have ≤ length room → room' ≡ take have room ++ piece ++ drop (have + length piece) room
+    → IsKeeping room' (have + length piece) need last (s ++ piece)
+keep-more room room' have need last s piece x l e =
+    let grown = after_head-grows s piece x.head x.here in
+    record {
+      head = x.head;
+      here = head-grows s piece x.head x.here;
+      planned = x.planned;
+      text = grown ∙ ap (λ (t : List ℕ). t ++ piece) x.text
+          ∙ sym (ap (take (have + length piece)) e
+            ∙ take_at (take have room ++ piece) (drop (have + length piece) room) (have + length piece)
+              (omega (arith, length-append (take have room) piece, length-take have room)));
+      count = omega (arith, ap length grown, length-append (after_head s x.head) piece, x.count);
+    }
+
+keep-whole : (room : List ℕ) (need : ℕ) (last : Bool) (s : List ℕ) → IsKeeping room need need last s
+    → IsFirst s (Post (take need room) last) []
+keep-whole room need last s x = inr (inr (record {
+  head = x.head;
+  here = x.here;
+  plan = Keep need last;
+  planned = x.planned;
+  whole = (
+    omega (arith, x.count),
+    ap (λ (t : List ℕ). Post t last) (sym x.text ∙ sym (take_all need (after_head s x.head) (omega (arith, x.count)))),
+    sym (drop_all need (after_head s x.head) (omega (arith, x.count))),
+  );
+}))
+
+pub keep-ends : (room room' : List ℕ) (have need : ℕ) (last : Bool) (s piece : List ℕ) → IsKeeping room have need last s
+    → have ≤ need → need ≤ length room → need - have ≤ length piece
+    → room' ≡ take have room ++ take (need - have) piece ++ drop (have + length (take (need - have) piece)) room
+    → IsFirst (s ++ take (need - have) piece) (Post (take need room') last) []
+keep-ends room room' have need last s piece x a b l e =
+    let more : List ℕ = take (need - have) piece in
+    let size : have + length more ≡ need = omega (arith, length-take (need - have) piece) in
+    let kept = keep-more room room' have need last s more x (omega arith) e in
+    keep-whole room' need last (s ++ more) (subst (λ (n : ℕ). IsKeeping room' n need last (s ++ more)) size kept)
+
+-- where a part of a piece completes a request, all of it does not wait
+pub not-awaited : (s piece : List ℕ) (k : ℕ) (a : Ask) (t : List ℕ) → IsFirst (s ++ take k piece) a t → ¬ (IsAwaited (s ++ piece))
+not-awaited s piece k a t first awaited =
+    let cut : (s ++ take k piece) ++ drop k piece ≡ s ++ piece =
+        append_assoc s (take k piece) (drop k piece) ∙ ap (λ (x : List ℕ). s ++ x) (take-append-drop k piece) in
+    first-not-awaited (s ++ piece) a (t ++ drop k piece)
+    (subst (λ (x : List ℕ). IsFirst x a (t ++ drop k piece)) cut (first-grows (s ++ take k piece) (drop k piece) a t first)) awaited
+
+-- what is written of a piece to the room of the head
+pub head-text : (head head' s more : List ℕ) (filled : ℕ) → s ≡ take filled head → filled ≤ length head
+    → head' ≡ take filled head ++ more ++ drop (filled + length more) head → take (filled + length more) head' ≡ s ++ more
+head-text head head' s more filled e l f =
+    ap (take (filled + length more)) f
+    ∙ take_at (take filled head ++ more) (drop (filled + length more) head) (filled + length more)
+      (omega (arith, length-append (take filled head) more, length-take filled head))
+    ∙ ap (λ (t : List ℕ). t ++ more) (sym e)
+
+-- a head alone is a head
+head-exact : (s : List ℕ) (h : RequestHead) → HasHead s h → length (print_request h) ≤ head_limit → HasHead (print_request h) h
+head-exact s h x short = head-in-limits h x.reads.0 x.lines short
+
+-- a head that the bytes before a piece do not have, and that the piece makes whole
+pub head-whole : (s piece : List ℕ) (count len : ℕ) (h : RequestHead) → ¬ (IsClosed s) → IsOpen s
+    → length s + count ≤ head_limit → HasHead (s ++ take count piece) h
+    → len ≡ length (print_request h) → count ≤ length piece
+    → (len - length s ≤ length piece) × IsWhole (s ++ take (len - length s) piece) h
+head-whole s piece count len h going may short x e l =
+    elim (meet (print_request h) (after_head (s ++ take count piece) h) s (take count piece)
+      (sym (head-first (s ++ take count piece) h x))) [
+      | inl a ↦ absurd (may.none h a.0 (x.reads.0, (judged-open s [] going).0 ∙ a.1))
+      | inr b ↦
+          let size : length b.0 ≡ len - length s = omega (arith, ap length b.1, length-append s b.0) in
+          let fits : length b.0 ≤ count =
+              omega (arith, ap length b.2, length-append b.0 (after_head (s ++ take count piece) h), length-take count piece) in
+          let front : take (length b.0) piece ≡ b.0 =
+              sym (take-take (length b.0) count piece fits) ∙ ap (take (length b.0)) b.2
+              ∙ take_at b.0 (after_head (s ++ take count piece) h) (length b.0) refl in
+          let whole : s ++ take (len - length s) piece ≡ print_request h =
+              ap (λ (n : ℕ). s ++ take n piece) (sym size) ∙ ap (λ (t : List ℕ). s ++ t) front ∙ sym b.1 in
+          let head = head-exact (s ++ take count piece) h x (omega (arith, ap length b.1, length-append s b.0)) in (
+            omega arith,
+            record {
+              here = subst (λ (t : List ℕ). HasHead t h) (sym whole) head;
+              alone = ap (λ (t : List ℕ). after_head t h) whole ∙ drop_all (length (print_request h)) (print_request h) (omega arith);
+            },
+          )
+    ]
+
+pub whole-now : (s : List ℕ) (h : RequestHead) (due : Due) → IsWhole s h → IsPlan h (Now due) → IsFirst s (ask_of due) []
+whole-now s h due x p =
+    inr (inr (record { head = h; here = x.here; plan = Now due; planned = p; whole = (refl, sym x.alone) }))
+
+pub whole-pass : (s : List ℕ) (h : RequestHead) (n : ℕ) (due : Due) → IsWhole s h → IsPlan h (Pass n due) → IsPassing n due s
+whole-pass s h n due x p =
+    record { head = h; here = x.here; total = n; planned = p; count = omega (arith, ap length x.alone) }
+
+pub whole-keep : (room s : List ℕ) (h : RequestHead) (n : ℕ) (last : Bool) → IsWhole s h → IsPlan h (Keep n last) → IsKeeping room 0 n last s
+whole-keep room s h n last x p =
+    record { head = h; here = x.here; planned = p; text = x.alone; count = ap length x.alone }
+
+-- where the head may go on, all of the piece was added
+pub all-added : (s piece : List ℕ) (filled count : ℕ) → length s ≡ filled → filled < head_limit
+    → count ≡ min (length piece) (head_limit - filled) → ¬ (IsClosed (s ++ take count piece))
+    → (filled + count < head_limit) × (take count piece ≡ piece)
+all-added s piece filled count size room is going =
+    elim (cases_lt (filled + count) head_limit) [
+      | inl l ↦ (l, take_all count piece (omega arith))
+      | inr g ↦ absurd (going (inl (omega (arith, length-append s (take count piece), length-take count piece))))
+    ]
