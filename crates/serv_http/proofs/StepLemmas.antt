@@ -3,7 +3,11 @@ use Rattle.std.proofs.Common.{◌≡◌, ℕ, ◌+◌, ◌-◌, ◌<◌, ◌≤�
 use Rattle.std.specs.Prelude.{min}
 use Rattle.std.proofs.lemmas.Bool.{cases_lt}
 use Rattle.std.proofs.lemmas.List.{take_at, take_all, drop_all, take-append-drop, take-append-le, take-take}
+use Rattle.std.proofs.Math.Seq.{take-add}
+use Rattle.serv_http.proofs.TargetLemmas.{shortest-reads-first}
 use Rattle.httparse.specs.Grammar.{RequestHead, print_request}
+use Rattle.httparse.specs.Grammar.{ReadsRequest, MayBecomeRequest, print_blank, print_version, print_end, print_section}
+use Rattle.httparse.proofs.GrammarLemmas.{print_request-append}
 use Rattle.serv_http.specs.declared.ask.Ask.{Ask}
 use Rattle.serv_http.specs.declared.ask.Ask.TheVariants.{Post, Fault}
 use Rattle.serv_http.specs.declared.ask.Due.{Due}
@@ -14,7 +18,7 @@ use Rattle.serv_http.specs.declared.stage.Stage.TheVariants.{Heading, Passing, K
 use Rattle.serv_http.specs.declared.conn.Conn.{Conn}
 use Rattle.serv_http.specs.declared.head_step.HeadStep.{HeadStep}
 use Rattle.serv_http.specs.declared.head_step.HeadStep.TheVariants.{Asked, Begun, Waits}
-use Rattle.serv_http.specs.Heads.{head_limit, judged, HasHead, IsClosed, IsOpen, IsRefused, IsTooLong}
+use Rattle.serv_http.specs.Heads.{head_limit, line_after, from_request_line, after_lines, judged, HasHead, IsClosed, IsOpen, IsRefused, IsTooLong}
 use Rattle.serv_http.specs.Judging.{IsWholeHead}
 use Rattle.serv_http.specs.Plans.{IsPlan}
 use Rattle.serv_http.specs.Streams.{ask_of, ends, after_head, IsFirst, IsAwaited}
@@ -185,3 +189,95 @@ all-added s piece filled count size room is going =
       | inl l ↦ (l, take_all count piece (omega arith))
       | inr g ↦ absurd (going (inl (omega (arith, length-append s (take count piece), length-take count piece))))
     ]
+
+-- a request that so many bytes of a piece completed
+pub step-asked : (s piece : List ℕ) (c : Conn) (used : ℕ) (a b : Ask) (last : Bool) → used ≤ length piece
+    → IsFirst (s ++ take used piece) a [] → b ≡ a → last ≡ ends a → c.stage ≡ stage_after last → c.filled ≡ 0
+    → IsStep s piece c used (Some b)
+step-asked s piece c used a b last l first e g stage filled = (
+  l,
+  (
+    [],
+    subst (λ (x : Ask). IsFirst (s ++ take used piece) x []) (sym e) first,
+    stage ∙ ap stage_after (g ∙ ap ends (sym e)),
+    filled,
+    λ _. refl,
+  ),
+)
+
+-- a fault of a head
+pub step-fault : (s piece : List ℕ) (c : Conn) (used status : ℕ) → used ≤ length piece
+    → IsFirst (s ++ take used piece) (Fault status true None) (s ++ take used piece) → c.stage ≡ Over → c.filled ≡ 0
+    → IsStep s piece c used (Some (Fault status true None))
+step-fault s piece c used status l first stage filled = (l, (s ++ take used piece, first, stage, filled, λ e. absurd (cc e)))
+
+pub begun-keeping : (c : Conn) (have need : ℕ) (last : Bool) (s : List ℕ) → c.stage ≡ Keeping have need last → BegunFor c s
+    → IsKeeping c.body have need last s
+begun-keeping c have need last s e x = subst (λ (g : Stage). BegunAt c g s) e x
+
+pub begun-passing : (c : Conn) (left : ℕ) (due : Due) (s : List ℕ) → c.stage ≡ Passing left due → BegunFor c s → IsPassing left due s
+begun-passing c left due s e x = subst (λ (g : Stage). BegunAt c g s) e x
+
+stands-begun-at : (c : Conn) (g : Stage) (s : List ℕ) → (g ≡ Heading → ⊥) → StandsAt c g s → BegunAt c g s
+stands-begun-at c Heading s other x = absurd (other refl)
+stands-begun-at c (Passing left due) s other x = x.0
+stands-begun-at c (Keeping have need last) s other x = x.0
+stands-begun-at c Over s other x = absurd x
+
+pub stands-begun : (c : Conn) (s : List ℕ) → (c.stage ≡ Heading → ⊥) → StandsFor c s → BegunFor c s
+stands-begun c s other x = stands-begun-at c c.stage s other x
+
+pub stands-heading : (c : Conn) (s : List ℕ) → c.stage ≡ Heading → IsHeading c s → StandsFor c s
+stands-heading c s e x = subst (λ (g : Stage). StandsAt c g s) (sym e) x
+
+pub heading-stands : (c : Conn) (s : List ℕ) → c.stage ≡ Heading → StandsFor c s → IsHeading c s
+heading-stands c s e x = subst (λ (g : Stage). StandsAt c g s) e x
+
+-- the place in a piece, seen from its start
+pub step-shift : (s piece : List ℕ) (c : Conn) (used more : ℕ) (a : Option Ask) → used ≤ length piece
+    → IsStep (s ++ take used piece) (drop used piece) c more a → IsStep s piece c (used + more) a
+step-shift s piece c used more None l x = (
+  omega (arith, x.0, length-drop used piece),
+  subst (λ (t : List ℕ). StandsFor c t)
+    (append_assoc s (take used piece) (drop used piece) ∙ ap (λ (t : List ℕ). s ++ t) (take-append-drop used piece)) x.1,
+)
+step-shift s piece c used more (Some a) l x = (
+  omega (arith, x.0, length-drop used piece),
+  (
+    x.1.0,
+    subst (λ (t : List ℕ). IsFirst t a x.1.0)
+      (append_assoc s (take used piece) (take more (drop used piece)) ∙ ap (λ (t : List ℕ). s ++ t) (sym (take-add used more piece))) x.1.1,
+    x.1.2,
+    x.1.3,
+    x.1.4,
+  ),
+)
+
+-- the head of a connection that waits for more of it
+pub heading-length : (c : Conn) (s : List ℕ) → length c.head ≡ 8192 → c.filled < 8192 → s ≡ take c.filled c.head → length s ≡ c.filled
+heading-length c s room small e = omega (arith, ap length e, length-take c.filled c.head)
+
+nothing-looked : judged [] ≡ []
+unfolding line_after from_request_line after_lines
+nothing-looked = refl
+
+-- nothing is awaited as the first byte of a head
+pub nothing-more : ¬ (IsClosed [])
+unfolding line_after from_request_line after_lines
+nothing-more (inl l) = absurd (omega arith)
+nothing-more (inr e) = absurd (cc e)
+
+no-head : (h : RequestHead) (rest : List ℕ) → ¬ (ReadsRequest [] h rest)
+no-head h rest reads =
+    let e : [] ≡ print_blank h.blank ++ (h.method ++ 32 ∷ (h.target ++ 32 ∷ (print_version h.minor
+        ++ (print_end h.line_end ++ (print_section h.fields h.last ++ rest))))) = reads.1 ∙ print_request-append h rest in
+    absurd (omega (arith, ap length e, length-append (print_blank h.blank) (h.method ++ 32 ∷ (h.target ++ 32 ∷ (print_version h.minor
+        ++ (print_end h.line_end ++ (print_section h.fields h.last ++ rest))))),
+    length-append h.method (32 ∷ (h.target ++ 32 ∷ (print_version h.minor
+        ++ (print_end h.line_end ++ (print_section h.fields h.last ++ rest)))))))
+
+pub nothing-open : IsOpen []
+nothing-open = record {
+  none = λ h rest. subst (λ (t : List ℕ). ¬ (ReadsRequest t h rest)) (sym nothing-looked) (no-head h rest);
+  may = subst MayBecomeRequest (sym nothing-looked) (inl shortest-reads-first);
+}

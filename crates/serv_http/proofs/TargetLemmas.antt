@@ -4,7 +4,8 @@ use Rattle.std.proofs.lemmas.List.{take_at}
 use Rattle.std.proofs.lemmas.List.Elements.{All-nil, All-cons, All-take}
 use Rattle.std.proofs.lemmas.Str.{IsUtf8-from_ascii}
 use Rattle.std.proofs.lemmas.Str.Ascii.{IsAscii-cons, IsAscii-nil}
-use Rattle.httparse.specs.Grammar.{is_uri_byte, AllPass, IsToken, LineEnd, lf, print_blank, RequestHead, IsRequestHead, ReadsRequest, NeverHasRequest, EndsInTarget}
+use Rattle.httparse.proofs.OpenLemmas.{letter_is_token}
+use Rattle.httparse.specs.Grammar.{is_token_byte, is_uri_byte, AllPass, IsToken, LineEnd, lf, print_blank, RequestHead, IsRequestHead, ReadsRequest, NeverHasRequest, EndsInTarget}
 use Rattle.httparse.proofs.GrammarLemmas.{print_request-append}
 
 -- two ways to cut one text
@@ -75,3 +76,12 @@ target-grows s m never ended (blank, method, target, token, all, e) =
           never (h.0 ++ shortest_end) (shortest blank method) []
           (subst (λ (y : List ℕ). ReadsRequest y (shortest blank method) []) whole (shortest-reads blank method token))
     ]
+
+-- some bytes are a head
+pub shortest-reads-first : (more : List ℕ) × (h : RequestHead) × ReadsRequest ([] ++ more) h []
+shortest-reads-first = (
+  (print_blank [] ++ (65 ∷ []) ++ 32 ∷ []) ++ shortest_end,
+  shortest [] (65 ∷ []),
+  shortest-reads [] (65 ∷ [])
+    (omega arith, All-cons (λ b. is_token_byte b ≡ true) 65 [] letter_is_token (All-nil (λ b. is_token_byte b ≡ true))),
+)

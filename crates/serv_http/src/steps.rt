@@ -29,7 +29,8 @@ impl Conn {
 
     /// Passes over a body, of which so many bytes are left.
     fn pass(&mut self, left: usize, due: &Due, piece: &[u8]) -> (usize, Option<Ask>)
-        ensures { (s : List ℕ) → conns.IsPassing left due.now s → conns.IsStep s piece.now self.new result.0 result.1 }
+        ensures within { result.0 ≤ length piece.now }
+        ensures step { (s : List ℕ) → conns.IsPassing left due.now s → conns.IsStep s piece.now self.new result.0 result.1 }
     {
         if piece.len() < left {
             self.stage = Stage::Passing(left - piece.len(), *due);
@@ -50,6 +51,7 @@ impl Conn {
     ) -> Result<(usize, Option<Ask>), OutOfMemory>
         requires there { have ≤ need }
         requires room { need ≤ 2048 }
+        ensures within { IfOk result (λ r. r.0 ≤ length piece.now) }
         ensures ok { IfOk result (λ r. (s : List ℕ) → conns.IsKeeping self.old.body have need last s
             → conns.IsStep s piece.now self.new r.0 r.1) }
         ensures err { OnErr result ((s : List ℕ) → conns.IsKeeping self.old.body have need last s
@@ -62,13 +64,18 @@ impl Conn {
             return Ok((piece.len(), None));
         }
         self.body.put(have, &piece[..wanted]);
-        let body = body_of(alloc, self.body.front(need))?;
-        self.finish(last);
-        Ok((wanted, Some(Ask::Post(body, last))))
+        match body_of(alloc, self.body.front(need)) {
+            Ok(body) => {
+                self.finish(last);
+                Ok((wanted, Some(Ask::Post(body, last))))
+            }
+            Err(error) => Err(error),
+        }
     }
 
     /// Goes on with a body.
     fn read_body(&mut self, alloc: Global, piece: &[u8]) -> Result<(usize, Option<Ask>), OutOfMemory>
+        ensures within { IfOk result (λ r. r.0 ≤ length piece.now) }
         ensures ok { IfOk result (λ r. (s : List ℕ) → conns.BegunFor self.old s
             → conns.IsStep s piece.now self.new r.0 r.1) }
         ensures err { OnErr result ((s : List ℕ) → conns.BegunFor self.old s → ¬ (IsAwaited (s ++ piece.now))) }
@@ -86,6 +93,7 @@ impl Conn {
         ensures head { (s : List ℕ) → s ≡ take self.old.filled self.old.head
             → take (self.old.filled + result) self.new.head ≡ s ++ take result piece.now }
         ensures filled { self.new.filled ≡ self.old.filled }
+        ensures stage { self.new.stage ≡ self.old.stage }
     {
         let count = piece.len().min(HEAD_LIMIT - self.filled);
         self.head.put(self.filled, &piece[..count]);
@@ -125,6 +133,20 @@ impl Conn {
         HeadStep::Asked(used, Ask::Fault(status, true, None))
     }
 
+    /// Counts bytes of a head that are there, as long as it may have more.
+    fn wait(&mut self, count: usize) -> HeadStep
+        requires { self.old.filled + count ≤ 8192 }
+        ensures value { result ≡ HeadStep.Waits }
+        ensures filled { self.old.filled + count < 8192 → self.new.filled ≡ self.old.filled + count }
+        ensures head { self.new.head ≡ self.old.head }
+        ensures stage { self.new.stage ≡ self.old.stage }
+    {
+        if self.filled + count < HEAD_LIMIT {
+            self.filled += count;
+        }
+        HeadStep::Waits
+    }
+
     /// Goes on with a head.
     fn read_head(&mut self, piece: &[u8]) -> HeadStep
         ensures { (s : List ℕ) → conns.IsHeading self.old s → self.old.stage ≡ Stage.Heading
@@ -134,35 +156,47 @@ impl Conn {
         match judge(&self.router, self.head.front(self.filled + count)) {
             Found::Refused => self.fault(count, 400),
             Found::TooLong => self.fault(count, 431),
-            Found::Waits => {
-                if self.filled + count < HEAD_LIMIT {
-                    self.filled += count;
-                }
-                HeadStep::Waits
-            }
+            Found::Waits => self.wait(count),
             Found::Whole(len, plan) => self.begin(len.saturating_sub(self.filled), plan),
+        }
+    }
+
+    /// Goes on with a body after so many bytes of a piece, which completed its head.
+    fn read_rest(
+        &mut self,
+        alloc: Global,
+        used: usize,
+        piece: &[u8],
+    ) -> Result<(usize, Option<Ask>), OutOfMemory>
+        ensures within { IfOk result (λ r. r.0 ≤ length piece.now) }
+        ensures ok { IfOk result (λ r. (s : List ℕ) → used ≤ length piece.now → conns.BegunFor self.old (s ++ take used piece.now)
+            → conns.IsStep s piece.now self.new r.0 r.1) }
+        ensures err { OnErr result ((s : List ℕ) → used ≤ length piece.now → conns.BegunFor self.old (s ++ take used piece.now)
+            → ¬ (IsAwaited (s ++ piece.now))) }
+    {
+        if used > piece.len() {
+            return Ok((0, None));
+        }
+        match self.read_body(alloc, &piece[used..]) {
+            Ok((more, ask)) => Ok((used + more, ask)),
+            Err(error) => Err(error),
         }
     }
 
     /// Takes as many bytes of a piece as one request needs.
     pub(crate) fn step(&mut self, alloc: Global, piece: &[u8]) -> Result<(usize, Option<Ask>), OutOfMemory>
+        ensures within { IfOk result (λ r. r.0 ≤ length piece.now) }
         ensures ok { IfOk result (λ r. (s : List ℕ) → conns.StandsFor self.old s
             → conns.IsStep s piece.now self.new r.0 r.1) }
         ensures err { OnErr result ((s : List ℕ) → conns.StandsFor self.old s → ¬ (IsAwaited (s ++ piece.now))) }
     {
-        let Stage::Heading = self.stage else {
-            return self.read_body(alloc, piece);
-        };
-        match self.read_head(piece) {
-            HeadStep::Asked(used, ask) => Ok((used, Some(ask))),
-            HeadStep::Waits => Ok((piece.len(), None)),
-            HeadStep::Begun(used) => {
-                if used > piece.len() {
-                    return Ok((0, None));
-                }
-                let (more, ask) = self.read_body(alloc, &piece[used..])?;
-                Ok((used + more, ask))
-            }
+        match self.stage {
+            Stage::Heading => match self.read_head(piece) {
+                HeadStep::Asked(used, ask) => Ok((used.min(piece.len()), Some(ask))),
+                HeadStep::Waits => Ok((piece.len(), None)),
+                HeadStep::Begun(used) => self.read_rest(alloc, used, piece),
+            },
+            _ => self.read_body(alloc, piece),
         }
     }
 }
