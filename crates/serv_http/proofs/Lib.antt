@@ -12,3 +12,4 @@ pub mod PathLemmas
 pub mod FieldLemmas
 pub mod JudgeLemmas
 pub mod StepLemmas
+pub mod FeedLemmas

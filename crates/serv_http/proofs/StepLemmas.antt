@@ -1,6 +1,6 @@
 -- What a step of a connection does with the bytes of a piece.
 use Rattle.std.proofs.Common.{◌≡◌, ℕ, ◌+◌, ◌-◌, ◌<◌, ◌≤◌, ◌⊎◌, inl, inr, Bool, true, false, List, [], ◌∷◌, ◌++◌, length, take, drop, refl, sym, ap, ◌∙◌, subst, arith, append_assoc, append-nil, length-append, length-take, length-drop, Option, Some, None}
-use Rattle.std.specs.Prelude.{min}
+use Rattle.std.specs.Prelude.{min, Result, Ok, Err, IfOk}
 use Rattle.std.proofs.lemmas.Bool.{cases_lt}
 use Rattle.std.proofs.lemmas.List.{take_at, take_all, drop_all, take-append-drop, take-append-le, take-take}
 use Rattle.std.proofs.Math.Seq.{take-add}
@@ -281,3 +281,64 @@ nothing-open = record {
   none = λ h rest. subst (λ (t : List ℕ). ¬ (ReadsRequest t h rest)) (sym nothing-looked) (no-head h rest);
   may = subst MayBecomeRequest (sym nothing-looked) (inl shortest-reads-first);
 }
+
+pub ok-map : {A E : Type 0} (r : Result A E) {P Q : A → Type 0} → ((a : A) → P a → Q a) → IfOk r P → IfOk r Q
+ok-map (Ok a) step h = step a h
+ok-map (Err e) step h = tt
+
+-- the room of the head, after what fits of a piece was added
+pub record IsFilled (s piece : List ℕ) (old new : Conn) (count : ℕ) (front : List ℕ) : Type 0 where
+  pub heading : IsHeading old s
+  pub size : length s ≡ old.filled
+  pub small : old.filled < 8192
+  pub added : count ≡ min (length piece) (8192 - old.filled)
+  pub front_is : front ≡ s ++ take count piece
+
+pub filled-refused : (s piece front : List ℕ) (old new d : Conn) (count : ℕ) (r : HeadStep) → IsFilled s piece old new count front
+    → IsRefused front → r ≡ Asked count (Fault 400 true None) → d.stage ≡ Over → d.filled ≡ 0 → IsHeadStep s piece d r
+filled-refused s piece front old new d count r x refused e over zero =
+    subst (λ (h : HeadStep). IsHeadStep s piece d h) (sym e)
+    (step-fault s piece d count 400 (omega (arith, x.added))
+    (inl (subst IsRefused x.front_is refused, refl, refl)) over zero)
+
+pub filled-long : (s piece front : List ℕ) (old new d : Conn) (count : ℕ) (r : HeadStep) → IsFilled s piece old new count front
+    → IsTooLong front → r ≡ Asked count (Fault 431 true None) → d.stage ≡ Over → d.filled ≡ 0 → IsHeadStep s piece d r
+filled-long s piece front old new d count r x long e over zero =
+    subst (λ (h : HeadStep). IsHeadStep s piece d h) (sym e)
+    (step-fault s piece d count 431 (omega (arith, x.added))
+    (inr (inl (subst (λ (t : List ℕ). IsTooLong t) x.front_is long, refl, refl))) over zero)
+
+pub filled-waits : (s piece front : List ℕ) (old new d : Conn) (count : ℕ) (r : HeadStep) → IsFilled s piece old new count front
+    → ¬ (IsClosed front) → IsOpen front → r ≡ Waits → d.stage ≡ Heading
+    → (old.filled + count < 8192 → d.filled ≡ old.filled + count) → front ≡ take (old.filled + count) d.head → IsHeadStep s piece d r
+filled-waits s piece front old new d count r x going may e stage filled text =
+    let open_front = subst (λ (t : List ℕ). ¬ (IsClosed t)) x.front_is going in
+    let all = all-added s piece old.filled count x.size x.small x.added open_front in
+    let whole : front ≡ s ++ piece = x.front_is ∙ ap (λ (t : List ℕ). s ++ t) all.1 in
+    subst (λ (h : HeadStep). IsHeadStep s piece d h) (sym e)
+    (stands-heading d (s ++ piece) stage (record {
+      text = sym whole ∙ text ∙ ap (λ (n : ℕ). take n d.head) (sym (filled all.0));
+      going = subst (λ (t : List ℕ). ¬ (IsClosed t)) whole going;
+      may = subst IsOpen whole may;
+    }))
+
+-- a piece that makes a head whole
+pub record IsHeadWhole (s piece : List ℕ) (used : ℕ) (plan : Plan) : Type 0 where
+  pub head : RequestHead
+  pub whole : IsWhole (s ++ take used piece) head
+  pub planned : IsPlan head plan
+  pub fits : used ≤ length piece
+
+pub filled-whole : (s piece front : List ℕ) (old new : Conn) (count len used : ℕ) (plan : Plan) → IsFilled s piece old new count front
+    → IsWholeHead front len plan → used ≡ len - old.filled → IsHeadWhole s piece used plan
+filled-whole s piece front old new count len used plan x w e =
+    let here : HasHead (s ++ take count piece) w.head = subst (λ (t : List ℕ). HasHead t w.head) x.front_is w.here in
+    let h = head-whole s piece count len w.head x.heading.going x.heading.may (omega (arith, x.size, x.small, x.added)) here w.size
+        (omega (arith, x.added)) in
+    let same : len - length s ≡ used = omega (arith, x.size, e) in
+    record {
+      head = w.head;
+      whole = subst (λ (n : ℕ). IsWhole (s ++ take n piece) w.head) same h.1;
+      planned = w.planned;
+      fits = omega (arith, h.0, same);
+    }

@@ -14,6 +14,7 @@ mod queries;
 mod room;
 mod route;
 mod router;
+mod serving;
 mod stage;
 mod steps;
 mod target;
