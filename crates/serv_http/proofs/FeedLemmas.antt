@@ -1,7 +1,7 @@
 -- A piece taken step by step.
-use Rattle.std.proofs.Common.{◌≡◌, ℕ, zero, suc, ◌+◌, ◌-◌, ◌<◌, ◌≤◌, ◌⊎◌, inl, inr, Bool, true, false, List, [], ◌∷◌, ◌++◌, length, take, drop, refl, sym, ap, ◌∙◌, subst, arith, append_assoc, append-nil, length-append, Option, Some, None}
-use Rattle.std.proofs.lemmas.Bool.{cases_lt, cases_Bool, both_ways}
-use Rattle.std.proofs.lemmas.List.{take_all, take-append-drop, drop-drop, length_push}
+use Rattle.std.proofs.Common.{◌≡◌, ℕ, zero, suc, ◌+◌, ◌-◌, ◌<◌, ◌≤◌, ◌⊎◌, inl, inr, Bool, true, false, List, [], ◌∷◌, ◌++◌, length, take, drop, cond, not, refl, sym, ap, ◌∙◌, subst, arith, append_assoc, append-nil, length-append, length-take, length-drop, Option, Some, None}
+use Rattle.std.proofs.lemmas.Bool.{cond-true}
+use Rattle.std.proofs.lemmas.List.{take_all, take_rest, take-append-drop}
 use Rattle.std.proofs.Math.Seq.{take-add}
 use Rattle.serv_http.specs.declared.ask.Ask.{Ask}
 use Rattle.serv_http.specs.declared.stage.Stage.{Stage}
@@ -125,3 +125,19 @@ so-far-push piece at count used asks a c d s x step =
 pub fed-quiet : (s : List ℕ) (asks : List Ask) (c : Conn) → IsFed s asks c → IsAwaited s → asks ≡ []
 fed-quiet s [] c x awaited = refl
 fed-quiet s (a ∷ asks) c x awaited = absurd (first-not-awaited s a x.1.0 x.1.1 awaited)
+
+-- the slice of a piece from a place on
+pub step-at : (s piece : List ℕ) (at used : ℕ) (c : Conn) (o p : Option Ask) → o ≡ p
+    → IsStep s (take (length piece - at) (drop at piece)) c used o → IsStep s (drop at piece) c used p
+step-at s piece at used c o p e x =
+    subst (λ (q : Option Ask). IsStep s (drop at piece) c used q) e
+    (subst (λ (t : List ℕ). IsStep s t c used o) (take_rest piece at) x)
+
+pub awaited-at : (s piece : List ℕ) (at : ℕ) → ¬ (IsAwaited (s ++ take (length piece - at) (drop at piece))) → ¬ (IsAwaited (s ++ drop at piece))
+awaited-at s piece at x = subst (λ (t : List ℕ). ¬ (IsAwaited (s ++ t))) (take_rest piece at) x
+
+pub within-at : (piece : List ℕ) (at used : ℕ) → at ≤ length piece → used ≤ length (take (length piece - at) (drop at piece)) → at + used ≤ length piece
+within-at piece at used l u = omega (arith, length-take (length piece - at) (drop at piece), length-drop at piece)
+
+pub pushed-ok : (b e : Bool) (new more old : List Ask) → new ≡ cond b more old → b ≡ not e → e ≡ false → new ≡ more
+pushed-ok b e new more old x y z = x ∙ cond-true b more old (y ∙ ap not z)

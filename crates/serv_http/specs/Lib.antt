@@ -4,6 +4,7 @@ pub mod Routes
 pub mod Plans
 pub mod Streams
 pub mod Words
+pub mod Responses
 pub mod Conns
 pub mod Stages
 pub mod Judging

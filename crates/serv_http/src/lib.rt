@@ -9,8 +9,10 @@ mod feeding;
 mod found;
 mod head_step;
 mod judging;
+mod laws;
 mod plan;
 mod queries;
+mod response;
 mod room;
 mod route;
 mod router;
@@ -22,7 +24,12 @@ mod window;
 
 pub use ask::{Allow, Ask, Body, Due, Plan};
 pub use conn::Conn;
+pub use laws::{any_cutting, first_of, one_list, within_limits};
 pub use plan::BODY_LIMIT;
+pub use response::respond;
 pub use route::{ContentLength, Route};
 pub use stage::Stage;
 pub use window::{HEAD_LIMIT, LINE_LIMIT};
+
+#[cfg(test)]
+mod tests;
