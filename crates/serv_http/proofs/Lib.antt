@@ -13,3 +13,4 @@ pub mod FieldLemmas
 pub mod JudgeLemmas
 pub mod StepLemmas
 pub mod FeedLemmas
+pub mod PushLemmas

@@ -1,6 +1,7 @@
 //! The bytes of a response.
 
 ghost use Rattle.std.specs.Prelude.{◌≡◌, IfOk, OnOk, ◌++◌, ◌<◌, is_some, false, ◌==◌, []};
+ghost use Rattle.http.specs.StatusCode.{IsStatusCode};
 ghost use Rattle.serv_http.specs.Responses as responses;
 
 use crate::ask::Allow;
@@ -17,6 +18,7 @@ fn push(out: &mut Vec<u8>, bytes: &[u8]) -> Result<(), OutOfMemory>
 
 /// The phrase of a status.
 fn phrase_of(status: u16) -> &'static str
+    requires { IsStatusCode status }
     ensures { result.now ≡ responses.phrase_of status }
 {
     let Ok(code) = StatusCode::from_u16(status) else {
@@ -30,7 +32,7 @@ fn phrase_of(status: u16) -> &'static str
 
 /// Appends the status line.
 fn push_status(out: &mut Vec<u8>, status: u16) -> Result<(), OutOfMemory>
-    requires { status < 1000 }
+    requires { IsStatusCode status }
     ensures { OnOk result (out.new.items ≡ out.old.items ++ responses.status_line status) }
 {
     let digits = [
@@ -42,7 +44,8 @@ fn push_status(out: &mut Vec<u8>, status: u16) -> Result<(), OutOfMemory>
     push(out, &digits)?;
     push(out, b" ")?;
     push(out, phrase_of(status).as_bytes())?;
-    push(out, b"\r\n")
+    push(out, b"\r\n")?;
+    Ok(())
 }
 
 /// Appends the line that names the method of a route.
@@ -63,6 +66,13 @@ fn push_close(out: &mut Vec<u8>, ends: bool) -> Result<(), OutOfMemory>
     if ends { push(out, b"Connection: close\r\n") } else { push(out, b"") }
 }
 
+/// Appends the line of the body's type, where there is a body.
+fn push_type(out: &mut Vec<u8>, body: &[u8]) -> Result<(), OutOfMemory>
+    ensures { OnOk result (out.new.items ≡ out.old.items ++ responses.type_line body.now) }
+{
+    if body.is_empty() { push(out, b"") } else { push(out, b"Content-Type: application/json\r\n") }
+}
+
 /// Appends the lines of the body's length and type, the empty line, and the body.
 fn push_body(alloc: Global, out: &mut Vec<u8>, body: &[u8]) -> Result<(), OutOfMemory>
     ensures { OnOk result (out.new.items ≡ out.old.items ++ responses.body_lines body.now) }
@@ -71,11 +81,10 @@ fn push_body(alloc: Global, out: &mut Vec<u8>, body: &[u8]) -> Result<(), OutOfM
     push(out, b"Content-Length: ")?;
     push(out, size.as_bytes())?;
     push(out, b"\r\n")?;
-    if !body.is_empty() {
-        push(out, b"Content-Type: application/json\r\n")?;
-    }
+    push_type(out, body)?;
     push(out, b"\r\n")?;
-    push(out, body)
+    push(out, body)?;
+    Ok(())
 }
 
 /// A response: the status line, `Allow` with 405, `Connection: close` where the connection ends,
