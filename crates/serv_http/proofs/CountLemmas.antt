@@ -1,16 +1,16 @@
 -- How many lines a head of the grammar has.
-use Rattle.std.proofs.Common.{◌≡◌, ℕ, zero, suc, ◌+◌, ◌<◌, ◌≤◌, ◌⊎◌, inl, inr, Bool, true, false, eqb, cond, List, [], ◌∷◌, ◌++◌, length, take, drop, refl, sym, ap, ◌∙◌, subst, arith, append_assoc, append-nil, length-append, length-take, length-drop, flat_map, Option, Some, None}
+use Rattle.std.proofs.Common.{◌≡◌, ℕ, suc, ◌+◌, ◌<◌, ◌≤◌, inl, inr, Bool, true, false, eqb, List, [], ◌∷◌, ◌++◌, length, take, drop, refl, sym, ap, ◌∙◌, subst, arith, append_assoc, append-nil, length-take, length-drop, flat_map, Option, Some, None}
 use Rattle.std.specs.Prelude.{All, is_some}
-use Rattle.std.proofs.lemmas.Bool.{cases_Bool, both_ways, false≢true, eqb-true, ne_eqb, or_parts, cond-false}
+use Rattle.std.proofs.lemmas.Bool.{cases_Bool, both_ways, false≢true, eqb-true, ne_eqb, cond-false}
 use Rattle.std.proofs.lemmas.List.{take-append-drop, append_cancel_right}
 use Rattle.std.proofs.lemmas.List.Elements.{All-head, All-tail, All-weaker, All-take, All-drop}
 use Rattle.std.proofs.lemmas.Grind.{flat_map-append}
-use Rattle.httparse.specs.Grammar.{is_token_byte, is_uri_byte, is_value_byte, AllPass, LineEnd, crlf, lf, print_end, print_blank, print_version, Field, print_field, IsField, print_section, RequestHead, IsRequestHead, print_request, ReadsRequest}
+use Rattle.httparse.specs.Grammar.{is_token_byte, is_uri_byte, is_value_byte, AllPass, LineEnd, crlf, lf, print_end, print_blank, print_version, Field, print_field, IsField, print_section, RequestHead, IsRequestHead}
 use Rattle.httparse.specs.Pieces.{Stops, is_newline}
 use Rattle.httparse.specs.Spans.{RequestExceeds}
 use Rattle.httparse.proofs.PieceLemmas.{print_field-append, Stops_token, token_is_no_newline}
 use Rattle.httparse.proofs.GrammarLemmas.{print_request-append, cons-append}
-use Rattle.serv_http.specs.Heads.{from_request_line, after_lines, begun, line_after, line_too_many, line_limit}
+use Rattle.serv_http.specs.Heads.{from_request_line, after_lines, begun, line_too_many, line_limit}
 use Rattle.serv_http.proofs.LineLemmas.{line-append, line-from}
 
 -- the bytes of a head before its fields, and these after them
@@ -75,7 +75,7 @@ pub after-fields : (fs : List Field) (k : ℕ) (y : List ℕ) → All IsField fs
 after-fields [] k y all = ap (λ (n : ℕ). after_lines n y) (let e : 0 + k ≡ k = omega arith in e)
 after-fields (f ∷ fs) k y all =
     ap (λ (n : ℕ). after_lines n ((print_field f ++ flat_map print_field fs) ++ y))
-        (let e : suc (length fs) + k ≡ suc (length fs + k) = omega arith in e)
+    (let e : suc (length fs) + k ≡ suc (length fs + k) = omega arith in e)
     ∙ ap (after_lines (suc (length fs + k))) (append_assoc (print_field f) (flat_map print_field fs) y)
     ∙ after-field (length fs + k) f (flat_map print_field fs ++ y) (All-head IsField f fs all)
     ∙ after-fields fs k y (All-tail IsField f fs all)
@@ -117,9 +117,9 @@ pub after-some-fields : (n : ℕ) (fs : List Field) (y : List ℕ) → All IsFie
 after-some-fields n fs y all l =
     let size : length (take n fs) + 0 ≡ n = omega (arith, length-take n fs) in
     let cut : flat_map print_field fs ++ y ≡ flat_map print_field (take n fs) ++ (flat_map print_field (drop n fs) ++ y) =
-        ap (λ (x : List Field). flat_map print_field x ++ y) (sym (take-append-drop n fs))
-        ∙ ap (λ (x : List ℕ). x ++ y) (flat_map-append print_field (take n fs) (drop n fs))
-        ∙ append_assoc (flat_map print_field (take n fs)) (flat_map print_field (drop n fs)) y in
+    ap (λ (x : List Field). flat_map print_field x ++ y) (sym (take-append-drop n fs))
+    ∙ ap (λ (x : List ℕ). x ++ y) (flat_map-append print_field (take n fs) (drop n fs))
+    ∙ append_assoc (flat_map print_field (take n fs)) (flat_map print_field (drop n fs)) y in
     ap (after_lines n) cut
     ∙ ap (λ (k : ℕ). after_lines k (flat_map print_field (take n fs) ++ (flat_map print_field (drop n fs) ++ y))) (sym size)
     ∙ after-fields (take n fs) 0 (flat_map print_field (drop n fs) ++ y) (All-take IsField n fs all)
@@ -137,7 +137,7 @@ begun-fields [] y some all = absurd (omega arith)
 begun-fields (f ∷ fs) y some all =
     let is = All-head IsField f fs all in
     let e : (print_field f ++ flat_map print_field fs) ++ y ≡ f.name ++ 58 ∷ (f.raw ++ (print_end f.end ++ (flat_map print_field fs ++ y))) =
-        append_assoc (print_field f) (flat_map print_field fs) y ∙ print_field-append f (flat_map print_field fs ++ y) in
+    append_assoc (print_field f) (flat_map print_field fs) y ∙ print_field-append f (flat_map print_field fs ++ y) in
     subst (λ (x : List ℕ). begun (Some x) ≡ Some x) (sym e) (begun-token f.name _ is.name.0 is.name.1)
 
 -- a head of more than 64 header lines has one too many
@@ -145,17 +145,21 @@ many-of-head : (h : RequestHead) (y : List ℕ) → IsRequestHead h → line_lim
     → is_some (line_too_many (with_front h (flat_map print_field h.fields ++ y))) ≡ true
 many-of-head h y is many =
     let lines = after-front line_limit h (flat_map print_field h.fields ++ y) is
-        ∙ after-some-fields line_limit h.fields y is.fields (omega arith) in
+    ∙ after-some-fields line_limit h.fields y is.fields (omega arith) in
     let first = begun-fields (drop line_limit h.fields) y (omega (arith, length-drop line_limit h.fields))
-        (All-drop IsField line_limit h.fields is.fields) in
+    (All-drop IsField line_limit h.fields is.fields) in
     ap is_some (line-from (line_limit + 1) (with_front h (flat_map print_field h.fields ++ y)) _ lines first)
 
 -- the bytes before the last line feed of a head
 last-feed : (fs : List Field) (last : LineEnd) → (v : List ℕ) × (print_section fs last ++ [] ≡ (flat_map print_field fs ++ v) ++ 10 ∷ [])
-last-feed fs crlf = (13 ∷ [],
-  append-nil (print_section fs crlf) ∙ sym (append_assoc (flat_map print_field fs) (13 ∷ []) (10 ∷ [])))
-last-feed fs lf = ([],
-  append-nil (print_section fs lf) ∙ ap (λ (x : List ℕ). x ++ 10 ∷ []) (sym (append-nil (flat_map print_field fs))))
+last-feed fs crlf = (
+  13 ∷ [],
+  append-nil (print_section fs crlf) ∙ sym (append_assoc (flat_map print_field fs) (13 ∷ []) (10 ∷ [])),
+)
+last-feed fs lf = (
+  [],
+  append-nil (print_section fs lf) ∙ ap (λ (x : List ℕ). x ++ 10 ∷ []) (sym (append-nil (flat_map print_field fs))),
+)
 
 -- where the parser counts too many lines, one too many has begun
 pub exceeds-many : (s : List ℕ) → RequestExceeds line_limit s → is_some (line_too_many s) ≡ true
@@ -163,11 +167,11 @@ exceeds-many s (front, rest, cut, h, reads, many) =
     let v = last-feed h.fields h.last in
     let text : List ℕ = with_front h (flat_map print_field h.fields ++ v.0) in
     let whole : front ++ 10 ∷ [] ≡ text ++ 10 ∷ [] =
-        reads.1 ∙ print_request-append h [] ∙ ap (with_front h) v.1
-        ∙ sym (with_front-append h (flat_map print_field h.fields ++ v.0) (10 ∷ [])) in
+    reads.1 ∙ print_request-append h [] ∙ ap (with_front h) v.1
+    ∙ sym (with_front-append h (flat_map print_field h.fields ++ v.0) (10 ∷ [])) in
     let same : front ≡ text = append_cancel_right front text (10 ∷ []) whole in
     let some : is_some (line_too_many front) ≡ true =
-        subst (λ (x : List ℕ). is_some (line_too_many x) ≡ true) (sym same) (many-of-head h v.0 reads.0 many) in
+    subst (λ (x : List ℕ). is_some (line_too_many x) ≡ true) (sym same) (many-of-head h v.0 reads.0 many) in
     subst (λ (x : List ℕ). is_some (line_too_many x) ≡ true) (sym cut) (by (line_too_many front) refl some)
   where
     by : (o : Option (List ℕ)) → line_too_many front ≡ o → is_some o ≡ true → is_some (line_too_many (front ++ rest)) ≡ true

@@ -1,10 +1,9 @@
 -- A piece taken step by step.
-use Rattle.std.proofs.Common.{◌≡◌, ℕ, zero, suc, ◌+◌, ◌-◌, ◌<◌, ◌≤◌, ◌⊎◌, inl, inr, Bool, true, false, List, [], ◌∷◌, ◌++◌, length, take, drop, cond, not, refl, sym, ap, ◌∙◌, subst, arith, append_assoc, append-nil, length-append, length-take, length-drop, Option, Some, None}
+use Rattle.std.proofs.Common.{◌≡◌, ℕ, zero, suc, ◌+◌, ◌-◌, ◌<◌, ◌≤◌, inl, inr, Bool, true, false, List, [], ◌∷◌, ◌++◌, length, take, drop, cond, not, refl, sym, ap, ◌∙◌, subst, arith, append_assoc, append-nil, length-take, length-drop, Option, Some, None}
 use Rattle.std.proofs.lemmas.Bool.{cond-true}
 use Rattle.std.proofs.lemmas.List.{take_all, take_rest, take-append-drop}
 use Rattle.std.proofs.Math.Seq.{take-add}
 use Rattle.serv_http.specs.declared.ask.Ask.{Ask}
-use Rattle.serv_http.specs.declared.stage.Stage.{Stage}
 use Rattle.serv_http.specs.declared.stage.Stage.TheVariants.{Heading}
 use Rattle.serv_http.specs.declared.conn.Conn.{Conn}
 use Rattle.serv_http.specs.Stages.{is_ended}
@@ -52,9 +51,9 @@ pub so-far-none : (piece : List ℕ) (at count used : ℕ) (asks : List Ask) (c 
 so-far-none piece at count used asks c d s x step = (
   Some (x.left ++ drop at piece),
   subst (λ (t : List ℕ). AsksTo t asks (Some (x.left ++ drop at piece))) (parted s piece at)
-    (subst (λ (l : List Ask). AsksTo ((s ++ take at piece) ++ drop at piece) l (Some (x.left ++ drop at piece))) (append-nil asks)
-    (asks-grow asks [] (s ++ take at piece) x.left (drop at piece) (Some (x.left ++ drop at piece)) x.asked
-    (stands-awaited d (x.left ++ drop at piece) step.1, refl))),
+      (subst (λ (l : List Ask). AsksTo ((s ++ take at piece) ++ drop at piece) l (Some (x.left ++ drop at piece))) (append-nil asks)
+      (asks-grow asks [] (s ++ take at piece) x.left (drop at piece) (Some (x.left ++ drop at piece)) x.asked
+      (stands-awaited d (x.left ++ drop at piece) step.1, refl))),
   step.1,
 )
 
@@ -79,11 +78,14 @@ pub so-far-over : (piece : List ℕ) (at count used : ℕ) (asks : List Ask) (a 
 so-far-over piece at count used asks a c d s x (l, (t, first, stage, filled, none)) over =
     let last = ends-from d a true stage over in
     let here : AsksTo ((s ++ take at piece) ++ take used (drop at piece)) (asks ++ a ∷ []) None =
-        asks-grow asks (a ∷ []) (s ++ take at piece) x.left (take used (drop at piece)) None x.asked (t, first, inl (last, refl, refl)) in
+    asks-grow asks (a ∷ []) (s ++ take at piece) x.left (take used (drop at piece)) None x.asked (t, first, inl (last, refl, refl)) in
     let whole : ((s ++ take at piece) ++ take used (drop at piece)) ++ drop used (drop at piece) ≡ s ++ piece =
-        parted (s ++ take at piece) (drop at piece) used ∙ parted s piece at in
-    (None, subst (λ (y : List ℕ). AsksTo y (asks ++ a ∷ []) None) whole
-      (asks-over (asks ++ a ∷ []) ((s ++ take at piece) ++ take used (drop at piece)) (drop used (drop at piece)) here), over)
+    parted (s ++ take at piece) (drop at piece) used ∙ parted s piece at in (
+      None,
+      subst (λ (y : List ℕ). AsksTo y (asks ++ a ∷ []) None) whole
+          (asks-over (asks ++ a ∷ []) ((s ++ take at piece) ++ take used (drop at piece)) (drop used (drop at piece)) here),
+      over,
+    )
 
 -- a request needs a byte
 some-used : (piece : List ℕ) (used : ℕ) (a : Ask) (c : Conn) (left t : List ℕ) → StandsFor c left → IsFirst (left ++ take used piece) a t → 0 < used

@@ -1,5 +1,5 @@
 -- The lines of a head, one after another, and the digits of a length.
-use Rattle.std.proofs.Common.{◌≡◌, ℕ, ◌+◌, ◌-◌, ◌*◌, ◌^◌, ◌<◌, ◌≤◌, Bool, true, false, ltb, leb, List, [], ◌∷◌, ◌++◌, length, map, take, get_or, refl, sym, ap, ◌∙◌, subst, arith, append-nil, add-one, cond}
+use Rattle.std.proofs.Common.{◌≡◌, ℕ, ◌+◌, ◌-◌, ◌*◌, ◌^◌, ◌<◌, ◌≤◌, Bool, true, false, ltb, leb, List, [], ◌∷◌, ◌++◌, length, map, take, get_or, refl, sym, ap, ◌∙◌, arith, append-nil, add-one, cond}
 use Rattle.std.specs.List.{list_any, list_all, filter}
 use Rattle.std.specs.Char.{is_ascii_digit, digit_value}
 use Rattle.std.specs.Str.Parse.{digits_value}
@@ -11,7 +11,6 @@ use Rattle.std.proofs.lemmas.Int.Digits.{digits_value_more}
 use Rattle.std.proofs.Math.Nat.{pow-succ'}
 use Rattle.httparse.specs.declared.spans.HeaderSpan.{HeaderSpan}
 use Rattle.httparse.specs.Spans.{header_bytes}
-use Rattle.serv_http.specs.declared.route.ContentLength.{ContentLength}
 use Rattle.serv_http.specs.declared.route.ContentLength.TheVariants.{Given, Bad}
 use Rattle.serv_http.specs.Fields.{Line, is_named, is_length, values_of, content_length, with_value}
 
@@ -28,7 +27,7 @@ line-passed test buf lines i d inside before e =
     ap (list_any test) (map_more (header_bytes buf) lines i d inside)
     ∙ list_any-append test (map (header_bytes buf) (take i lines)) (header_bytes buf (get_or lines i d) ∷ [])
     ∙ or_from (list_any test (map (header_bytes buf) (take i lines))) (list_any test (header_bytes buf (get_or lines i d) ∷ []))
-      before (or_from (test (header_bytes buf (get_or lines i d))) false e refl)
+    before (or_from (test (header_bytes buf (get_or lines i d))) false e refl)
 
 said-more : (values : List (List ℕ)) (v : List ℕ) → content_length (values ++ v ∷ []) ≡ with_value (content_length values) v
 said-more [] v = refl
@@ -43,20 +42,20 @@ values-more : (name : List ℕ) (before : List Line) (line : Line) → is_named 
     → values_of name (before ++ line ∷ []) ≡ values_of name before ++ line.1 ∷ []
 values-more name before line e =
     ap (map (λ (l : Line). l.1)) (filter-append (is_named name) before (line ∷ [])
-      ∙ ap (λ (x : List Line). filter (is_named name) before ++ x) (cond-true (is_named name line) (line ∷ []) [] e))
+    ∙ ap (λ (x : List Line). filter (is_named name) before ++ x) (cond-true (is_named name line) (line ∷ []) [] e))
     ∙ map-append (λ (l : Line). l.1) (filter (is_named name) before) (line ∷ [])
 
 values-same : (name : List ℕ) (before : List Line) (line : Line) → is_named name line ≡ false
     → values_of name (before ++ line ∷ []) ≡ values_of name before
 values-same name before line e =
     ap (map (λ (l : Line). l.1)) (filter-append (is_named name) before (line ∷ [])
-      ∙ ap (λ (x : List Line). filter (is_named name) before ++ x) (cond-false (is_named name line) (line ∷ []) [] e)
-      ∙ append-nil (filter (is_named name) before))
+    ∙ ap (λ (x : List Line). filter (is_named name) before ++ x) (cond-false (is_named name line) (line ∷ []) [] e)
+    ∙ append-nil (filter (is_named name) before))
 
 pub said-line : (buf name : List ℕ) (lines : List HeaderSpan) (i : ℕ) (d : HeaderSpan) → i < length lines
     → is_named name (header_bytes buf (get_or lines i d)) ≡ true
     → content_length (values_of name (map (header_bytes buf) (take (i + 1) lines)))
-        ≡ with_value (content_length (values_of name (map (header_bytes buf) (take i lines)))) (header_bytes buf (get_or lines i d)).1
+    ≡ with_value (content_length (values_of name (map (header_bytes buf) (take i lines)))) (header_bytes buf (get_or lines i d)).1
 said-line buf name lines i d inside e =
     let before : List Line = map (header_bytes buf) (take i lines) in
     let line : Line = header_bytes buf (get_or lines i d) in
@@ -66,7 +65,7 @@ said-line buf name lines i d inside e =
 pub said-other : (buf name : List ℕ) (lines : List HeaderSpan) (i : ℕ) (d : HeaderSpan) → i < length lines
     → is_named name (header_bytes buf (get_or lines i d)) ≡ false
     → content_length (values_of name (map (header_bytes buf) (take (i + 1) lines)))
-        ≡ content_length (values_of name (map (header_bytes buf) (take i lines)))
+    ≡ content_length (values_of name (map (header_bytes buf) (take i lines)))
 said-other buf name lines i d inside e =
     let before : List Line = map (header_bytes buf) (take i lines) in
     let line : Line = header_bytes buf (get_or lines i d) in

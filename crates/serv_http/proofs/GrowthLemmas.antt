@@ -1,6 +1,6 @@
 -- The bytes by which a head is judged, of a stream that grows.
-use Rattle.std.proofs.Common.{◌≡◌, ℕ, zero, suc, ◌+◌, ◌-◌, ◌<◌, ◌≤◌, ◌⊎◌, inl, inr, Bool, true, false, List, [], ◌∷◌, ◌++◌, length, take, drop, refl, sym, ap, ◌∙◌, subst, arith, append_assoc, append-nil, length-append, length-take, Option, Some, None}
-use Rattle.std.specs.Prelude.{is_some, min}
+use Rattle.std.proofs.Common.{◌≡◌, ℕ, ◌+◌, ◌-◌, ◌<◌, ◌⊎◌, inl, inr, true, List, [], ◌++◌, length, take, drop, refl, sym, ap, ◌∙◌, subst, arith, append_assoc, append-nil, length-append, Option, Some, None}
+use Rattle.std.specs.Prelude.{is_some}
 use Rattle.std.proofs.lemmas.Bool.{cases_lt, cases_Bool, both_ways}
 use Rattle.std.proofs.lemmas.List.{take_all, take-append-le, take_at, take-append-drop}
 use Rattle.std.proofs.Math.Seq.{take-append-add}
@@ -52,13 +52,13 @@ few-open n s m none = by (line_after n (s ++ m)) refl
           | inl l ↦ let q = line-cut n s m r e l in absurd (let x = q.2 in cc)
           | inr l ↦
               let sizes : length s + length m ≡ length p.0 + length r =
-                  sym (length-append s m) ∙ ap length p.1 ∙ length-append p.0 r in
+              sym (length-append s m) ∙ ap length p.1 ∙ length-append p.0 r in
               let at : length p.0 ≡ length s + (length p.0 - length s) = omega arith in
               let front : p.0 ≡ s ++ take (length p.0 - length s) m =
-                  sym (take_at p.0 r (length p.0) refl)
-                  ∙ ap (λ (x : List ℕ). take (length p.0) x) (sym p.1)
-                  ∙ ap (λ (x : ℕ). take x (s ++ m)) at
-                  ∙ take-append-add s m (length p.0 - length s) in
+              sym (take_at p.0 r (length p.0) refl)
+              ∙ ap (λ (x : List ℕ). take (length p.0) x) (sym p.1)
+              ∙ ap (λ (x : ℕ). take x (s ++ m)) at
+              ∙ take-append-add s m (length p.0 - length s) in
               (take (length p.0 - length s) m, upto-some n (s ++ m) r p.0 e p.1 ∙ front)
         ]
 
@@ -88,10 +88,11 @@ judged-few s = few-few (line_limit + 1) (take head_limit s)
 
 pub judged-part : (s : List ℕ) → (x : List ℕ) × (s ≡ judged s ++ x)
 judged-part s =
-    let f = front (line_limit + 1) (take head_limit s) in
-    (f.0 ++ drop head_limit s,
-     sym (take-append-drop head_limit s) ∙ ap (λ (x : List ℕ). x ++ drop head_limit s) f.1
-     ∙ append_assoc (judged s) f.0 (drop head_limit s))
+    let f = front (line_limit + 1) (take head_limit s) in (
+      f.0 ++ drop head_limit s,
+      sym (take-append-drop head_limit s) ∙ ap (λ (x : List ℕ). x ++ drop head_limit s) f.1
+          ∙ append_assoc (judged s) f.0 (drop head_limit s),
+    )
   where
     front : (n : ℕ) (s : List ℕ) → (x : List ℕ) × (s ≡ upto n s ++ x)
     front n s = by (line_after n s) refl
@@ -107,9 +108,9 @@ closed-or-not s =
     elim (cases_lt (length s) head_limit) [
       | inr l ↦ inl (inl l)
       | inl l ↦ elim (cases_Bool (is_some (line_too_many (take head_limit s)))) [
-          | inl t ↦ inl (inr t)
-          | inr f ↦ inr (λ h. elim h [ inl g ↦ omega arith | inr g ↦ both_ways _ f g ])
-        ]
+        | inl t ↦ inl (inr t)
+        | inr f ↦ inr (λ h. elim h [ inl g ↦ omega arith | inr g ↦ both_ways _ f g ])
+      ]
     ]
 
 taken : (s m : List ℕ) → length s < head_limit → take head_limit (s ++ m) ≡ s ++ take (head_limit - length s) m
@@ -128,7 +129,7 @@ judged-closed s m (inr t) =
           let here = take_all head_limit s (omega arith) in
           let more = taken s m l in
           let c = few-closed (line_limit + 1) s (take (head_limit - length s) m)
-              (subst (λ (x : List ℕ). is_some (line_too_many x) ≡ true) here t) in
+          (subst (λ (x : List ℕ). is_some (line_too_many x) ≡ true) here t) in
           (ap few_lines more ∙ c.0 ∙ ap few_lines (sym here), inr (ap (λ (x : List ℕ). is_some (line_too_many x)) more ∙ c.1))
     ]
 

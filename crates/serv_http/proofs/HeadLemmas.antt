@@ -1,5 +1,5 @@
 -- The answers on a head: one at most, and the same for a stream that grows.
-use Rattle.std.proofs.Common.{◌≡◌, ℕ, ◌+◌, ◌<◌, ◌≤◌, ◌⊎◌, inl, inr, List, [], ◌∷◌, ◌++◌, length, drop, refl, sym, ap, ◌∙◌, subst, arith, append_assoc, append-nil, length-append}
+use Rattle.std.proofs.Common.{◌≡◌, ℕ, ◌≤◌, inl, inr, List, [], ◌++◌, length, drop, refl, sym, ap, ◌∙◌, subst, arith, append_assoc, length-append}
 use Rattle.std.proofs.lemmas.List.{drop_at, drop-append-le}
 use Rattle.httparse.specs.Grammar.{RequestHead, print_request, ReadsRequest, HasNoRequest, MayBecomeRequest, EndsInTarget}
 use Rattle.httparse.proofs.GrammarLemmas.{request_unique, ReadsRequest-append}
@@ -28,28 +28,28 @@ grown s m not_closed =
 pub head-grows : (s m : List ℕ) (h : RequestHead) → HasHead s h → HasHead (s ++ m) h
 head-grows s m h x = elim (closed-or-not s) [
   | inl c ↦ record {
-      rest = x.rest;
-      reads = subst (λ (t : List ℕ). ReadsRequest t h x.rest) (sym (judged-closed s m c).0) x.reads;
-      lines = x.lines;
-    }
+    rest = x.rest;
+    reads = subst (λ (t : List ℕ). ReadsRequest t h x.rest) (sym (judged-closed s m c).0) x.reads;
+    lines = x.lines;
+  }
   | inr o ↦ let g = grown s m o in record {
-      rest = x.rest ++ g.0;
-      reads = subst (λ (t : List ℕ). ReadsRequest t h (x.rest ++ g.0)) g.1 (ReadsRequest-append (judged s) h x.rest g.0 x.reads);
-      lines = x.lines;
-    }
+    rest = x.rest ++ g.0;
+    reads = subst (λ (t : List ℕ). ReadsRequest t h (x.rest ++ g.0)) g.1 (ReadsRequest-append (judged s) h x.rest g.0 x.reads);
+    lines = x.lines;
+  }
 ]
 
 pub refused-grows : (s m : List ℕ) → IsRefused s → IsRefused (s ++ m)
 refused-grows s m x = elim (closed-or-not s) [
   | inl c ↦ let e = sym (judged-closed s m c).0 in record {
-      never = λ more. subst (λ (t : List ℕ). HasNoRequest (t ++ more)) e (x.never more);
-      ended = subst (λ (t : List ℕ). ¬ (EndsInTarget t)) e x.ended;
-    }
+    never = λ more. subst (λ (t : List ℕ). HasNoRequest (t ++ more)) e (x.never more);
+    ended = subst (λ (t : List ℕ). ¬ (EndsInTarget t)) e x.ended;
+  }
   | inr o ↦ let g = grown s m o in record {
-      never = λ more. subst (λ (t : List ℕ). HasNoRequest t)
-          (sym (append_assoc (judged s) g.0 more) ∙ ap (λ (t : List ℕ). t ++ more) g.1) (x.never (g.0 ++ more));
-      ended = subst (λ (t : List ℕ). ¬ (EndsInTarget t)) g.1 (target-grows (judged s) g.0 x.never x.ended);
-    }
+    never = λ more. subst (λ (t : List ℕ). HasNoRequest t)
+        (sym (append_assoc (judged s) g.0 more) ∙ ap (λ (t : List ℕ). t ++ more) g.1) (x.never (g.0 ++ more));
+    ended = subst (λ (t : List ℕ). ¬ (EndsInTarget t)) g.1 (target-grows (judged s) g.0 x.never x.ended);
+  }
 ]
 
 pub closed-grows : (s m : List ℕ) → IsClosed s → IsClosed (s ++ m)
@@ -66,9 +66,9 @@ pub head-first : (s : List ℕ) (h : RequestHead) → HasHead s h → s ≡ prin
 head-first s h x =
     let j = judged-part s in
     let e : s ≡ print_request h ++ (x.rest ++ j.0) =
-        j.1 ∙ ap (λ (t : List ℕ). t ++ j.0) x.reads.1 ∙ append_assoc (print_request h) x.rest j.0 in
+    j.1 ∙ ap (λ (t : List ℕ). t ++ j.0) x.reads.1 ∙ append_assoc (print_request h) x.rest j.0 in
     let d : after_head s h ≡ x.rest ++ j.0 =
-        ap (λ (t : List ℕ). drop (length (print_request h)) t) e ∙ drop_at (print_request h) (x.rest ++ j.0) (length (print_request h)) refl in
+    ap (λ (t : List ℕ). drop (length (print_request h)) t) e ∙ drop_at (print_request h) (x.rest ++ j.0) (length (print_request h)) refl in
     e ∙ ap (λ (t : List ℕ). print_request h ++ t) (sym d)
 
 pub head-length : (s : List ℕ) (h : RequestHead) → HasHead s h → length (print_request h) ≤ length s

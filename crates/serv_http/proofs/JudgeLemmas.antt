@@ -1,20 +1,18 @@
 -- From the clauses of the parser to what the bytes so far are, as a head.
-use Rattle.std.proofs.Common.{◌≡◌, ◌≢◌, ℕ, ◌+◌, ◌<◌, ◌≤◌, ◌↔◌, ◌⊎◌, inl, inr, Bool, true, false, List, [], ◌∷◌, ◌++◌, length, map, take, drop, refl, sym, ap, ◌∙◌, subst, arith, append-nil, length-take, Result, Ok, Err, Option, Some, None}
+use Rattle.std.proofs.Common.{◌≡◌, ◌≢◌, ℕ, ◌≤◌, ◌↔◌, inr, Bool, true, false, List, [], length, map, take, drop, refl, sym, ap, ◌∙◌, subst, arith, append-nil, length-take, None}
 use Rattle.std.specs.Prelude.{IsTrue, IsUtf8, is_some}
 use Rattle.std.proofs.lemmas.Bool.{false≢true}
 use Rattle.std.proofs.lemmas.List.{length-map}
 use Rattle.httparse.specs.declared.Error.{Error}
 use Rattle.httparse.specs.declared.Error.TheVariants as error
-use Rattle.httparse.specs.declared.Status.{Status}
 use Rattle.httparse.specs.declared.spans.HeaderSpan.{HeaderSpan}
 use Rattle.httparse.specs.declared.spans.RequestSpans.{RequestSpans}
-use Rattle.httparse.specs.Grammar.{Field, RequestHead, ReadsRequest, HasNoRequest, NeverHasRequest, MayBecomeRequest, EndsInTarget}
+use Rattle.httparse.specs.Grammar.{RequestHead, ReadsRequest, HasNoRequest, NeverHasRequest, MayBecomeRequest, EndsInTarget}
 use Rattle.httparse.specs.Spans.{header_bytes, name_and_value, IsRequestWithin, IsRequestAt, IsRequestOf, RequestExceeds}
 use Rattle.serv_http.specs.declared.ask.Plan.{Plan}
 use Rattle.serv_http.specs.declared.found.Found.{Found}
-use Rattle.serv_http.specs.declared.found.Found.TheVariants.{TooLong, Waits}
 use Rattle.serv_http.specs.Fields.{Line}
-use Rattle.serv_http.specs.Heads.{line_limit, line_too_many, judged, IsClosed, HasHead, IsRefused, IsOpen}
+use Rattle.serv_http.specs.Heads.{line_limit, line_too_many, judged, IsClosed, IsRefused, IsOpen}
 use Rattle.serv_http.specs.Judging.{IsWholeHead, IsFound, OpenAnswer}
 use Rattle.serv_http.specs.Plans.{IsPlan, IsPlanOf, PlanFits, method_at, target_at}
 use Rattle.serv_http.proofs.GrowthLemmas.{judged-few}
@@ -24,8 +22,14 @@ use Rattle.serv_http.proofs.CountLemmas.{exceeds-many}
 fields-fit : (s : List ℕ) (headers : List HeaderSpan) (spans : RequestSpans) (h : RequestHead)
     → IsRequestWithin s headers spans → IsRequestAt s headers spans h → length h.fields ≤ length headers
 fields-fit s headers spans h w x =
-    omega (arith, ap length x.fields, length-map (take spans.headers headers) (header_bytes s), length-map h.fields name_and_value,
-    length-take spans.headers headers, w.section.count_fits)
+    omega (
+      arith,
+      ap length x.fields,
+      length-map (take spans.headers headers) (header_bytes s),
+      length-map h.fields name_and_value,
+      length-take spans.headers headers,
+      w.section.count_fits,
+    )
 
 -- the target of a head that the parser found is text
 pub text-found : (s : List ℕ) (headers : List HeaderSpan) (spans : RequestSpans) → IsRequestOf s headers spans → IsUtf8 (target_at s spans)

@@ -1,6 +1,5 @@
 -- Lines of a stream that grows.
-use Rattle.std.proofs.Common.{◌≡◌, ℕ, zero, suc, ◌+◌, ◌<◌, ◌≤◌, ◌⊎◌, inl, inr, Bool, true, false, eqb, cond, List, [], ◌∷◌, ◌++◌, length, refl, sym, ap, ◌∙◌, subst, arith, append_assoc, length-append, Option, Some, None}
-use Rattle.std.specs.Prelude.{is_some, if◌then◌else◌}
+use Rattle.std.proofs.Common.{◌≡◌, ℕ, zero, suc, ◌<◌, ◌⊎◌, inl, inr, true, false, eqb, cond, List, [], ◌∷◌, ◌++◌, length, refl, sym, ap, ◌∙◌, subst, arith, append_assoc, length-append, Option, Some, None}
 use Rattle.httparse.specs.Pieces.{is_newline}
 use Rattle.serv_http.specs.Heads.{from_request_line, after_lines, begun, line_after}
 
@@ -10,7 +9,7 @@ after-append zero s m r e = let q : s ≡ r = cc in rw q refl
 after-append (suc n) [] m r e = absurd (cc)
 after-append (suc n) (b ∷ s) m r e =
     elim (eqb b 10) as (λ t. cond t (after_lines n s) (after_lines (suc n) s) ≡ Some r
-        → cond t (after_lines n (s ++ m)) (after_lines (suc n) (s ++ m)) ≡ Some (r ++ m)) [
+    → cond t (after_lines n (s ++ m)) (after_lines (suc n) (s ++ m)) ≡ Some (r ++ m)) [
       | true ↦ after-append n s m r
       | false ↦ after-append (suc n) s m r
     ] e
@@ -22,7 +21,7 @@ after-part zero s r e = ([], cc)
 after-part (suc n) [] r e = absurd (cc)
 after-part (suc n) (b ∷ s) r e =
     elim (eqb b 10) as (λ t. cond t (after_lines n s) (after_lines (suc n) s) ≡ Some r
-        → (f : List ℕ) × (b ∷ s ≡ f ++ r)) [
+    → (f : List ℕ) × (b ∷ s ≡ f ++ r)) [
       | true ↦ λ h. let p = after-part n s r h in (b ∷ p.0, ap (λ (x : List ℕ). b ∷ x) p.1)
       | false ↦ λ h. let p = after-part (suc n) s r h in (b ∷ p.0, ap (λ (x : List ℕ). b ∷ x) p.1)
     ] e
@@ -36,7 +35,7 @@ after-cut (suc n) [] m r e l =
     let p = after-part (suc n) m r e in absurd (omega (arith, ap length p.1, length-append p.0 r))
 after-cut (suc n) (b ∷ s) m r e l =
     elim (eqb b 10) as (λ t. cond t (after_lines n (s ++ m)) (after_lines (suc n) (s ++ m)) ≡ Some r
-        → (q : List ℕ) × (r ≡ q ++ m) × (cond t (after_lines n s) (after_lines (suc n) s) ≡ Some q)) [
+    → (q : List ℕ) × (r ≡ q ++ m) × (cond t (after_lines n s) (after_lines (suc n) s) ≡ Some q)) [
       | true ↦ λ h. after-cut n s m r h l
       | false ↦ λ h. after-cut (suc n) s m r h l
     ] e
@@ -47,8 +46,8 @@ unfolding from_request_line
 from-append [] m = inl (refl, refl)
 from-append (b ∷ s) m =
     elim (is_newline b) as (λ t. ((cond t (from_request_line s) (b ∷ s) ≡ [])
-            × (cond t (from_request_line (s ++ m)) (b ∷ (s ++ m)) ≡ from_request_line m))
-        ⊎ (cond t (from_request_line (s ++ m)) (b ∷ (s ++ m)) ≡ cond t (from_request_line s) (b ∷ s) ++ m)) [
+    × (cond t (from_request_line (s ++ m)) (b ∷ (s ++ m)) ≡ from_request_line m))
+    ⊎ (cond t (from_request_line (s ++ m)) (b ∷ (s ++ m)) ≡ cond t (from_request_line s) (b ∷ s) ++ m)) [
       | true ↦ from-append s m
       | false ↦ inr refl
     ]
@@ -76,7 +75,7 @@ begun-more : (q m : List ℕ) → begun (Some q) ≡ Some q → begun (Some (q +
 begun-more [] m e = absurd (cc)
 begun-more (b ∷ t) m e =
     elim (is_newline b) as (λ v. cond v None (Some (b ∷ t)) ≡ Some (b ∷ t)
-        → cond v None (Some (b ∷ (t ++ m))) ≡ Some (b ∷ (t ++ m))) [
+    → cond v None (Some (b ∷ (t ++ m))) ≡ Some (b ∷ (t ++ m))) [
       | true ↦ λ h. absurd (cc)
       | false ↦ λ h. refl
     ] e
@@ -85,7 +84,7 @@ begun-front : (q m : List ℕ) → 0 < length q → begun (Some (q ++ m)) ≡ So
 begun-front [] m l e = absurd (omega arith)
 begun-front (b ∷ t) m l e =
     elim (is_newline b) as (λ v. cond v None (Some (b ∷ (t ++ m))) ≡ Some (b ∷ (t ++ m))
-        → cond v None (Some (b ∷ t)) ≡ Some (b ∷ t)) [
+    → cond v None (Some (b ∷ t)) ≡ Some (b ∷ t)) [
       | true ↦ λ h. absurd (cc)
       | false ↦ λ h. refl
     ] e
@@ -136,7 +135,7 @@ line-cut n s m r e l =
     elim (from-append s m) [
       | inl h ↦
           let q : after_lines n (from_request_line m) ≡ Some r =
-              subst (λ (x : List ℕ). after_lines n x ≡ Some r) h.1 p.0 in
+          subst (λ (x : List ℕ). after_lines n x ≡ Some r) h.1 p.0 in
           let a = from-part m in
           let f = after-part n (from_request_line m) r q in
           absurd (omega (arith, ap length a.1, length-append a.0 (from_request_line m), ap length f.1, length-append f.0 r))
@@ -144,6 +143,6 @@ line-cut n s m r e l =
           let c = after-cut n (from_request_line s) m r (subst (λ (x : List ℕ). after_lines n x ≡ Some r) h p.0) l in
           let some : 0 < length c.0 = omega (arith, ap length c.1, length-append c.0 m) in
           let b : begun (Some (c.0 ++ m)) ≡ Some (c.0 ++ m) =
-              subst (λ (x : List ℕ). begun (Some x) ≡ Some x) c.1 p.2 in
+          subst (λ (x : List ℕ). begun (Some x) ≡ Some x) c.1 p.2 in
           (c.0, c.1, line-from n s c.0 c.2 (begun-front c.0 m some b))
     ]

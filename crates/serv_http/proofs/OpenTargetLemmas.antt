@@ -1,11 +1,11 @@
 -- What the scan for a target found, and whether the stream ends inside one.
-use Rattle.std.proofs.Common.{◌≡◌, ◌≢◌, ℕ, zero, suc, ◌+◌, ◌-◌, ◌<◌, ◌≤◌, ◌↔◌, ◌⊎◌, inl, inr, Bool, true, false, eqb, not, ◌&&◌, List, [], ◌∷◌, ◌++◌, length, take, drop, get_or, refl, sym, ap, ◌∙◌, subst, arith, append_assoc, length-take, get_or-take}
-use Rattle.std.specs.Prelude.{All, IsTrue}
+use Rattle.std.proofs.Common.{◌≡◌, ◌≢◌, ℕ, ◌+◌, ◌<◌, ◌≤◌, ◌↔◌, inl, inr, Bool, true, false, eqb, not, ◌&&◌, List, [], ◌∷◌, ◌++◌, length, take, drop, get_or, refl, sym, ap, ◌∙◌, subst, arith, append_assoc, length-take, get_or-take}
+use Rattle.std.specs.Prelude.{IsTrue}
 use Rattle.std.specs.List.{list_all}
 use Rattle.std.proofs.lemmas.Bool.{cases_Bool, both_ways, eqb-true, ne_eqb, ltb-true, lt-ltb, and_parts, and_from}
 use Rattle.std.proofs.lemmas.List.{drop_more, take-append-drop}
 use Rattle.std.proofs.lemmas.List.Elements.{All-nil, All-cons, All-head, All-tail, All-weaker, All-from_get_or}
-use Rattle.httparse.specs.Grammar.{is_token_byte, is_token, is_uri_byte, AllPass, IsToken, LineEnd, print_end, print_blank, EndsInTarget}
+use Rattle.httparse.specs.Grammar.{is_token_byte, is_token, is_uri_byte, AllPass, LineEnd, print_end, print_blank, EndsInTarget}
 use Rattle.httparse.specs.Pieces.{Begins, Newline, Stops, is_newline}
 use Rattle.httparse.proofs.RunLemmas.{run_unique, run_unstopped}
 use Rattle.httparse.proofs.PieceLemmas.{print_end_unique, newline_not_stopped, Stops_token}

@@ -1,7 +1,7 @@
 -- Texts that stand in a path, and the questions that it spells.
-use Rattle.std.proofs.Common.{◌≡◌, ◌≢◌, ℕ, ◌+◌, ◌-◌, ◌^◌, ◌<◌, ◌≤◌, List, [], ◌∷◌, ◌++◌, length, take, drop, refl, sym, ap, ◌∙◌, subst, arith, append_assoc, append-nil, length-append, length-drop, Option, Some, None, codes}
+use Rattle.std.proofs.Common.{◌≡◌, ◌≢◌, ℕ, ◌-◌, ◌^◌, ◌<◌, ◌≤◌, List, [], ◌++◌, length, take, drop, refl, sym, ap, ◌∙◌, arith, append_assoc, append-nil, length-append, length-drop, Option, Some, None, codes}
 use Rattle.std.specs.Borrow.{Bor}
-use Rattle.std.specs.Prelude.{MatchOption, IfSome, IfNone, nat_eq}
+use Rattle.std.specs.Prelude.{MatchOption, IfSome, IfNone}
 use Rattle.std.proofs.lemmas.List.{append_cancel_left, take-append-drop}
 use Rattle.svc_base.specs.Calendar.{IsReadDay}
 use Rattle.svc_base.specs.Text.{text_of_number, text_of_day, text_of_month, IsReadMonth}

@@ -1,9 +1,9 @@
 -- A path asks one question, and a head has one plan.
-use Rattle.std.proofs.Common.{◌≡◌, ℕ, ◌+◌, ◌^◌, ◌<◌, ◌≤◌, ◌⊎◌, inl, inr, Bool, true, false, List, [], ◌∷◌, ◌++◌, length, take, drop, map, refl, sym, ap, ◌∙◌, subst, arith, append_assoc, length-append, Option, Some, None, codes}
+use Rattle.std.proofs.Common.{◌≡◌, ℕ, ◌^◌, ◌<◌, inl, inr, Bool, true, false, List, [], ◌∷◌, ◌++◌, length, take, drop, map, refl, sym, ap, ◌∙◌, arith, append_assoc, length-append, Option, Some, None, codes}
 use Rattle.std.proofs.lemmas.List.{append_cancel_left, append_cancel_right, take_at, drop_at}
 use Rattle.httparse.specs.Grammar.{RequestHead}
 use Rattle.svc_base.specs.Calendar.{IsReadDay}
-use Rattle.svc_base.specs.Text.{text_of_number, text_of_day, text_of_month, IsReadMonth, IsCivilDay}
+use Rattle.svc_base.specs.Text.{text_of_number, text_of_day, text_of_month, IsReadMonth}
 use Rattle.svc_base.proofs.TextLemmas.{number_injective, month_injective, day_injective}
 use Rattle.svc_types.specs.Requests.{IsQuery}
 use Rattle.svc_types.specs.declared.requests.Query.{Query}
@@ -33,7 +33,7 @@ same-ends u v x y l e =
 two-between : (p a b s x y : List ℕ) → length x ≡ length y → p ++ (a ++ (s ++ x)) ≡ p ++ (b ++ (s ++ y)) → (a ≡ b) × (x ≡ y)
 two-between p a b s x y l e =
     let ends = same-ends (a ++ s) (b ++ s) x y l
-        (append_assoc a s x ∙ append_cancel_left p (a ++ (s ++ x)) (b ++ (s ++ y)) e ∙ sym (append_assoc b s y)) in
+    (append_assoc a s x ∙ append_cancel_left p (a ++ (s ++ x)) (b ++ (s ++ y)) e ∙ sym (append_assoc b s y)) in
     (append_cancel_right a b s ends.0, ends.1)
 
 pub length-day : (d : ℕ) → length (text_of_day d) ≡ 10
@@ -57,11 +57,11 @@ query-unique (Books l) (Books m) p q r e =
     ap Books (same-number l m p q (between (codes "/v1/loans/") (text_of_number l) (text_of_number m) (codes "/books") e))
 query-unique (At l c) (At m d) p q r e =
     let t = two-between (codes "/v1/loans/") (text_of_number l) (text_of_number m) (codes "/books/") (text_of_day c) (text_of_day d)
-        (length-day c ∙ sym (length-day d)) e in
+    (length-day c ∙ sym (length-day d)) e in
     ap (λ (n : ℕ). At n c) (same-number l m p.0 q.0 t.0) ∙ ap (At m) (same-day c d p.1 q.1 t.1)
 query-unique (Payoff l c) (Payoff m d) p q r e =
     let t = two-between (codes "/v1/loans/") (text_of_number l) (text_of_number m) (codes "/payoff/") (text_of_day c) (text_of_day d)
-        (length-day c ∙ sym (length-day d)) e in
+    (length-day c ∙ sym (length-day d)) e in
     ap (λ (n : ℕ). Payoff n c) (same-number l m p.0 q.0 t.0) ∙ ap (Payoff m) (same-day c d p.1 q.1 t.1)
 query-unique (Escrow l) (Escrow m) p q r e =
     ap Escrow (same-number l m p q (between (codes "/v1/loans/") (text_of_number l) (text_of_number m) (codes "/escrow") e))

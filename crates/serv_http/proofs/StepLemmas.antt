@@ -1,8 +1,8 @@
 -- What a step of a connection does with the bytes of a piece.
-use Rattle.std.proofs.Common.{◌≡◌, ℕ, ◌+◌, ◌-◌, ◌<◌, ◌≤◌, ◌⊎◌, inl, inr, Bool, true, false, List, [], ◌∷◌, ◌++◌, length, take, drop, refl, sym, ap, ◌∙◌, subst, arith, append_assoc, append-nil, length-append, length-take, length-drop, Option, Some, None}
+use Rattle.std.proofs.Common.{◌≡◌, ℕ, ◌+◌, ◌-◌, ◌<◌, ◌≤◌, inl, inr, Bool, true, List, [], ◌∷◌, ◌++◌, length, take, drop, refl, sym, ap, ◌∙◌, subst, arith, append_assoc, length-append, length-take, length-drop, Option, Some, None}
 use Rattle.std.specs.Prelude.{min, Result, Ok, Err, IfOk}
 use Rattle.std.proofs.lemmas.Bool.{cases_lt}
-use Rattle.std.proofs.lemmas.List.{take_at, take_all, drop_all, take-append-drop, take-append-le, take-take}
+use Rattle.std.proofs.lemmas.List.{take_at, take_all, drop_all, take-append-drop, take-take}
 use Rattle.std.proofs.Math.Seq.{take-add}
 use Rattle.serv_http.proofs.TargetLemmas.{shortest-reads-first}
 use Rattle.httparse.specs.Grammar.{RequestHead, print_request}
@@ -17,14 +17,14 @@ use Rattle.serv_http.specs.declared.stage.Stage.{Stage}
 use Rattle.serv_http.specs.declared.stage.Stage.TheVariants.{Heading, Passing, Keeping, Over}
 use Rattle.serv_http.specs.declared.conn.Conn.{Conn}
 use Rattle.serv_http.specs.declared.head_step.HeadStep.{HeadStep}
-use Rattle.serv_http.specs.declared.head_step.HeadStep.TheVariants.{Asked, Begun, Waits}
+use Rattle.serv_http.specs.declared.head_step.HeadStep.TheVariants.{Asked, Waits}
 use Rattle.serv_http.specs.Heads.{head_limit, line_after, from_request_line, after_lines, judged, HasHead, IsClosed, IsOpen, IsRefused, IsTooLong}
 use Rattle.serv_http.specs.Judging.{IsWholeHead}
 use Rattle.serv_http.specs.Plans.{IsPlan}
 use Rattle.serv_http.specs.Streams.{ask_of, ends, after_head, IsFirst, IsAwaited}
 use Rattle.serv_http.specs.Conns.{IsHeading, IsPassing, IsKeeping, StandsAt, StandsFor, BegunAt, BegunFor, IsWhole, IsStep, IsHeadStep, stage_after}
 use Rattle.serv_http.proofs.GrowthLemmas.{judged-open}
-use Rattle.serv_http.proofs.HeadLemmas.{head-grows, after_head-grows, head-first, head-length}
+use Rattle.serv_http.proofs.HeadLemmas.{head-grows, after_head-grows, head-first}
 use Rattle.serv_http.proofs.LimitLemmas.{head-in-limits}
 use Rattle.serv_http.proofs.StreamLemmas.{first-grows, first-not-awaited}
 use Rattle.serv_http.proofs.TargetLemmas.{meet}
@@ -70,7 +70,7 @@ pass-whole left due s piece x l =
     let more : List ℕ = take left piece in
     let grown = after_head-grows s more x.head x.here in
     let size : length (after_head (s ++ more) x.head) ≡ x.total =
-        omega (arith, ap length grown, length-append (after_head s x.head) more, length-take left piece, x.count) in
+    omega (arith, ap length grown, length-append (after_head s x.head) more, length-take left piece, x.count) in
     inr (inr (record {
       head = x.head;
       here = head-grows s more x.head x.here;
@@ -91,8 +91,8 @@ keep-more room room' have need last s piece x l e =
       planned = x.planned;
       text = grown ∙ ap (λ (t : List ℕ). t ++ piece) x.text
           ∙ sym (ap (take (have + length piece)) e
-            ∙ take_at (take have room ++ piece) (drop (have + length piece) room) (have + length piece)
-              (omega (arith, length-append (take have room) piece, length-take have room)));
+          ∙ take_at (take have room ++ piece) (drop (have + length piece) room) (have + length piece)
+          (omega (arith, length-append (take have room) piece, length-take have room)));
       count = omega (arith, ap length grown, length-append (after_head s x.head) piece, x.count);
     }
 
@@ -124,7 +124,7 @@ keep-ends room room' have need last s piece x a b l e =
 pub not-awaited : (s piece : List ℕ) (k : ℕ) (a : Ask) (t : List ℕ) → IsFirst (s ++ take k piece) a t → ¬ (IsAwaited (s ++ piece))
 not-awaited s piece k a t first awaited =
     let cut : (s ++ take k piece) ++ drop k piece ≡ s ++ piece =
-        append_assoc s (take k piece) (drop k piece) ∙ ap (λ (x : List ℕ). s ++ x) (take-append-drop k piece) in
+    append_assoc s (take k piece) (drop k piece) ∙ ap (λ (x : List ℕ). s ++ x) (take-append-drop k piece) in
     first-not-awaited (s ++ piece) a (t ++ drop k piece)
     (subst (λ (x : List ℕ). IsFirst x a (t ++ drop k piece)) cut (first-grows (s ++ take k piece) (drop k piece) a t first)) awaited
 
@@ -134,7 +134,7 @@ pub head-text : (head head' s more : List ℕ) (filled : ℕ) → s ≡ take fil
 head-text head head' s more filled e l f =
     ap (take (filled + length more)) f
     ∙ take_at (take filled head ++ more) (drop (filled + length more) head) (filled + length more)
-      (omega (arith, length-append (take filled head) more, length-take filled head))
+    (omega (arith, length-append (take filled head) more, length-take filled head))
     ∙ ap (λ (t : List ℕ). t ++ more) (sym e)
 
 -- a head alone is a head
@@ -148,17 +148,17 @@ pub head-whole : (s piece : List ℕ) (count len : ℕ) (h : RequestHead) → ¬
     → (len - length s ≤ length piece) × IsWhole (s ++ take (len - length s) piece) h
 head-whole s piece count len h going may short x e l =
     elim (meet (print_request h) (after_head (s ++ take count piece) h) s (take count piece)
-      (sym (head-first (s ++ take count piece) h x))) [
+    (sym (head-first (s ++ take count piece) h x))) [
       | inl a ↦ absurd (may.none h a.0 (x.reads.0, (judged-open s [] going).0 ∙ a.1))
       | inr b ↦
           let size : length b.0 ≡ len - length s = omega (arith, ap length b.1, length-append s b.0) in
           let fits : length b.0 ≤ count =
-              omega (arith, ap length b.2, length-append b.0 (after_head (s ++ take count piece) h), length-take count piece) in
+          omega (arith, ap length b.2, length-append b.0 (after_head (s ++ take count piece) h), length-take count piece) in
           let front : take (length b.0) piece ≡ b.0 =
-              sym (take-take (length b.0) count piece fits) ∙ ap (take (length b.0)) b.2
-              ∙ take_at b.0 (after_head (s ++ take count piece) h) (length b.0) refl in
+          sym (take-take (length b.0) count piece fits) ∙ ap (take (length b.0)) b.2
+          ∙ take_at b.0 (after_head (s ++ take count piece) h) (length b.0) refl in
           let whole : s ++ take (len - length s) piece ≡ print_request h =
-              ap (λ (n : ℕ). s ++ take n piece) (sym size) ∙ ap (λ (t : List ℕ). s ++ t) front ∙ sym b.1 in
+          ap (λ (n : ℕ). s ++ take n piece) (sym size) ∙ ap (λ (t : List ℕ). s ++ t) front ∙ sym b.1 in
           let head = head-exact (s ++ take count piece) h x (omega (arith, ap length b.1, length-append s b.0)) in (
             omega arith,
             record {
@@ -239,14 +239,14 @@ pub step-shift : (s piece : List ℕ) (c : Conn) (used more : ℕ) (a : Option A
 step-shift s piece c used more None l x = (
   omega (arith, x.0, length-drop used piece),
   subst (λ (t : List ℕ). StandsFor c t)
-    (append_assoc s (take used piece) (drop used piece) ∙ ap (λ (t : List ℕ). s ++ t) (take-append-drop used piece)) x.1,
+      (append_assoc s (take used piece) (drop used piece) ∙ ap (λ (t : List ℕ). s ++ t) (take-append-drop used piece)) x.1,
 )
 step-shift s piece c used more (Some a) l x = (
   omega (arith, x.0, length-drop used piece),
   (
     x.1.0,
     subst (λ (t : List ℕ). IsFirst t a x.1.0)
-      (append_assoc s (take used piece) (take more (drop used piece)) ∙ ap (λ (t : List ℕ). s ++ t) (sym (take-add used more piece))) x.1.1,
+        (append_assoc s (take used piece) (take more (drop used piece)) ∙ ap (λ (t : List ℕ). s ++ t) (sym (take-add used more piece))) x.1.1,
     x.1.2,
     x.1.3,
     x.1.4,
@@ -270,11 +270,15 @@ nothing-more (inr e) = absurd (cc e)
 no-head : (h : RequestHead) (rest : List ℕ) → ¬ (ReadsRequest [] h rest)
 no-head h rest reads =
     let e : [] ≡ print_blank h.blank ++ (h.method ++ 32 ∷ (h.target ++ 32 ∷ (print_version h.minor
-        ++ (print_end h.line_end ++ (print_section h.fields h.last ++ rest))))) = reads.1 ∙ print_request-append h rest in
-    absurd (omega (arith, ap length e, length-append (print_blank h.blank) (h.method ++ 32 ∷ (h.target ++ 32 ∷ (print_version h.minor
-        ++ (print_end h.line_end ++ (print_section h.fields h.last ++ rest))))),
-    length-append h.method (32 ∷ (h.target ++ 32 ∷ (print_version h.minor
-        ++ (print_end h.line_end ++ (print_section h.fields h.last ++ rest)))))))
+    ++ (print_end h.line_end ++ (print_section h.fields h.last ++ rest))))) = reads.1 ∙ print_request-append h rest in
+    absurd (omega (
+      arith,
+      ap length e,
+      length-append (print_blank h.blank) (h.method ++ 32 ∷ (h.target ++ 32 ∷ (print_version h.minor
+          ++ (print_end h.line_end ++ (print_section h.fields h.last ++ rest))))),
+      length-append h.method (32 ∷ (h.target ++ 32 ∷ (print_version h.minor
+          ++ (print_end h.line_end ++ (print_section h.fields h.last ++ rest))))),
+    ))
 
 pub nothing-open : IsOpen []
 nothing-open = record {
@@ -334,7 +338,7 @@ pub filled-whole : (s piece front : List ℕ) (old new : Conn) (count len used :
 filled-whole s piece front old new count len used plan x w e =
     let here : HasHead (s ++ take count piece) w.head = subst (λ (t : List ℕ). HasHead t w.head) x.front_is w.here in
     let h = head-whole s piece count len w.head x.heading.going x.heading.may (omega (arith, x.size, x.small, x.added)) here w.size
-        (omega (arith, x.added)) in
+    (omega (arith, x.added)) in
     let same : len - length s ≡ used = omega (arith, x.size, e) in
     record {
       head = w.head;

@@ -1,5 +1,5 @@
 -- The requests of a stream: one list at most, and the same for any cutting.
-use Rattle.std.proofs.Common.{◌≡◌, ℕ, ◌+◌, ◌<◌, ◌≤◌, ◌⊎◌, inl, inr, Bool, true, false, List, [], ◌∷◌, ◌++◌, length, take, drop, refl, sym, ap, ◌∙◌, subst, arith, append_assoc, length-append, Option, Some, None}
+use Rattle.std.proofs.Common.{◌≡◌, ℕ, ◌⊎◌, inl, inr, true, false, List, [], ◌∷◌, ◌++◌, refl, sym, ap, ◌∙◌, subst, arith, length-append, Option, Some, None}
 use Rattle.std.proofs.lemmas.Bool.{both_ways}
 use Rattle.std.proofs.lemmas.List.{take-append-le, drop-append-le}
 use Rattle.httparse.specs.Grammar.{RequestHead}
@@ -7,9 +7,9 @@ use Rattle.serv_http.specs.declared.ask.Ask.{Ask}
 use Rattle.serv_http.specs.declared.ask.Ask.TheVariants.{Post}
 use Rattle.serv_http.specs.declared.ask.Plan.{Plan}
 use Rattle.serv_http.specs.declared.ask.Plan.TheVariants.{Now, Pass, Keep}
-use Rattle.serv_http.specs.Heads.{HasHead, IsRefused, IsOpen, IsTooLong}
+use Rattle.serv_http.specs.Heads.{HasHead}
 use Rattle.serv_http.specs.Plans.{IsPlan}
-use Rattle.serv_http.specs.Streams.{ends, Completes, Lacks, after_head, IsRequest, LacksBody, IsFirst, IsAwaited, AsksTo}
+use Rattle.serv_http.specs.Streams.{ends, Completes, Lacks, after_head, IsRequest, IsFirst, IsAwaited, AsksTo}
 use Rattle.serv_http.proofs.HeadLemmas.{head-unique, head-not-refused, head-not-open, refused-not-open, head-grows, refused-grows, closed-grows, open-grows, after_head-grows}
 use Rattle.serv_http.proofs.QueryLemmas.{plan-unique}
 
@@ -59,8 +59,8 @@ request-unique : (s : List ℕ) (a b : Ask) (r q : List ℕ) → IsRequest s a r
 request-unique s a b r q x y =
     let e = same-plan s x.head y.head x.plan y.plan x.here y.here x.planned y.planned in
     let whole : Completes y.plan (after_head s y.head) a r =
-        subst (λ (z : Plan). Completes z (after_head s y.head) a r) e.1
-        (subst (λ (z : RequestHead). Completes x.plan (after_head s z) a r) e.0 x.whole) in
+    subst (λ (z : Plan). Completes z (after_head s y.head) a r) e.1
+    (subst (λ (z : RequestHead). Completes x.plan (after_head s z) a r) e.0 x.whole) in
     completes-unique y.plan (after_head s y.head) a b r q whole y.whole
 
 pub first-unique : (s : List ℕ) (a b : Ask) (r q : List ℕ) → IsFirst s a r → IsFirst s b q → (a ≡ b) × (r ≡ q)

@@ -1,11 +1,11 @@
 -- Whether a stream ends inside a target.
-use Rattle.std.proofs.Common.{◌≡◌, ℕ, ◌+◌, ◌<◌, ◌≤◌, ◌⊎◌, inl, inr, Bool, true, false, List, [], ◌∷◌, ◌++◌, length, take, refl, sym, ap, ◌∙◌, subst, arith, append_assoc, codes}
+use Rattle.std.proofs.Common.{◌≡◌, ℕ, ◌⊎◌, inl, inr, true, List, [], ◌∷◌, ◌++◌, length, take, refl, sym, ap, ◌∙◌, subst, arith, append_assoc, codes}
 use Rattle.std.proofs.lemmas.List.{take_at}
 use Rattle.std.proofs.lemmas.List.Elements.{All-nil, All-cons, All-take}
 use Rattle.std.proofs.lemmas.Str.{IsUtf8-from_ascii}
 use Rattle.std.proofs.lemmas.Str.Ascii.{IsAscii-cons, IsAscii-nil}
 use Rattle.httparse.proofs.OpenLemmas.{letter_is_token}
-use Rattle.httparse.specs.Grammar.{is_token_byte, is_uri_byte, AllPass, IsToken, LineEnd, lf, print_blank, RequestHead, IsRequestHead, ReadsRequest, NeverHasRequest, EndsInTarget}
+use Rattle.httparse.specs.Grammar.{is_token_byte, is_uri_byte, AllPass, IsToken, LineEnd, lf, print_blank, RequestHead, ReadsRequest, NeverHasRequest, EndsInTarget}
 use Rattle.httparse.proofs.GrammarLemmas.{print_request-append}
 
 -- two ways to cut one text
@@ -47,8 +47,8 @@ shortest-reads blank method token = (
     fields = All-nil _;
   },
   append_assoc (print_blank blank ++ method) (32 ∷ []) shortest_end
-  ∙ append_assoc (print_blank blank) method (32 ∷ shortest_end)
-  ∙ sym (print_request-append (shortest blank method) []),
+      ∙ append_assoc (print_blank blank) method (32 ∷ shortest_end)
+      ∙ sym (print_request-append (shortest blank method) []),
 )
 
 front-passes : (x m t : List ℕ) → t ≡ x ++ m → AllPass is_uri_byte t → AllPass is_uri_byte x
@@ -63,16 +63,16 @@ target-grows s m never ended (blank, method, target, token, all, e) =
     let cut : p ++ target ≡ s ++ m = append_assoc (print_blank blank ++ method) (32 ∷ []) target ∙ sym e in
     elim (meet p target s m cut) [
       | inl h ↦ ended (
-          blank,
-          method,
-          h.0,
-          token,
-          front-passes h.0 m target h.2 all,
-          h.1 ∙ append_assoc (print_blank blank ++ method) (32 ∷ []) h.0,
-        )
+        blank,
+        method,
+        h.0,
+        token,
+        front-passes h.0 m target h.2 all,
+        h.1 ∙ append_assoc (print_blank blank ++ method) (32 ∷ []) h.0,
+      )
       | inr h ↦
           let whole : p ++ shortest_end ≡ s ++ (h.0 ++ shortest_end) =
-              ap (λ (y : List ℕ). y ++ shortest_end) h.1 ∙ append_assoc s h.0 shortest_end in
+          ap (λ (y : List ℕ). y ++ shortest_end) h.1 ∙ append_assoc s h.0 shortest_end in
           never (h.0 ++ shortest_end) (shortest blank method) []
           (subst (λ (y : List ℕ). ReadsRequest y (shortest blank method) []) whole (shortest-reads blank method token))
     ]
@@ -83,5 +83,5 @@ shortest-reads-first = (
   (print_blank [] ++ (65 ∷ []) ++ 32 ∷ []) ++ shortest_end,
   shortest [] (65 ∷ []),
   shortest-reads [] (65 ∷ [])
-    (omega arith, All-cons (λ b. is_token_byte b ≡ true) 65 [] letter_is_token (All-nil (λ b. is_token_byte b ≡ true))),
+      (omega arith, All-cons (λ b. is_token_byte b ≡ true) 65 [] letter_is_token (All-nil (λ b. is_token_byte b ≡ true))),
 )

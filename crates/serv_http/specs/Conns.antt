@@ -1,5 +1,5 @@
 -- What a connection keeps, and the bytes for which it stands.
-use Rattle.std.specs.Prelude.{◌≡◌, ℕ, ◌+◌, ◌<◌, ◌≤◌, List, [], ◌∷◌, ◌++◌, length, take, drop, Bool, true, false, Option, Some, None}
+use Rattle.std.specs.Prelude.{◌≡◌, ℕ, ◌+◌, ◌<◌, ◌≤◌, List, [], ◌++◌, length, take, Bool, true, false, Option, Some, None}
 use Rattle.httparse.specs.Grammar.{RequestHead}
 use Rattle.serv_http.specs.declared.ask.Ask.{Ask}
 use Rattle.serv_http.specs.declared.ask.Due.{Due}
@@ -71,7 +71,7 @@ IsStep s piece c used None = (used ≡ length piece) × StandsFor c (s ++ piece)
 IsStep s piece c used (Some a) =
     (used ≤ length piece)
     × ((t : List ℕ) × IsFirst (s ++ take used piece) a t
-        × (c.stage ≡ stage_after (ends a)) × (c.filled ≡ 0) × (ends a ≡ false → t ≡ []))
+    × (c.stage ≡ stage_after (ends a)) × (c.filled ≡ 0) × (ends a ≡ false → t ≡ []))
 
 -- the bytes are a whole head and a part of its body, which may be all of it
 abbrev pub BegunAt : Conn → Stage → List ℕ → Type 0

@@ -1,7 +1,7 @@
 -- The head of a request: how much of a stream is looked at for it, and whether that is a head, is
 -- none whatever follows, or waits. A head is one of the grammar of `httparse` (RFC 9112) of at
 -- most 8,192 bytes and 64 header lines.
-use Rattle.std.specs.Prelude.{◌≡◌, ℕ, zero, suc, ◌-◌, ◌+◌, ◌≤◌, ◌⊎◌, List, [], ◌∷◌, length, take, Bool, true, ◌==◌, if◌then◌else◌, Option, Some, None, is_some}
+use Rattle.std.specs.Prelude.{◌≡◌, ℕ, zero, suc, ◌-◌, ◌+◌, ◌≤◌, ◌⊎◌, List, [], ◌∷◌, length, take, true, ◌==◌, if◌then◌else◌, Option, Some, None, is_some}
 use Rattle.httparse.specs.Grammar.{RequestHead, ReadsRequest, HasNoRequest, NeverHasRequest, MayBecomeRequest, EndsInTarget}
 use Rattle.httparse.specs.Pieces.{is_newline}
 

@@ -8,7 +8,6 @@ use Rattle.httparse.specs.declared.spans.RequestSpans.{RequestSpans}
 use Rattle.svc_types.specs.declared.requests.Query.{Query}
 use Rattle.serv_http.specs.declared.ask.Allow.{Allow}
 use Rattle.serv_http.specs.declared.ask.Allow.TheVariants as allow
-use Rattle.serv_http.specs.declared.ask.Due.{Due}
 use Rattle.serv_http.specs.declared.ask.Due.TheVariants.{Get, Fault}
 use Rattle.serv_http.specs.declared.ask.Plan.{Plan}
 use Rattle.serv_http.specs.declared.ask.Plan.TheVariants.{Now, Pass, Keep}

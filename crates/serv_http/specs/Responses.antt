@@ -1,5 +1,5 @@
 -- The bytes of a response.
-use Rattle.std.specs.Prelude.{◌≡◌, ℕ, ◌<◌, List, [], ◌∷◌, ◌++◌, length, Bool, true, false, ◌==◌, ◌||◌, if◌then◌else◌, Option, Some, None, unwrap_or, codes, decimal, IsTrue}
+use Rattle.std.specs.Prelude.{ℕ, List, [], ◌∷◌, ◌++◌, length, Bool, ◌==◌, ◌||◌, if◌then◌else◌, Option, Some, None, unwrap_or, codes, decimal, IsTrue}
 use Rattle.std.specs.List.{list_any}
 use Rattle.http.specs.StatusCode.{reason_phrase, code_digits}
 use Rattle.serv_http.specs.declared.ask.Allow.{Allow}

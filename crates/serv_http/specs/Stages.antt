@@ -1,5 +1,5 @@
 -- What a stage may be.
-use Rattle.std.specs.Prelude.{ℕ, ◌≤◌, ◌+◌, Bool, true, false, nat_le, ◌&&◌, IsTrue}
+use Rattle.std.specs.Prelude.{Bool, true, false, nat_le, ◌&&◌, IsTrue}
 use Rattle.serv_http.specs.declared.stage.Stage.{Stage}
 use Rattle.serv_http.specs.declared.stage.Stage.TheVariants.{Heading, Passing, Keeping, Over}
 

@@ -1,6 +1,6 @@
 -- The requests of a stream: what its bytes ask for, one request after another, up to the first
 -- that ends the connection.
-use Rattle.std.specs.Prelude.{◌≡◌, ℕ, ◌<◌, ◌≤◌, ◌⊎◌, List, [], ◌∷◌, ◌++◌, length, take, drop, Bool, true, false, Option, Some, None}
+use Rattle.std.specs.Prelude.{◌≡◌, ℕ, ◌<◌, ◌≤◌, ◌⊎◌, List, [], ◌∷◌, length, take, drop, Bool, true, false, Option, Some, None}
 use Rattle.httparse.specs.Grammar.{RequestHead, print_request}
 use Rattle.serv_http.specs.declared.ask.Ask.{Ask}
 use Rattle.serv_http.specs.declared.ask.Ask.TheVariants as ask

@@ -31,8 +31,15 @@ pub(crate) fn judge(router: &Router<Route>, buf: &[u8]) -> Found
     let few = &buf[..count];
     let mut headers = [EMPTY_HEADER_SPAN; LINE_LIMIT];
     match parse_request(few, &mut headers) {
-        Ok(Status::Complete(spans)) => Found::Whole(spans.len, plan_at(router, few, &headers, &spans)),
+        Ok(Status::Complete(spans)) => Found::Whole(
+            spans.len,
+            plan_at(router, few, &headers, &spans),
+        ),
         Ok(Status::Partial) => unfinished(closed),
-        Err(_) => if ends_in_target(few) { unfinished(closed) } else { Found::Refused },
+        Err(_) => if ends_in_target(few) {
+            unfinished(closed)
+        } else {
+            Found::Refused
+        },
     }
 }

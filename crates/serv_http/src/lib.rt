@@ -2,10 +2,10 @@
 #![tactic(auto)]
 
 mod ask;
-mod fields;
 mod conn;
 mod ending;
 mod feeding;
+mod fields;
 mod found;
 mod head_step;
 mod judging;

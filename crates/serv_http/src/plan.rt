@@ -89,9 +89,16 @@ fn routed(route: Route, length: ContentLength, method: &[u8], path: &[u8], last:
     ensures value { plans.IsRouted (Some route) length method.now path.now last result }
 {
     if has_other_method(route, method) {
-        return Plan::Pass(body_length(length), Due::Fault(405, last, Some(method_of(route))));
+        return Plan::Pass(
+            body_length(length),
+            Due::Fault(405, last, Some(method_of(route))),
+        );
     }
-    if is_command(route) { command(length, last) } else { question(route, path, body_length(length), last) }
+    if is_command(route) {
+        command(length, last)
+    } else {
+        question(route, path, body_length(length), last)
+    }
 }
 
 /// The plan of a head whose lengths are within the limits.
@@ -148,5 +155,11 @@ pub(crate) fn plan_at(
         return Plan::Now(Due::Fault(status, true, None));
     }
     let last = spans.version == 0 || says(buf, lines, b"connection", b"close");
-    sized(router, length, spans.method.of(buf), spans.path.of(buf), last)
+    sized(
+        router,
+        length,
+        spans.method.of(buf),
+        spans.path.of(buf),
+        last,
+    )
 }

@@ -159,7 +159,11 @@ fn custodial(path: &[u8]) -> Option<Query>
     ensures read { IfSome result (Spells Route.Custodial path.now) }
     ensures none { IfNone result ((q : Query) → ¬ (Spells Route.Custodial path.now q)) }
 {
-    if is_text(path, b"/v1/custodial") { Some(Query::Custodial) } else { None }
+    if is_text(path, b"/v1/custodial") {
+        Some(Query::Custodial)
+    } else {
+        None
+    }
 }
 
 /// The question of the custodial rows of a command.

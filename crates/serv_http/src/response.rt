@@ -63,14 +63,22 @@ fn push_allow(out: &mut Vec<u8>, allow: Option<Allow>) -> Result<(), OutOfMemory
 fn push_close(out: &mut Vec<u8>, ends: bool) -> Result<(), OutOfMemory>
     ensures { OnOk result (out.new.items ≡ out.old.items ++ responses.close_line ends) }
 {
-    if ends { push(out, b"Connection: close\r\n") } else { push(out, b"") }
+    if ends {
+        push(out, b"Connection: close\r\n")
+    } else {
+        push(out, b"")
+    }
 }
 
 /// Appends the line of the body's type, where there is a body.
 fn push_type(out: &mut Vec<u8>, body: &[u8]) -> Result<(), OutOfMemory>
     ensures { OnOk result (out.new.items ≡ out.old.items ++ responses.type_line body.now) }
 {
-    if body.is_empty() { push(out, b"") } else { push(out, b"Content-Type: application/json\r\n") }
+    if body.is_empty() {
+        push(out, b"")
+    } else {
+        push(out, b"Content-Type: application/json\r\n")
+    }
 }
 
 /// Appends the lines of the body's length and type, the empty line, and the body.

@@ -74,7 +74,11 @@ impl Conn {
     }
 
     /// Goes on with a body.
-    fn read_body(&mut self, alloc: Global, piece: &[u8]) -> Result<(usize, Option<Ask>), OutOfMemory>
+    fn read_body(
+        &mut self,
+        alloc: Global,
+        piece: &[u8],
+    ) -> Result<(usize, Option<Ask>), OutOfMemory>
         ensures within { IfOk result (λ r. r.0 ≤ length piece.now) }
         ensures ok { IfOk result (λ r. (s : List ℕ) → conns.BegunFor self.old s
             → conns.IsStep s piece.now self.new r.0 r.1) }
@@ -184,7 +188,11 @@ impl Conn {
     }
 
     /// Takes as many bytes of a piece as one request needs.
-    pub(crate) fn step(&mut self, alloc: Global, piece: &[u8]) -> Result<(usize, Option<Ask>), OutOfMemory>
+    pub(crate) fn step(
+        &mut self,
+        alloc: Global,
+        piece: &[u8],
+    ) -> Result<(usize, Option<Ask>), OutOfMemory>
         ensures within { IfOk result (λ r. r.0 ≤ length piece.now) }
         ensures ok { IfOk result (λ r. (s : List ℕ) → conns.StandsFor self.old s
             → conns.IsStep s piece.now self.new r.0 r.1) }

@@ -7,7 +7,8 @@ use std::test::Fail;
 use svc_base::OutOfMemory;
 
 // The exchange of a day.
-const DAY: &[u8] = b"POST /v1/commands HTTP/1.1\r\nHost: a\r\nContent-Length: 42\r\n\r\n{\"key\":\"k1\",\"do\":\"day\",\"day\":\"2024-02-01\"}";
+const DAY: &[u8] =
+    b"POST /v1/commands HTTP/1.1\r\nHost: a\r\nContent-Length: 42\r\n\r\n{\"key\":\"k1\",\"do\":\"day\",\"day\":\"2024-02-01\"}";
 
 // What was asked, as a text: one line for each request.
 fn push_ask(out: &mut String, alloc: Global, ask: &Ask) -> Result<(), OutOfMemory> {
@@ -42,7 +43,10 @@ fn asked(alloc: Global, bytes: &[u8], first: usize, size: usize) -> Result<Strin
 
 fn check(rt: &(impl Abort + AllocGlobal), bytes: &[u8], want: &str) -> Result<(), Fail> {
     let alloc = rt.alloc();
-    assert_eq!(rt; asked(alloc, bytes, bytes.len(), bytes.len())?.as_str(), want);
+    assert_eq!(rt;
+        asked(alloc, bytes, bytes.len(), bytes.len())?.as_str(),
+        want
+    );
     assert_eq!(rt; asked(alloc, bytes, 1, 1)?.as_str(), want);
     for cut in 1..bytes.len() {
         assert_eq!(rt; asked(alloc, bytes, cut, bytes.len())?.as_str(), want);
@@ -54,19 +58,71 @@ fn check(rt: &(impl Abort + AllocGlobal), bytes: &[u8], want: &str) -> Result<()
 fn requests(rt: HostRuntime) -> Result<(), Fail> {
     check(&rt, DAY, "post 42 false\n")?;
     check(&rt, b"GET /v1/nowhere HTTP/1.1\r\n\r\n", "404 false None\n")?;
-    check(&rt, b"GET /v1/commands HTTP/1.1\r\n\r\n", "405 false Some(Post)\n")?;
-    check(&rt, b"PUT /v1/custodial HTTP/1.1\r\n\r\n", "405 false Some(Get)\n")?;
-    check(&rt, b"POST /v1/commands HTTP/1.1\r\n\r\n", "411 true None\n")?;
-    check(&rt, b"GET /v1/custodial HTTP/1.1\r\n\r\nGET /v1/rows/7 HTTP/1.1\n\n", "get Custodial false\nget Rows(7) false\n")?;
-    check(&rt, b"GET /v1/rows/7 HTTP/1.1\r\ncontent-LENGTH: 5\r\n\r\nGET /GET /v1/rows/8 HTTP/1.1\r\n\r\n", "get Rows(7) false\nget Rows(8) false\n")?;
-    check(&rt, b"GET /v1/rows/7?a HTTP/1.1\r\n\r\n", "404 false None\n")?;
-    check(&rt, b"GET /v1/rows/%37 HTTP/1.1\r\n\r\n", "400 false None\n")?;
-    check(&rt, b"GET /v1/loans//books HTTP/1.1\r\n\r\n", "404 false None\n")?;
-    check(&rt, b"GET /v1/custodial HTTP/1.0\r\n\r\nGET / HTTP/1.1\r\n\r\n", "get Custodial true\n")?;
-    check(&rt, b"GET /v1/custodial HTTP/1.1\r\nConnection: Close\r\n\r\n", "get Custodial true\n")?;
-    check(&rt, b"POST /v1/commands HTTP/1.1\r\nTransfer-Encoding: chunked\r\nContent-Length: 2\r\n\r\n{}", "411 true None\n")?;
-    check(&rt, b"POST /v1/commands HTTP/1.1\r\nContent-Length: 2\r\nContent-Length: 2\r\n\r\n{}", "400 true None\n")?;
-    check(&rt, b"POST /v1/commands HTTP/1.1\r\nContent-Length: 2049\r\n\r\n", "413 true None\n")?;
+    check(
+        &rt,
+        b"GET /v1/commands HTTP/1.1\r\n\r\n",
+        "405 false Some(Post)\n",
+    )?;
+    check(
+        &rt,
+        b"PUT /v1/custodial HTTP/1.1\r\n\r\n",
+        "405 false Some(Get)\n",
+    )?;
+    check(
+        &rt,
+        b"POST /v1/commands HTTP/1.1\r\n\r\n",
+        "411 true None\n",
+    )?;
+    check(
+        &rt,
+        b"GET /v1/custodial HTTP/1.1\r\n\r\nGET /v1/rows/7 HTTP/1.1\n\n",
+        "get Custodial false\nget Rows(7) false\n",
+    )?;
+    check(
+        &rt,
+        b"GET /v1/rows/7 HTTP/1.1\r\ncontent-LENGTH: 5\r\n\r\nGET /GET /v1/rows/8 HTTP/1.1\r\n\r\n",
+        "get Rows(7) false\nget Rows(8) false\n",
+    )?;
+    check(
+        &rt,
+        b"GET /v1/rows/7?a HTTP/1.1\r\n\r\n",
+        "404 false None\n",
+    )?;
+    check(
+        &rt,
+        b"GET /v1/rows/%37 HTTP/1.1\r\n\r\n",
+        "400 false None\n",
+    )?;
+    check(
+        &rt,
+        b"GET /v1/loans//books HTTP/1.1\r\n\r\n",
+        "404 false None\n",
+    )?;
+    check(
+        &rt,
+        b"GET /v1/custodial HTTP/1.0\r\n\r\nGET / HTTP/1.1\r\n\r\n",
+        "get Custodial true\n",
+    )?;
+    check(
+        &rt,
+        b"GET /v1/custodial HTTP/1.1\r\nConnection: Close\r\n\r\n",
+        "get Custodial true\n",
+    )?;
+    check(
+        &rt,
+        b"POST /v1/commands HTTP/1.1\r\nTransfer-Encoding: chunked\r\nContent-Length: 2\r\n\r\n{}",
+        "411 true None\n",
+    )?;
+    check(
+        &rt,
+        b"POST /v1/commands HTTP/1.1\r\nContent-Length: 2\r\nContent-Length: 2\r\n\r\n{}",
+        "400 true None\n",
+    )?;
+    check(
+        &rt,
+        b"POST /v1/commands HTTP/1.1\r\nContent-Length: 2049\r\n\r\n",
+        "413 true None\n",
+    )?;
     check(&rt, b"BAD\x01 / HTTP/1.1\r\n\r\n", "400 true None\n")
 }
 
@@ -116,7 +172,10 @@ fn limits(rt: HostRuntime) -> Result<(), Fail> {
     ];
     for (bytes, want) in rows.iter() {
         assert_eq!(rt; asked(alloc, bytes, 1, 1)?.as_str(), *want);
-        assert_eq!(rt; asked(alloc, bytes, bytes.len(), bytes.len())?.as_str(), *want);
+        assert_eq!(rt;
+            asked(alloc, bytes, bytes.len(), bytes.len())?.as_str(),
+            *want
+        );
     }
     Ok(())
 }
@@ -124,11 +183,26 @@ fn limits(rt: HostRuntime) -> Result<(), Fail> {
 #[test]
 fn responses(rt: HostRuntime) -> Result<(), Fail> {
     let alloc = rt.alloc();
-    let ok = respond(alloc, 200, b"{\"code\":0,\"number\":1,\"text\":\"ok 1\"}", false, None)?;
-    assert_eq!(rt; ok.as_slice(), b"HTTP/1.1 200 OK\r\nContent-Length: 35\r\nContent-Type: application/json\r\n\r\n{\"code\":0,\"number\":1,\"text\":\"ok 1\"}".as_slice());
+    let ok = respond(
+        alloc,
+        200,
+        b"{\"code\":0,\"number\":1,\"text\":\"ok 1\"}",
+        false,
+        None,
+    )?;
+    assert_eq!(rt;
+        ok.as_slice(),
+        b"HTTP/1.1 200 OK\r\nContent-Length: 35\r\nContent-Type: application/json\r\n\r\n{\"code\":0,\"number\":1,\"text\":\"ok 1\"}".as_slice()
+    );
     let other = respond(alloc, 405, b"", false, Some(Allow::Post))?;
-    assert_eq!(rt; other.as_slice(), b"HTTP/1.1 405 Method Not Allowed\r\nAllow: POST\r\nContent-Length: 0\r\n\r\n".as_slice());
+    assert_eq!(rt;
+        other.as_slice(),
+        b"HTTP/1.1 405 Method Not Allowed\r\nAllow: POST\r\nContent-Length: 0\r\n\r\n".as_slice()
+    );
     let failed = respond(alloc, 503, b"", true, None)?;
-    assert_eq!(rt; failed.as_slice(), b"HTTP/1.1 503 Service Unavailable\r\nConnection: close\r\nContent-Length: 0\r\n\r\n".as_slice());
+    assert_eq!(rt;
+        failed.as_slice(),
+        b"HTTP/1.1 503 Service Unavailable\r\nConnection: close\r\nContent-Length: 0\r\n\r\n".as_slice()
+    );
     Ok(())
 }

@@ -10,5 +10,5 @@ loop-i-preserved c =
       small = c.loop-i.invariant.small;
     } in
     let more = number-more c.args.digits.now c.loop-i.i c.loop-i.number c.from.result c.loop-i-test.true before
-        (sym c.is_ascii_digit.ensures.value ∙ c.if-not-is_ascii_digit.false) c.from.ensures in
+    (sym c.is_ascii_digit.ensures.value ∙ c.if-not-is_ascii_digit.false) c.from.ensures in
     record { digits = more.digits_so_far; value = more.value; small = more.small }

@@ -1,4 +1,4 @@
-use Rattle.std.proofs.Common.{ℕ, ◌≡◌, ◌≤◌, ◌-◌, length, take, drop, arith, sym, ◌∙◌}
+use Rattle.std.proofs.Common.{◌-◌, length, take, drop, ◌∙◌}
 use Rattle.serv_http.proofs.PathLemmas.{too-short, day-is, last-ten}
 use Rattle.serv_http.proofs.queries.day_at_end.Goals as goal
 

@@ -1,4 +1,4 @@
-use Rattle.std.proofs.Common.{◌≡◌, ◌++◌, List, ℕ, codes, sym, ◌∙◌}
+use Rattle.std.proofs.Common.{◌++◌, List, ℕ, codes}
 use Rattle.svc_base.specs.Text.{text_of_number, text_of_day}
 use Rattle.serv_http.proofs.QueryLemmas.{length-day}
 use Rattle.serv_http.proofs.PathLemmas.{day-is, with-day}

@@ -1,7 +1,6 @@
-use Rattle.std.proofs.Common.{◌≡◌, ℕ, ◌-◌, ◌↔◌, List, length, take, drop, sym, subst}
+use Rattle.std.proofs.Common.{ℕ, ◌↔◌, List, drop, subst}
 use Rattle.std.specs.Prelude.{IsTrue}
 use Rattle.std.proofs.lemmas.List.{take_rest}
-use Rattle.httparse.specs.Grammar.{EndsInTarget}
 use Rattle.serv_http.specs.Words.{IsOpenTarget}
 use Rattle.serv_http.proofs.OpenTargetLemmas.{open-from, open-parts, IsAfterBlank}
 use Rattle.serv_http.proofs.target.ends_in_target.Goals as goal

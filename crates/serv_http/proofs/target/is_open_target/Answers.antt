@@ -1,9 +1,5 @@
-use Rattle.std.proofs.Common.{◌≡◌, ℕ, ◌&&◌, ◌↔◌, List, Bool, sym, ap, ◌∙◌, subst}
-use Rattle.std.specs.Prelude.{IsTrue}
-use Rattle.std.specs.List.{list_all}
-use Rattle.httparse.specs.Grammar.{is_token, is_uri_byte}
-use Rattle.serv_http.specs.Words.{IsOpenTarget}
-use Rattle.serv_http.proofs.OpenTargetLemmas.{IsCut, word-decides, no-word, both-tests, one-test}
+use Rattle.std.proofs.Common.{sym, ◌∙◌}
+use Rattle.serv_http.proofs.OpenTargetLemmas.{no-word, both-tests, one-test}
 use Rattle.serv_http.proofs.target.is_open_target.Goals as goal
 
 pub returns-then-is_token : goal.returns-then-is_token

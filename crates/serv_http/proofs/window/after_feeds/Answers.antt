@@ -1,4 +1,4 @@
-use Rattle.std.proofs.Common.{◌≡◌, ◌+◌, ◌<◌, ℕ, drop, length, ap, sym, ◌∙◌, arith}
+use Rattle.std.proofs.Common.{◌≡◌, ◌+◌, ◌<◌, ℕ, drop, ap, sym, ◌∙◌, arith}
 use Rattle.serv_http.specs.Heads.{after_lines}
 use Rattle.serv_http.proofs.ScanLemmas.{after-feed, after-other, after-last, no-lines}
 use Rattle.serv_http.proofs.window.after_feeds.Goals as goal

@@ -1,4 +1,4 @@
-use Rattle.std.proofs.Common.{◌≡◌, sym, ◌∙◌, arith, length, ◌<◌}
+use Rattle.std.proofs.Common.{sym, ◌∙◌, arith}
 use Rattle.serv_http.proofs.ScanLemmas.{many-none, many-end, many-newline, many-begun}
 use Rattle.serv_http.proofs.window.too_many.Goals as goal
 
@@ -18,5 +18,5 @@ pub returns-else-is_newline : goal.returns-else-is_newline
 returns-else-is_newline c = (
   c.in-Some.ensures.within,
   many-begun c.args.buf.now c.line_start.result c.in-Some.at c.line_start.ensures.value c.in-Some.ensures.value
-  (let a = c.if-at-buf.false in let b = c.in-Some.ensures.within in omega arith) (sym c.is_newline.ensures ∙ c.if-is_newline.false),
+      (let a = c.if-at-buf.false in let b = c.in-Some.ensures.within in omega arith) (sym c.is_newline.ensures ∙ c.if-is_newline.false),
 )

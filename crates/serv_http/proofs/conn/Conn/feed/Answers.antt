@@ -1,4 +1,4 @@
-use Rattle.std.proofs.Common.{◌≡◌, ◌+◌, ◌-◌, ◌++◌, ◌∷◌, ◌∙◌, List, [], ℕ, length, take, drop, Some, None, refl, sym, ap, subst, arith}
+use Rattle.std.proofs.Common.{◌+◌, ◌++◌, ◌∷◌, ◌∙◌, List, [], length, Some, None, sym, ap, subst, arith}
 use Rattle.std.proofs.lemmas.List.{length_push}
 use Rattle.serv_http.specs.declared.ask.Ask.{Ask}
 use Rattle.serv_http.specs.Conns.{IsFed}
@@ -49,7 +49,7 @@ returns-then-is_over-clause-asks c = λ s x.
     let so = c.loop-count.invariant.so_far s x in
     let w = c.in-Ok-default-Some in
     let pushed = pushed-ok _ c.is_err.result c.push.new.self.items (c.loop-count.asks.items ++ w.ask ∷ []) c.loop-count.asks.items
-        c.push.ensures.items c.is_err.ensures.negation c.if-is_err.false in
+    c.push.ensures.items c.is_err.ensures.negation c.if-is_err.false in
     subst (λ (l : List Ask). IsFed (s ++ c.args.piece.now) l c.step.new.self) (sym pushed)
     (so-far-over c.args.piece.now c.loop-count.at c.loop-count.count w.used c.loop-count.asks.items w.ask c.loop-count.self c.step.new.self s so
     (step-at so.left c.args.piece.now c.loop-count.at w.used c.step.new.self w.field-0-1 (Some w.ask) w.field-0-1-is (w.ensures.ok so.left so.stands))
@@ -67,7 +67,7 @@ pub loop-count-preserved : goal.loop-count-preserved
 loop-count-preserved c =
     let w = c.in-Ok-default-Some in
     let pushed = pushed-ok _ c.is_err.result c.push.new.self.items (c.loop-count.asks.items ++ w.ask ∷ []) c.loop-count.asks.items
-        c.push.ensures.items c.is_err.ensures.negation c.if-is_err.false in
+    c.push.ensures.items c.is_err.ensures.negation c.if-is_err.false in
     record {
       within = within-at c.args.piece.now c.loop-count.at w.used c.loop-count.invariant.within w.ensures.within;
       few = omega (arith, ap length pushed, length_push c.loop-count.asks.items w.ask, c.loop-count.invariant.few);

@@ -1,4 +1,4 @@
-use Rattle.std.proofs.Common.{refl, List, []}
+use Rattle.std.proofs.Common.{refl}
 use Rattle.serv_http.specs.Streams.{ask_of}
 use Rattle.serv_http.proofs.StepLemmas.{pass-more, pass-whole, step-asked}
 use Rattle.serv_http.proofs.conn.Conn.pass.Goals as goal

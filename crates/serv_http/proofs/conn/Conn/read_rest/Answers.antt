@@ -18,7 +18,7 @@ returns-in-Err-clause-err c = λ s l b awaited.
     let piece : List ℕ = c.args.piece.now in
     let used : ℕ = c.args.used in
     let whole : s ++ piece ≡ (s ++ take used piece) ++ take (length piece - used) (drop used piece) =
-        ap (λ (t : List ℕ). s ++ t) (sym (take-append-drop used piece))
-        ∙ sym (append_assoc s (take used piece) (drop used piece))
-        ∙ ap (λ (t : List ℕ). (s ++ take used piece) ++ t) (sym (take_rest piece used)) in
+    ap (λ (t : List ℕ). s ++ t) (sym (take-append-drop used piece))
+    ∙ sym (append_assoc s (take used piece) (drop used piece))
+    ∙ ap (λ (t : List ℕ). (s ++ take used piece) ++ t) (sym (take_rest piece used)) in
     c.in-Err.ensures.err (s ++ take used piece) b (subst (λ (t : List ℕ). IsAwaited t) whole awaited)

@@ -1,4 +1,4 @@
-use Rattle.std.proofs.Common.{◌≡◌, ◌∙◌, ℕ, Some, refl, sym, subst, arith, length}
+use Rattle.std.proofs.Common.{◌≡◌, ℕ, Some, subst, arith}
 use Rattle.httparse.proofs.HeadLemmas.{OnErr-map}
 use Rattle.serv_http.specs.Conns.{IsStep}
 use Rattle.serv_http.proofs.StepLemmas.{heading-stands, stands-begun, ok-map}
