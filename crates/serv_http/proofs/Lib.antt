@@ -1,0 +1,16 @@
+pub mod LineLemmas
+pub mod GrowthLemmas
+pub mod TargetLemmas
+pub mod HeadLemmas
+pub mod CountLemmas
+pub mod LimitLemmas
+pub mod ScanLemmas
+pub mod OpenTargetLemmas
+pub mod QueryLemmas
+pub mod StreamLemmas
+pub mod PathLemmas
+pub mod FieldLemmas
+pub mod JudgeLemmas
+pub mod StepLemmas
+pub mod FeedLemmas
+pub mod PushLemmas

@@ -1,0 +1,10 @@
+pub mod Fields
+pub mod Heads
+pub mod Routes
+pub mod Plans
+pub mod Streams
+pub mod Words
+pub mod Responses
+pub mod Conns
+pub mod Stages
+pub mod Judging

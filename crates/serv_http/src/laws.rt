@@ -1,0 +1,33 @@
+//! Laws of the requests of a stream, for callers that feed one piece after another.
+
+ghost use Rattle.std.specs.Prelude.{◌≡◌, ℕ, ◌≤◌, ◌++◌, List, length, Option, Some, None};
+ghost use Rattle.httparse.specs.Grammar.{RequestHead, print_request, ReadsRequest};
+ghost use Rattle.serv_http.specs.declared.ask.Ask.{Ask};
+ghost use Rattle.serv_http.specs.Heads.{head_limit, line_limit, IsRefused, IsTooLong};
+ghost use Rattle.serv_http.specs.Streams.{AsksTo};
+
+/// A stream has one list of requests, and one rest.
+pub fn one_list()
+    ensures { (xs ys : List Ask) (s : List ℕ) (l k : Option (List ℕ)) → AsksTo s xs l → AsksTo s ys k → (xs ≡ ys) × (l ≡ k) }
+{}
+
+/// The requests of two pieces are those of the first, and those of its rest with the second:
+/// cutting does not matter.
+pub fn any_cutting()
+    ensures goes_on { (xs ys : List Ask) (s rest more : List ℕ) (left : Option (List ℕ)) → AsksTo s xs (Some rest)
+        → AsksTo (rest ++ more) ys left → AsksTo (s ++ more) (xs ++ ys) left }
+    ensures over { (xs : List Ask) (s more : List ℕ) → AsksTo s xs None → AsksTo (s ++ more) xs None }
+{}
+
+/// What the first bytes ask comes first in any longer stream.
+pub fn first_of()
+    ensures { (xs ys : List Ask) (s more : List ℕ) (l k : Option (List ℕ)) → AsksTo s xs l → AsksTo (s ++ more) ys k
+        → (zs : List Ask) × (ys ≡ xs ++ zs) }
+{}
+
+/// Bytes that hold a head of at most 64 header lines and 8,192 bytes, or that some bytes can make
+/// one, get neither 400 nor 431 for their head.
+pub fn within_limits()
+    ensures { (s more : List ℕ) (h : RequestHead) (rest : List ℕ) → ReadsRequest (s ++ more) h rest
+        → length h.fields ≤ line_limit → length (print_request h) ≤ head_limit → (¬ (IsRefused s)) × (¬ (IsTooLong s)) }
+{}
