@@ -1,0 +1,4 @@
+pub mod RecordLemmas
+pub mod ColumnLemmas
+pub mod FieldLemmas
+pub mod AnswerLemmas
