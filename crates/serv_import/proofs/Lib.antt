@@ -2,3 +2,4 @@ pub mod RecordLemmas
 pub mod ColumnLemmas
 pub mod FieldLemmas
 pub mod AnswerLemmas
+pub mod UniqueLemmas

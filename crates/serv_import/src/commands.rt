@@ -29,13 +29,13 @@ pub(crate) fn read_fields(fields: &Fields<'_>) -> Result<(Key, Command), u32>
     let Some(form) = read_form(fields.word) else {
         return Err(2);
     };
-    let Some(loan) = read_loan(fields.loan) else {
+    let Some(loan) = spelled_number(fields.loan) else {
         return Err(3);
     };
-    let Some(day) = read_date(fields.day) else {
+    let Some(day) = spelled_day(fields.day) else {
         return Err(4);
     };
-    let Some(amount) = read_money(fields.amount) else {
+    let Some(amount) = spelled_amount(fields.amount) else {
         return Err(5);
     };
     let Some(command) = read_command(form, loan, day, amount, fields.line) else {
@@ -68,7 +68,7 @@ fn has_rows_of(form: Form) -> bool
 }
 
 /// The number that a field spells.
-fn read_loan(text: &[u8]) -> Option<u32>
+fn spelled_number(text: &[u8]) -> Option<u32>
     ensures read { IfSome result (λ n. text.now ≡ text_of_number n) }
     ensures range { IfSome result IsReadNumber }
     ensures fits { IfSome result (λ n. Spells kind.Number text.now) }
@@ -78,7 +78,7 @@ fn read_loan(text: &[u8]) -> Option<u32>
 }
 
 /// The day that a field spells.
-fn read_date(text: &[u8]) -> Option<Day>
+fn spelled_day(text: &[u8]) -> Option<Day>
     ensures read { IfSome result (λ d. text.now ≡ text_of_day d) }
     ensures range { IfSome result IsReadDay }
     ensures fits { IfSome result (λ d. Spells kind.Day text.now) }
@@ -88,7 +88,7 @@ fn read_date(text: &[u8]) -> Option<Day>
 }
 
 /// The amount that a field spells.
-fn read_money(text: &[u8]) -> Option<Cents>
+fn spelled_amount(text: &[u8]) -> Option<Cents>
     ensures read { IfSome result (λ z. text.now ≡ text_of_amount z) }
     ensures range { IfSome result IsReadAmount }
     ensures fits { IfSome result (λ z. Spells kind.Amount text.now) }
@@ -113,7 +113,7 @@ fn read_command(form: Form, loan: u32, day: Day, amount: Cents, line: &[u8]) -> 
             loan,
             day,
             amount,
-            line: read_loan(line)?,
+            line: spelled_number(line)?,
         }),
         Form::Curtail if line.is_empty() => Some(Command::Curtail(loan, day, amount)),
         Form::Payoff if line.is_empty() => Some(Command::Payoff(loan, day, amount)),

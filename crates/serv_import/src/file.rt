@@ -1,8 +1,9 @@
 //! What a file asks.
 
-ghost use Rattle.std.specs.Prelude.{◌≡◌, ◌≤◌, ◌^◌, ◌↔◌, IsTrue, IfOk, IfErr, length};
+ghost use Rattle.std.specs.Prelude.{List, ◌≡◌, ◌≤◌, ◌^◌, ◌↔◌, IsTrue, IfOk, IfErr, length};
 ghost use Rattle.csv.specs.Records.{fields_of};
 ghost use Rattle.serv_import.specs.declared.fault.ImportFault.TheVariants as faults;
+ghost use Rattle.serv_import.specs.declared.row.RowRequest as requests;
 ghost use Rattle.serv_import.specs.Rows.{header};
 ghost use Rattle.serv_import.specs.Fields.{fields_in};
 ghost use Rattle.serv_import.specs.Batches.{HasHeader, IsBatch};
@@ -19,6 +20,7 @@ use std::alloc::Global;
 pub fn batch(alloc: Global, bytes: &[u8]) -> Result<Vec<RowRequest>, ImportFault>
     requires size { length bytes.now ≤ 2 ^ 26 }
     ensures read { IfOk result (λ v. IsBatch bytes.now v.items) }
+    ensures only { (answers : List requests.RowRequest) → IsBatch bytes.now answers → IfOk result (λ v. v.items ≡ answers) }
     ensures header { IfErr result (λ fault. fault ≡ faults.Header → HasHeader bytes.now → ⊥) }
 {
     let records = read_records(alloc, bytes)?;

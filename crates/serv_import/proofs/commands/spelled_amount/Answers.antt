@@ -1,7 +1,7 @@
 use Rattle.std.proofs.Common.{rules, ◌≡◌, IfSome}
 use Rattle.svc_base.specs.Text.{text_of_amount, IsReadAmount}
 use Rattle.serv_import.proofs.FieldLemmas.{amount_fits}
-use Rattle.serv_import.proofs.commands.read_money.Goals as goal
+use Rattle.serv_import.proofs.commands.spelled_amount.Goals as goal
 
 pub returns-clause-fits : goal.returns-clause-fits
 returns-clause-fits c =

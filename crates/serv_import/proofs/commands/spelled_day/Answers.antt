@@ -2,7 +2,7 @@ use Rattle.std.proofs.Common.{rules, ◌≡◌, IfSome}
 use Rattle.svc_base.specs.Calendar.{IsReadDay}
 use Rattle.svc_base.specs.Text.{text_of_day}
 use Rattle.serv_import.proofs.FieldLemmas.{day_fits}
-use Rattle.serv_import.proofs.commands.read_date.Goals as goal
+use Rattle.serv_import.proofs.commands.spelled_day.Goals as goal
 
 pub returns-clause-fits : goal.returns-clause-fits
 returns-clause-fits c =

@@ -2,7 +2,7 @@ use Rattle.std.proofs.Common.{rules, ◌≡◌, IfSome}
 use Rattle.svc_types.specs.Requests.{IsReadNumber}
 use Rattle.svc_base.specs.Text.{text_of_number}
 use Rattle.serv_import.proofs.FieldLemmas.{number_fits}
-use Rattle.serv_import.proofs.commands.read_loan.Goals as goal
+use Rattle.serv_import.proofs.commands.spelled_number.Goals as goal
 
 pub returns-clause-fits : goal.returns-clause-fits
 returns-clause-fits c =
