@@ -18,7 +18,8 @@ IsAnswer number row (request.Bad n column) = (n ≡ number) × IsBadAt row colum
 -- what rows are taken for, the first of them with that number
 abbrev pub AreAnswers : ℕ → List (List (List ℕ)) → List RowRequest → Type 0
 AreAnswers number [] [] = ⊤
-AreAnswers number (row ∷ rows) (answer ∷ answers) = IsAnswer number row answer × AreAnswers (suc number) rows answers
+AreAnswers number (row ∷ rows) (answer ∷ answers) =
+    IsAnswer number row answer × AreAnswers (suc number) rows answers
 AreAnswers number rows answers = ⊥
 
 -- a file begins with the header

@@ -34,14 +34,16 @@ pub record FitsWord (word line : List ℕ) : Type 0 where
   pub named : word ≡ word_of form
   pub fits : FitsLine form line
 
--- the field in a place fits; places are counted from 0
+-- the field in a place of six fits; places are counted from 0
 abbrev pub Fits : List (List ℕ) → ℕ → Type 0
-Fits (key ∷ word ∷ loan ∷ day ∷ amount ∷ line ∷ []) zero = IsKey key
-Fits (key ∷ word ∷ loan ∷ day ∷ amount ∷ line ∷ []) (suc zero) = NamesForm word
-Fits (key ∷ word ∷ loan ∷ day ∷ amount ∷ line ∷ []) (suc (suc zero)) = Spells kind.Number loan
-Fits (key ∷ word ∷ loan ∷ day ∷ amount ∷ line ∷ []) (suc (suc (suc zero))) = Spells kind.Day day
-Fits (key ∷ word ∷ loan ∷ day ∷ amount ∷ line ∷ []) (suc (suc (suc (suc zero)))) = Spells kind.Amount amount
-Fits (key ∷ word ∷ loan ∷ day ∷ amount ∷ line ∷ []) (suc (suc (suc (suc (suc zero))))) = FitsWord word line
+Fits (key ∷ rest) zero = IsKey key
+Fits (key ∷ word ∷ rest) (suc zero) = NamesForm word
+Fits (key ∷ word ∷ loan ∷ rest) (suc (suc zero)) = Spells kind.Number loan
+Fits (key ∷ word ∷ loan ∷ day ∷ rest) (suc (suc (suc zero))) = Spells kind.Day day
+Fits (key ∷ word ∷ loan ∷ day ∷ amount ∷ rest) (suc (suc (suc (suc zero)))) =
+    Spells kind.Amount amount
+Fits (key ∷ word ∷ loan ∷ day ∷ amount ∷ line ∷ rest) (suc (suc (suc (suc (suc zero))))) =
+    FitsWord word line
 Fits row place = ⊤
 
 -- the first place whose field does not fit

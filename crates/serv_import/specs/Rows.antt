@@ -14,15 +14,16 @@ use Rattle.svc_forms.specs.Forms.{word_of}
 abbrev pub header : List (List ℕ)
 header = codes "key" ∷ codes "do" ∷ codes "loan" ∷ codes "day" ∷ codes "amount" ∷ codes "line" ∷ []
 
--- the six fields of a row: a key, a command's word, a loan, a day, an amount, and what else the command names
+-- the six fields of a row
 abbrev pub row_with : List ℕ → Form → ℕ → ℕ → ℤ → List ℕ → List (List ℕ)
 row_with key form loan day amount line =
     key ∷ word_of form ∷ text_of_number loan ∷ text_of_day day ∷ text_of_amount amount ∷ line ∷ []
 
--- the row of a command: its last field is a payment's designation, which is empty for a regular payment, or the
--- line of a disbursement, and else empty; no row asks another command
+-- the row of a command: its last field is a payment's designation, empty for a regular payment, the line of a
+-- disbursement, and else empty; no row asks another command
 abbrev pub row_of : List ℕ → Command → Option (List (List ℕ))
-row_of key (command.Pay loan day amount over) = Some (row_with key form.Pay loan day amount (text_of_designation over))
+row_of key (command.Pay loan day amount over) =
+    Some (row_with key form.Pay loan day amount (text_of_designation over))
 row_of key (command.Curtail loan day amount) = Some (row_with key form.Curtail loan day amount [])
 row_of key (command.Payoff loan day amount) = Some (row_with key form.Payoff loan day amount [])
 row_of key (command.Deposit loan day amount) = Some (row_with key form.Deposit loan day amount [])

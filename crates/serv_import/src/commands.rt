@@ -103,7 +103,8 @@ fn read_command(form: Form, loan: u32, day: Day, amount: Cents, line: &[u8]) -> 
     requires loan { IsReadNumber loan }
     requires day { IsReadDay day }
     requires amount { IsReadAmount amount }
-    ensures fields { IfSome result (λ c. (key : List ℕ) → row_of key c ≡ Some (row_with key form loan day amount line.now)) }
+    ensures fields { IfSome result (λ c. (key : List ℕ)
+        → row_of key c ≡ Some (row_with key form loan day amount line.now)) }
     ensures well { IfSome result IsCommand }
     ensures none { IfNone result (FitsLine form line.now → ⊥) }
 {

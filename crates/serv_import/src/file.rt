@@ -20,7 +20,8 @@ use std::alloc::Global;
 pub fn batch(alloc: Global, bytes: &[u8]) -> Result<Vec<RowRequest>, ImportFault>
     requires size { length bytes.now ≤ 2 ^ 26 }
     ensures read { IfOk result (λ v. IsBatch bytes.now v.items) }
-    ensures only { (answers : List requests.RowRequest) → IsBatch bytes.now answers → IfOk result (λ v. v.items ≡ answers) }
+    ensures only { (answers : List requests.RowRequest) → IsBatch bytes.now answers
+        → IfOk result (λ v. v.items ≡ answers) }
     ensures header { IfErr result (λ fault. fault ≡ faults.Header → HasHeader bytes.now → ⊥) }
 {
     let records = read_records(alloc, bytes)?;
