@@ -14,9 +14,9 @@ use crate::row::{Fields, RowRequest, answers, six_fields};
 use csv::ByteRecord;
 use std::alloc::Global;
 
-/// What the rows of a file ask, in their order: `key,do,loan,day,amount,line` is its first row, and
-/// each other row asks a command or is bad. Errs with `Header` exactly where the first row is another
-/// or there is none.
+/// What the rows of a file of at most 2^26 bytes ask, in their order: its first row is the header
+/// `key,do,loan,day,amount,line`, and each other row asks a command or is bad. Errs with `Header`
+/// exactly where the first row is another or there is none.
 pub fn batch(alloc: Global, bytes: &[u8]) -> Result<Vec<RowRequest>, ImportFault>
     requires size { length bytes.now ≤ 2 ^ 26 }
     ensures read { IfOk result (λ v. IsBatch bytes.now v.items) }

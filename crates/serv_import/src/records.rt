@@ -1,6 +1,6 @@
 //! The records of a file.
 
-ghost use Rattle.std.specs.Prelude.{◌≡◌, ◌≤◌, ◌↔◌, IsTrue, IfOk, length, map};
+ghost use Rattle.std.specs.Prelude.{◌≡◌, ◌≤◌, IfOk, length, map};
 ghost use Rattle.csv.specs.Records.{fields_of};
 ghost use Rattle.serv_import.specs.Batches.{records_of};
 
