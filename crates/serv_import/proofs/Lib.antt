@@ -1,0 +1,5 @@
+pub mod RecordLemmas
+pub mod ColumnLemmas
+pub mod FieldLemmas
+pub mod AnswerLemmas
+pub mod UniqueLemmas
