@@ -9,10 +9,12 @@ abbrev pub number_member : Option ℕ → List ℕ
 number_member None = []
 number_member (Some n) = codes ",\"number\":" ++ text_of_number n
 
--- a body without spaces: its members are the code, the number where there is one, and the text as a JSON string
+-- a body without spaces: its members are the code, the number where there is one, and the text as a
+-- JSON string
 abbrev pub reply_text : ℕ → Option ℕ → List ℕ → List ℕ
 reply_text code n text =
-    codes "{\"code\":" ++ text_of_number code ++ number_member n ++ codes ",\"text\":" ++ quoted text ++ codes "}"
+    codes "{\"code\":" ++ text_of_number code ++ number_member n
+    ++ codes ",\"text\":" ++ quoted text ++ codes "}"
 
 -- the same as a JSON value
 abbrev pub reply_value : ℕ → Option ℕ → List ℕ → Data
