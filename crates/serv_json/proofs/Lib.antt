@@ -1,0 +1,4 @@
+pub mod FieldLemmas
+pub mod ReplyLemmas
+pub mod RequestLemmas
+pub mod MemberLemmas

@@ -1,0 +1,3 @@
+pub mod Bodies
+pub mod FieldsRead
+pub mod Replies
