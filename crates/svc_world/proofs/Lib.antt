@@ -10,3 +10,4 @@ pub mod CloseLemmas
 pub mod SentSumLemmas
 pub mod CashLemmas
 pub mod RemittedLemmas
+pub mod ChangedWorlds
