@@ -82,7 +82,7 @@ closed_since : (reports : List Sealed) (m p : ℕ) → AreConsecutive reports �
 closed_since [] m p consecutive first low high = absurd (omega arith)
 closed_since (r ∷ rs) m p consecutive first low high = closed_to_end (r ∷ rs) r.month p consecutive refl (omega arith) high
 
-first_by : (o : Option ℕ) (m b : ℕ) (loans : List Held) (l : Held) → IfSome o (λ first. All (λ (k : Held). first ≤ boarded_month k) loans) → find_loan l.id loans ≡ Some l → boarded_month l ≤ m → IfSome o (λ first. first ≤ m)
+pub first_by : (o : Option ℕ) (m b : ℕ) (loans : List Held) (l : Held) → IfSome o (λ first. All (λ (k : Held). first ≤ boarded_month k) loans) → find_loan l.id loans ≡ Some l → boarded_month l ≤ m → IfSome o (λ first. first ≤ m)
 first_by None m b loans l h e le = tt
 first_by (Some first) m b loans l h e le = let low : first ≤ boarded_month l = found_all (λ (k : Held). first ≤ boarded_month k) l.id loans l e h in omega arith
 

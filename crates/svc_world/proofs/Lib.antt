@@ -11,3 +11,6 @@ pub mod SentSumLemmas
 pub mod CashLemmas
 pub mod RemittedLemmas
 pub mod ChangedWorlds
+pub mod CaseLemmas
+pub mod EntryWorlds
+pub mod LoanWorlds
