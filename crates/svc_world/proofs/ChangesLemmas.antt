@@ -39,7 +39,7 @@ pub record IsSameDue (b d : MonthDue) : Type 0 where
   pub interest : b.interest ≡ d.interest
   pub principal : b.principal ≡ d.principal
 
-equal_due : (b d : MonthDue) → d ≡ b → IsSameDue b d
+pub equal_due : (b d : MonthDue) → d ≡ b → IsSameDue b d
 equal_due b d e = record { interest = ap (λ (x : MonthDue). x.interest) (sym e); principal = ap (λ (x : MonthDue). x.principal) (sym e) }
 
 pub adjusts_none : (n id : ℕ) (f g : ℕ → MonthDue) (months : List ℕ) → All (λ p. IsSameDue (f p) (g p)) months → adjustments_of n id (map f months) (map g months) ≡ []

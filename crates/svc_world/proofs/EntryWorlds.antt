@@ -69,7 +69,7 @@ pub record IsEntry (w : World) (l : Held) (d : ℕ) (a : Act) : Type 0 where
   pub covered : (refunded l.account +ℤ refunded_by a) ≤ℤ (received l.account +ℤ brought a)
   pub room : HasRoom w (month_of d)
 
-entry_change : (n d : ℕ) (w : World) (a : Act) (l : Held) → IsHeld n w.today l → IsEntry w l d a → IsChange (n + 1) w.today (month_of d) (with_entry (entry (n + 1) d a)) l
+pub entry_change : (n d : ℕ) (w : World) (a : Act) (l : Held) → IsHeld n w.today l → IsEntry w l d a → IsChange (n + 1) w.today (month_of d) (with_entry (entry (n + 1) d a)) l
 entry_change n d w a l h e =
     let account = h.limited.account in
     let may : MayPost l.account (entry (n + 1) d a) = record {

@@ -14,3 +14,6 @@ pub mod ChangedWorlds
 pub mod CaseLemmas
 pub mod EntryWorlds
 pub mod LoanWorlds
+pub mod AnalysisLemmas
+pub mod AnalysedWorlds
+pub mod DayWorlds
