@@ -17,3 +17,4 @@ pub mod LoanWorlds
 pub mod AnalysisLemmas
 pub mod AnalysedWorlds
 pub mod DayWorlds
+pub mod BoardWorlds
