@@ -18,3 +18,4 @@ pub mod AnalysisLemmas
 pub mod AnalysedWorlds
 pub mod DayWorlds
 pub mod BoardWorlds
+pub mod ClosedWorlds
