@@ -18,8 +18,9 @@ use Rattle.svc_world.specs.Refusals.{refusal_of, case_of, full_of_entries, adjus
 use Rattle.svc_world.specs.Worlds.{IsHeld, IsWorld}
 use Rattle.svc_world.proofs.AnalysisLemmas.{IsSettlement, is_settlement}
 use Rattle.svc_world.proofs.CaseLemmas.{past, past_of, HasRoom, room_left}
-use Rattle.svc_world.proofs.ChangedWorlds.{IsChange, world_with, change_keeps}
-use Rattle.svc_world.proofs.EntryWorlds.{named_loan, room_enough, IsEntry, entry_change, asked}
+use Rattle.svc_world.proofs.NamedLoans.{named_loan, asked}
+use Rattle.svc_world.proofs.QuietWorlds.{IsQuiet, quiet_keeps, today_open}
+use Rattle.svc_world.proofs.EntryWorlds.{IsEntry, entry_change}
 
 -- an analysis brings in nothing
 brings_none : (x y : ℤ) (s : Settled) → (x +ℤ s.refund) ≤ℤ y → (x +ℤ refunded_by (Analyse s)) ≤ℤ (y +ℤ brought (Analyse s))
@@ -30,9 +31,8 @@ analysed_entry n w l plan h held few room it =
     let after = held.limited.account.after in
     record { entries = few; since = subst (λ t. l.account.terms.boarded ≤ t) held.today after; until = omega arith; exists = h.today.exists; act = it.act; named = it.named; covered = brings_none (refunded l.account) (received l.account) (settlement_of l plan) it.covered; room = room }
 
-pub analyse_keeps : (n id : ℕ) (plan : Plan) (w : World) → IsWorld n w → refusal_of n w (command.Analyse id plan) ≡ None → IsWorld (n + 1) (after (n + 1) w (command.Analyse id plan))
-unfolding after loans_after seals_after
-analyse_keeps n id plan w h e =
+pub analyse_quiet : (n id : ℕ) (plan : Plan) (w : World) → IsWorld n w → refusal_of n w (command.Analyse id plan) ≡ None → IsQuiet n w id (with_analysis (n + 1) w.today plan)
+analyse_quiet n id plan w h e =
     let q = asked n w id (analyse_cases w plan) (command.Analyse id plan) refl e in
     let l = q.loan.loan in
     let is = named_loan n w id l h q.loan.found in
@@ -43,7 +43,8 @@ analyse_keeps n id plan w h e =
     let room = room_left w (month_of w.today) two.rest in
     let it = is_settlement n w.today l plan is.held two.no in
     let ch = entry_change n w.today w (Analyse (settlement_of l plan)) l is.held (analysed_entry n w l plan h is.held few room it) in
-    let f = with_analysis (n + 1) w.today plan in
-    let here : IsChange (n + 1) w.today (month_of w.today) f l = record { number = λ k. refl; boarded = λ k. refl; agree = ch.agree; since = ch.since; held = ch.held } in
-    subst (λ i. IsWorld (n + 1) (world_with w i f (n + 1))) is.number
-      (change_keeps n (month_of w.today) w f l h q.few is.found here (room_enough n (month_of w.today) w l h is.found ch.since room))
+    record { few = q.few; loan = l; found = q.loan.found; month = month_of w.today; end = today_open n w h; change = record { number = λ k. refl; boarded = λ k. refl; agree = ch.agree; since = ch.since; held = ch.held } }
+
+pub analyse_keeps : (n id : ℕ) (plan : Plan) (w : World) → IsWorld n w → refusal_of n w (command.Analyse id plan) ≡ None → IsWorld (n + 1) (after (n + 1) w (command.Analyse id plan))
+unfolding after loans_after seals_after
+analyse_keeps n id plan w h e = quiet_keeps n id w (with_analysis (n + 1) w.today plan) h (analyse_quiet n id plan w h e)

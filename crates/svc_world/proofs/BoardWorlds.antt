@@ -37,7 +37,7 @@ use Rattle.svc_world.proofs.LoanListLemmas.{rises, all_found, find_boarded, with
 use Rattle.svc_world.proofs.CaseLemmas.{past, past_of, past_last}
 use Rattle.svc_world.proofs.ChangedWorlds.{held_more}
 use Rattle.svc_world.proofs.DayWorlds.{none_pending}
-use Rattle.svc_world.proofs.EntryWorlds.{not_full}
+use Rattle.svc_world.proofs.NamedLoans.{not_full}
 
 -- ---- terms without a fault
 

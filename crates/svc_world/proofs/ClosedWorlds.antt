@@ -37,7 +37,7 @@ use Rattle.svc_world.proofs.SentSumLemmas.{all_passed}
 use Rattle.svc_world.proofs.LoanListLemmas.{rises, IsFound, all_found}
 use Rattle.svc_world.proofs.CaseLemmas.{past}
 use Rattle.svc_world.proofs.ChangedWorlds.{held_more}
-use Rattle.svc_world.proofs.EntryWorlds.{not_full}
+use Rattle.svc_world.proofs.NamedLoans.{not_full}
 
 -- ---- the month that is to be closed
 

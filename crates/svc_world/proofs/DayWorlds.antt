@@ -28,25 +28,10 @@ use Rattle.svc_world.proofs.ChangesLemmas.{IsSameDue, equal_due, changes_kept, c
 use Rattle.svc_world.proofs.LoanListLemmas.{rises, all_found, mapped_numbers, rises_by, length_by, find_mapped, find_mapped_none, found_all}
 use Rattle.svc_world.proofs.CaseLemmas.{past}
 use Rattle.svc_world.proofs.ChangedWorlds.{held_more}
-use Rattle.svc_world.proofs.EntryWorlds.{not_full}
+use Rattle.svc_world.proofs.NamedLoans.{not_full}
+use Rattle.svc_world.proofs.QuietWorlds.{after_month}
 
 -- ---- a later business day
-
--- a day after a month's end is of a later month
-after_month : (last d : ℕ) → IsDay d → last_day last < d → last < month_of d
-after_month last d exists lt =
-    elim (month_of d == last) as (λ v. (month_of d == last) ≡ v → last < month_of d) [
-      | true ↦ λ e.
-          let is : month_of d ≡ last = grind (arith, nat_tests) in
-          let same : month_length (month_of d) ≡ month_length last = ap month_length is in
-          omega (arith, exists, lt, same, is)
-      | false ↦ λ e.
-          let apart : month_of d ≡ last → ⊥ = grind (arith, nat_tests) in
-          elim (nat_lt last (month_of d)) as (λ v. nat_lt last (month_of d) ≡ v → last < month_of d) [
-            | true ↦ λ t. grind (arith, nat_tests)
-            | false ↦ λ t. let le : month_of d ≤ last = grind (arith, nat_tests) in grind (arith)
-          ] refl
-    ] refl
 
 -- all closed months are before the business day's
 closed_early : (n : ℕ) (w : World) → IsWorld n w → All (λ p. p < month_of w.today) (months_of w.seals.reports)

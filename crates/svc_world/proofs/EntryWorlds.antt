@@ -30,31 +30,9 @@ use Rattle.svc_world.proofs.LimitedLemmas.{posted_limited, available_covered}
 use Rattle.svc_world.proofs.AgreeLemmas.{entry_agrees}
 use Rattle.svc_world.proofs.LoanListLemmas.{found_id, found_all}
 use Rattle.svc_world.proofs.CaseLemmas.{IsPast, past, IsOnLoan, past_loan, IsEntered, HasRoom, IsDated, dated, IsPresent, present, closed_enough}
+use Rattle.svc_world.proofs.NamedLoans.{named_loan, room_enough, IsAsked, asked}
+use Rattle.svc_world.proofs.QuietWorlds.{IsQuiet, quiet_keeps, today_open}
 use Rattle.svc_world.proofs.ChangedWorlds.{IsChange, closed_months, first_by, world_with, change_keeps}
-
--- ---- a loan that is there
-
--- a loan that a command names, with what holds of it
-pub record IsNamed (n : ℕ) (w : World) (id : ℕ) (l : Held) : Type 0 where
-  pub found : find_loan l.id w.loans ≡ Some l
-  pub number : l.id ≡ id
-  pub held : IsHeld n w.today l
-
-pub named_loan : (n : ℕ) (w : World) (id : ℕ) (l : Held) → IsWorld n w → find_loan id w.loans ≡ Some l → IsNamed n w id l
-named_loan n w id l h e =
-    let number = found_id id w.loans l e in
-    record { found = ap (λ i. find_loan i w.loans) number ∙ e; number = number; held = found_all (IsHeld n w.today) id w.loans l e h.held }
-
--- fewer commands were accepted than there may be
-pub not_full : (n : ℕ) → (full_of_commands n).holds ≡ false → n < 1_000_000
-not_full n e = grind (arith, nat_tests)
-
--- there is room for the adjustments of all closed months from one on
-pub room_enough : (n m : ℕ) (w : World) (l : Held) → IsWorld n w → find_loan l.id w.loans ≡ Some l → boarded_month l ≤ m → HasRoom w m → count_held w.seals + closed_months w.seals.reports m ≤ 4_000_000
-room_enough n m w l h e since room =
-    let first = first_by (first_month w.seals.reports) m 0 w.loans l h.reports.from_first e since in
-    let enough = closed_enough w.seals.reports m h.reports.sealed.consecutive first in
-    omega (arith, room, enough)
 
 -- ---- one more entry
 
@@ -114,17 +92,6 @@ dated_entry w d c asked l a h exists e act named none brings =
     record { entries = e.entries; since = e.since; until = e.until; exists = exists; act = act; named = named; covered = omega (arith, ints, covered, none, brings); room = e.room }
 
 -- ---- each command of an entry
-
--- what an accepted command on a loan leaves: there may be one more, and the loan is there
-pub record IsAsked (n : ℕ) (w : World) (id : ℕ) (rules : Held → List Case) : Type 0 where
-  pub few : n < 1_000_000
-  pub loan : IsOnLoan w id rules
-
-pub asked : (n : ℕ) (w : World) (id : ℕ) (rules : Held → List Case) (c : Command) → cases_by_command w c ≡ on_loan w id rules → refusal_of n w c ≡ None → IsAsked n w id rules
-unfolding refusal_of
-asked n w id rules c is e =
-    let p = past (full_of_commands n) (cases_by_command w c) e in
-    record { few = not_full n p.no; loan = past_loan w id rules (ap first_of (sym is) ∙ p.rest) }
 
 pub pay_keeps : (n id d : ℕ) (w : World) (c : ℤ) (over : Designation) → IsWorld n w → IsDay d → refusal_of n w (command.Pay id d c over) ≡ None → IsWorld (n + 1) (after (n + 1) w (command.Pay id d c over))
 unfolding after loans_after seals_after
@@ -186,25 +153,37 @@ present_entry n w c asked l a h exists e act named covered =
     let after = h.limited.account.after in
     record { entries = e.entries; since = subst (λ t. l.account.terms.boarded ≤ t) h.today after; until = omega arith; exists = exists; act = act; named = named; covered = covered; room = e.room }
 
-pub refund_keeps : (n id : ℕ) (w : World) (c : ℤ) → IsWorld n w → refusal_of n w (command.Refund id c) ≡ None → IsWorld (n + 1) (after (n + 1) w (command.Refund id c))
-unfolding after loans_after seals_after
-refund_keeps n id w c h e =
+-- an entry of the business day changes no closed month
+pub present_quiet : (n id : ℕ) (w : World) (a : Act) (l : Held) → IsWorld n w → n < 1_000_000 → find_loan id w.loans ≡ Some l → IsEntry w l w.today a → IsQuiet n w id (with_entry (entry (n + 1) w.today a))
+present_quiet n id w a l h few found e =
+    let is = named_loan n w id l h found in
+    record { few = few; loan = l; found = found; month = month_of w.today; end = today_open n w h; change = entry_change n w.today w a l is.held e }
+
+pub refund_quiet : (n id : ℕ) (w : World) (c : ℤ) → IsWorld n w → refusal_of n w (command.Refund id c) ≡ None → IsQuiet n w id (with_entry (entry (n + 1) w.today (Refund c)))
+refund_quiet n id w c h e =
     let q = asked n w id (present_cases w c (over_refund c)) (command.Refund id c) refl e in
     let l = q.loan.loan in
     let held = (named_loan n w id l h q.loan.found).held in
     let it = present w c (over_refund c) l q.loan.rest in
     let le = from_not_int_lt (available (books_now l)) c it.own in
     let covered = available_covered l.account c held.limited le in
-    entry_keeps n w.today id w (Refund c) l h q.few q.loan.found
+    present_quiet n id w (Refund c) l h q.few q.loan.found
       (present_entry n w c (over_refund c l) l (Refund c) held h.today.exists it (entered_sum c it.amount) (entered_named c it.amount) (omega (arith, ints, covered)))
 
-pub waive_keeps : (n id : ℕ) (w : World) (c : ℤ) → IsWorld n w → refusal_of n w (command.Waive id c) ≡ None → IsWorld (n + 1) (after (n + 1) w (command.Waive id c))
-unfolding after loans_after seals_after
-waive_keeps n id w c h e =
+pub waive_quiet : (n id : ℕ) (w : World) (c : ℤ) → IsWorld n w → refusal_of n w (command.Waive id c) ≡ None → IsQuiet n w id (with_entry (entry (n + 1) w.today (Waive c)))
+waive_quiet n id w c h e =
     let q = asked n w id (present_cases w c (over_waiver c)) (command.Waive id c) refl e in
     let l = q.loan.loan in
     let held = (named_loan n w id l h q.loan.found).held in
     let it = present w c (over_waiver c) l q.loan.rest in
     let covered = held.limited.covered in
-    entry_keeps n w.today id w (Waive c) l h q.few q.loan.found
+    present_quiet n id w (Waive c) l h q.few q.loan.found
       (present_entry n w c (over_waiver c l) l (Waive c) held h.today.exists it (entered_sum c it.amount) (entered_named c it.amount) (omega (arith, ints, covered)))
+
+pub refund_keeps : (n id : ℕ) (w : World) (c : ℤ) → IsWorld n w → refusal_of n w (command.Refund id c) ≡ None → IsWorld (n + 1) (after (n + 1) w (command.Refund id c))
+unfolding after loans_after seals_after
+refund_keeps n id w c h e = quiet_keeps n id w (with_entry (entry (n + 1) w.today (Refund c))) h (refund_quiet n id w c h e)
+
+pub waive_keeps : (n id : ℕ) (w : World) (c : ℤ) → IsWorld n w → refusal_of n w (command.Waive id c) ≡ None → IsWorld (n + 1) (after (n + 1) w (command.Waive id c))
+unfolding after loans_after seals_after
+waive_keeps n id w c h e = quiet_keeps n id w (with_entry (entry (n + 1) w.today (Waive c))) h (waive_quiet n id w c h e)

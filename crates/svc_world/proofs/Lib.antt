@@ -12,6 +12,8 @@ pub mod CashLemmas
 pub mod RemittedLemmas
 pub mod ChangedWorlds
 pub mod CaseLemmas
+pub mod NamedLoans
+pub mod QuietWorlds
 pub mod EntryWorlds
 pub mod LoanWorlds
 pub mod AnalysisLemmas

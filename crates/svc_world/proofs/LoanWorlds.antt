@@ -32,7 +32,8 @@ use Rattle.svc_world.proofs.LimitedLemmas.{reversed_limited}
 use Rattle.svc_world.proofs.AgreeLemmas.{AgreeTo, reversal_agrees, type_agrees}
 use Rattle.svc_world.proofs.CaseLemmas.{past, past_of, IsPastLast, past_last, HasRoom, room_left}
 use Rattle.svc_world.proofs.ChangedWorlds.{IsChange, closed_months, world_with, change_keeps}
-use Rattle.svc_world.proofs.EntryWorlds.{named_loan, room_enough, asked}
+use Rattle.svc_world.proofs.NamedLoans.{named_loan, room_enough, asked}
+use Rattle.svc_world.proofs.QuietWorlds.{IsQuiet, quiet_keeps}
 
 -- ---- a reversal
 
@@ -94,14 +95,6 @@ reverse_keeps n id number w h e =
       (change_keeps n m w f l h q.few is.found ch (room_enough n m w l h is.found ch.since it.room))
 
 -- ---- changes from a month on that is not closed
-
--- no month is closed from the end on
-open_keeps : (n id m : ℕ) (w : World) (f : Held → Held) (l : Held) → IsWorld n w → n < 1_000_000 → find_loan id w.loans ≡ Some l → month_after (last_month w.seals.reports) ≤ m → IsChange (n + 1) w.today m f l → IsWorld (n + 1) (world_with w id f (n + 1))
-open_keeps n id m w f l h few found end ch =
-    let is = named_loan n w id l h found in
-    let most = h.reports.held in
-    subst (λ i. IsWorld (n + 1) (world_with w i f (n + 1))) is.number
-      (change_keeps n m w f l h few is.found ch (omega (arith, most, end)))
 
 -- the first month that is neither closed nor before a loan was boarded
 abbrev open_month : World → Held → ℕ
@@ -174,30 +167,34 @@ few_lines line l most full = few (has_line line.id l) (length (with_line line l.
     few true k j e most full = omega (arith, e)
     few false k j e most full = let lt : j < 16 = grind (arith, nat_tests) in omega (arith, e)
 
-pub line_keeps : (n id : ℕ) (w : World) (line : Line) → IsWorld n w → refusal_of n w (command.Line id line.id line.kind line.month line.every line.cents) ≡ None → IsWorld (n + 1) (after (n + 1) w (command.Line id line.id line.kind line.month line.every line.cents))
-unfolding after loans_after seals_after
-line_keeps n id w line h e =
+pub line_quiet : (n id : ℕ) (w : World) (line : Line) → IsWorld n w → refusal_of n w (command.Line id line.id line.kind line.month line.every line.cents) ≡ None → IsQuiet n w id (with_bill line)
+line_quiet n id w line h e =
     let q = asked n w id (line_cases line) (command.Line id line.id line.kind line.month line.every line.cents) refl e in
     let l = q.loan.loan in
     let is = named_loan n w id l h q.loan.found in
     let one = past (case (not (has_line line.id l) && nat_le 16 (length l.lines)) (Full Lines)) (case_of BadLine (line_fault line)) q.loan.rest in
     let two = no_fault (line_fault line) one.rest in
     let are = are_with line l.lines is.held.lines (bill_from line two) (few_lines line l is.held.lines.few one.no) in
-    open_keeps n id (open_month w l) w (with_bill line) l h q.few q.loan.found (omega arith)
-      (lines_change n w (with_bill line) l (with_line line l.lines) is.held refl (λ k. refl) (λ k. refl) (same_account (open_month w l) l (with_line line l.lines)) are)
+    record { few = q.few; loan = l; found = q.loan.found; month = open_month w l; end = omega arith; change = lines_change n w (with_bill line) l (with_line line l.lines) is.held refl (λ k. refl) (λ k. refl) (same_account (open_month w l) l (with_line line l.lines)) are }
   where
     no_fault : (o : Option LineWhy) → first_of (case_of BadLine o) ≡ None → o ≡ None
     no_fault None e = refl
     no_fault (Some x) e = absurd (cc)
 
-pub drop_keeps : (n id line : ℕ) (w : World) → IsWorld n w → refusal_of n w (command.Drop id line) ≡ None → IsWorld (n + 1) (after (n + 1) w (command.Drop id line))
+pub line_keeps : (n id : ℕ) (w : World) (line : Line) → IsWorld n w → refusal_of n w (command.Line id line.id line.kind line.month line.every line.cents) ≡ None → IsWorld (n + 1) (after (n + 1) w (command.Line id line.id line.kind line.month line.every line.cents))
 unfolding after loans_after seals_after
-drop_keeps n id line w h e =
+line_keeps n id w line h e = quiet_keeps n id w (with_bill line) h (line_quiet n id w line h e)
+
+pub drop_quiet : (n id line : ℕ) (w : World) → IsWorld n w → refusal_of n w (command.Drop id line) ≡ None → IsQuiet n w id (without_bill line)
+drop_quiet n id line w h e =
     let q = asked n w id (λ l. no_such_line line l ∷ []) (command.Drop id line) refl e in
     let l = q.loan.loan in
     let is = named_loan n w id l h q.loan.found in
-    open_keeps n id (open_month w l) w (without_bill line) l h q.few q.loan.found (omega arith)
-      (lines_change n w (without_bill line) l (without_bill line l).lines is.held refl (λ k. refl) (λ k. refl) (same_account (open_month w l) l (without_bill line l).lines) (are_without line l.lines is.held.lines))
+    record { few = q.few; loan = l; found = q.loan.found; month = open_month w l; end = omega arith; change = lines_change n w (without_bill line) l (without_bill line l).lines is.held refl (λ k. refl) (λ k. refl) (same_account (open_month w l) l (without_bill line l).lines) (are_without line l.lines is.held.lines) }
+
+pub drop_keeps : (n id line : ℕ) (w : World) → IsWorld n w → refusal_of n w (command.Drop id line) ≡ None → IsWorld (n + 1) (after (n + 1) w (command.Drop id line))
+unfolding after loans_after seals_after
+drop_keeps n id line w h e = quiet_keeps n id w (without_bill line) h (drop_quiet n id line w h e)
 
 -- ---- a change of type
 
@@ -215,9 +212,8 @@ type_held n from kind w l h few since = record {
   since = All-push (λ (c : TypeChange). boarded_month l ≤ c.from) l.types (type_change from kind) h.since since;
 }
 
-pub retype_keeps : (n id from : ℕ) (kind : RemitType) (w : World) → IsWorld n w → refusal_of n w (command.Retype id from kind) ≡ None → IsWorld (n + 1) (after (n + 1) w (command.Retype id from kind))
-unfolding after loans_after seals_after
-retype_keeps n id from kind w h e =
+pub retype_quiet : (n id from : ℕ) (kind : RemitType) (w : World) → IsWorld n w → refusal_of n w (command.Retype id from kind) ≡ None → IsQuiet n w id (with_type (type_change from kind))
+retype_quiet n id from kind w h e =
     let q = asked n w id (retype_cases w from) (command.Retype id from kind) refl e in
     let l = q.loan.loan in
     let is = named_loan n w id l h q.loan.found in
@@ -228,5 +224,8 @@ retype_keeps n id from kind w h e =
     let few : length l.types < 64 = grind (arith, nat_tests) in
     let since : boarded_month l ≤ from = grind (arith, nat_tests) in
     let later = past_last ClosedMonth w from [] (ap first_of (append-nil (with_last ClosedMonth w from)) ∙ two.rest) in
-    open_keeps n id from w (with_type (type_change from kind)) l h q.few q.loan.found (end_by (last_month w.seals.reports) from later.later)
-      (record { number = λ k. refl; boarded = λ k. refl; agree = type_agrees l (type_change from kind); since = since; held = type_held n from kind w l is.held few since })
+    record { few = q.few; loan = l; found = q.loan.found; month = from; end = end_by (last_month w.seals.reports) from later.later; change = record { number = λ k. refl; boarded = λ k. refl; agree = type_agrees l (type_change from kind); since = since; held = type_held n from kind w l is.held few since } }
+
+pub retype_keeps : (n id from : ℕ) (kind : RemitType) (w : World) → IsWorld n w → refusal_of n w (command.Retype id from kind) ≡ None → IsWorld (n + 1) (after (n + 1) w (command.Retype id from kind))
+unfolding after loans_after seals_after
+retype_keeps n id from kind w h e = quiet_keeps n id w (with_type (type_change from kind)) h (retype_quiet n id from kind w h e)
