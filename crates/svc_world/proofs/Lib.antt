@@ -21,3 +21,4 @@ pub mod AnalysedWorlds
 pub mod DayWorlds
 pub mod BoardWorlds
 pub mod ClosedWorlds
+pub mod HistoryLemmas
