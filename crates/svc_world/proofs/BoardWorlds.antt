@@ -182,10 +182,18 @@ board_world n w l h few room none late held =
       add_up = same_adds w.seals w.loans (with_loan l w.loans) (λ id p lt. same_due_boarded l w.loans id p none (closed_before n w (boarded_month l) p h late lt)) h.add_up;
     }
 
-pub board_keeps : (n id : ℕ) (t : Terms) (w : World) → IsWorld n w → IsReadDay t.boarded → refusal_of n w (command.Board id t) ≡ None → IsWorld (n + 1) (after (n + 1) w (command.Board id t))
-unfolding after loans_after seals_after refusal_of
-board_keeps n id t w h read e =
-    let l = boarded id t w.today in
+-- what the rules of boarding leave
+pub record IsBoarding (n : ℕ) (w : World) (id : ℕ) (t : Terms) : Type 0 where
+  pub few : n < 1_000_000
+  pub room : length w.loans < 12_000
+  pub new : find_loan id w.loans ≡ None
+  pub terms : IsSound t
+  pub late : IfSome (last_month w.seals.reports) (λ last. last < month_of t.boarded)
+  pub until : t.boarded ≤ w.today
+
+pub boarding : (n id : ℕ) (t : Terms) (w : World) → refusal_of n w (command.Board id t) ≡ None → IsBoarding n w id t
+unfolding refusal_of
+boarding n id t w e =
     let one = past (full_of_commands n) (board_cases w id t) e in
     let two = past (case (nat_le 12_000 (length w.loans)) (Full Loans)) (case (is_some (find_loan id w.loans)) LoanExists ∷ (case_of BadTerms (term_fault t) ++ (with_last BoardedLate w (month_of t.boarded) ++ (future_dated w t.boarded ∷ [])))) one.rest in
     let three = past (case (is_some (find_loan id w.loans)) LoanExists) (case_of BadTerms (term_fault t) ++ (with_last BoardedLate w (month_of t.boarded) ++ (future_dated w t.boarded ∷ []))) two.rest in
@@ -194,15 +202,31 @@ board_keeps n id t w h read e =
     let six = past (future_dated w t.boarded) [] five.rest in
     let n2 = two.no in
     let n6 = six.no in
-    let room : length w.loans < 12_000 = grind (arith, nat_tests) in
-    let until : t.boarded ≤ w.today = grind (arith, nat_tests) in
-    let none = absent (find_loan id w.loans) three.no in
-    let may : MayBegin t w.today = record { terms = is_sound t four.no; boarded = read; after = until } in
-    let no_changes = changes_boarded (n + 1) (months_of w.seals.reports) w.loans w.loans l (all_found w.loans h.rising) none
-        (All-map (λ p. p < boarded_month l) (λ (r : Sealed). r.month) w.seals.reports (λ k d lt. closed_before n w (boarded_month l) (get_or w.seals.reports k d).month h five.later (h.reports.sealed.reports k d lt).high)) in
-    subst (λ s. IsWorld (n + 1) (boarded_with w l s)) (sym (none_pending w.seals (changes_of (n + 1) (months_of w.seals.reports) w.loans (with_loan l w.loans)) no_changes))
-      (board_world n w l h (not_full n one.no) room none five.later (new_held n id t w may))
+    record {
+      few = not_full n one.no;
+      room = grind (arith, nat_tests);
+      new = absent (find_loan id w.loans) three.no;
+      terms = is_sound t four.no;
+      late = five.later;
+      until = grind (arith, nat_tests);
+    }
   where
     absent : (o : Option Held) → is_some o ≡ false → o ≡ None
     absent None e = refl
     absent (Some x) e = absurd (cc)
+
+-- nor has a boarding
+pub board_none : (n id : ℕ) (t : Terms) (w : World) → IsWorld n w → IsBoarding n w id t → changes_of (n + 1) (months_of w.seals.reports) w.loans (with_loan (boarded id t w.today) w.loans) ≡ []
+board_none n id t w h b =
+    let l = boarded id t w.today in
+    changes_boarded (n + 1) (months_of w.seals.reports) w.loans w.loans l (all_found w.loans h.rising) b.new
+      (All-map (λ p. p < boarded_month l) (λ (r : Sealed). r.month) w.seals.reports (λ k d lt. closed_before n w (boarded_month l) (get_or w.seals.reports k d).month h b.late (h.reports.sealed.reports k d lt).high))
+
+pub board_keeps : (n id : ℕ) (t : Terms) (w : World) → IsWorld n w → IsReadDay t.boarded → refusal_of n w (command.Board id t) ≡ None → IsWorld (n + 1) (after (n + 1) w (command.Board id t))
+unfolding after loans_after seals_after
+board_keeps n id t w h read e =
+    let l = boarded id t w.today in
+    let b = boarding n id t w e in
+    let may : MayBegin t w.today = record { terms = b.terms; boarded = read; after = b.until } in
+    subst (λ s. IsWorld (n + 1) (boarded_with w l s)) (sym (none_pending w.seals (changes_of (n + 1) (months_of w.seals.reports) w.loans (with_loan l w.loans)) (board_none n id t w h b)))
+      (board_world n w l h b.few b.room b.new b.late (new_held n id t w may))

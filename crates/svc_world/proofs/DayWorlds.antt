@@ -127,18 +127,33 @@ day_world n d w h few read le =
 pub none_pending : (s : Reporting) (xs : List Adjustment) → xs ≡ [] → reporting s.reports (s.pending ++ xs) ≡ s
 none_pending s xs none = ap (λ ys. reporting s.reports (s.pending ++ ys)) none ∙ ap (λ ys. reporting s.reports ys) (append-nil s.pending)
 
-pub day_keeps : (n d : ℕ) (w : World) → IsWorld n w → IsReadDay d → refusal_of n w (command.Day d) ≡ None → IsWorld (n + 1) (after (n + 1) w (command.Day d))
-unfolding after loans_after seals_after refusal_of
-day_keeps n d w h read e =
+-- the day is not before the business day
+day_later : (n d : ℕ) (w : World) → refusal_of n w (command.Day d) ≡ None → w.today ≤ d × n < 1_000_000
+unfolding refusal_of
+day_later n d w e =
     let p = past (full_of_commands n) (cases_by_command w (command.Day d)) e in
     let later = (past (case (nat_le d w.today) (DayNotLater w.today)) [] p.rest).no in
-    let le : w.today ≤ d = grind (arith, nat_tests) in
-    let none = changes_mapped (n + 1) (month_of w.today) (months_of w.seals.reports) w.loans w.loans (on_day d) (all_found w.loans h.rising) (λ k. refl)
-        (λ k x lt. day_agrees_to n d w (get_or w.loans k x) le (h.held k x lt))
-        (λ k x lt. boarded_by n w (get_or w.loans k x) (h.held k x lt))
-        (closed_early n w h) in
-    subst (λ s. IsWorld (n + 1) (on_day_of d w s)) (sym (none_pending w.seals (changes_of (n + 1) (months_of w.seals.reports) w.loans (map (on_day d) w.loans)) none))
-      (day_world n d w h (not_full n p.no) read le)
+    (grind (arith, nat_tests), not_full n p.no)
+
+-- a business day has no adjustments
+pub day_none : (n d : ℕ) (w : World) → IsWorld n w → refusal_of n w (command.Day d) ≡ None → changes_of (n + 1) (months_of w.seals.reports) w.loans (map (on_day d) w.loans) ≡ []
+day_none n d w h e =
+    let le = (day_later n d w e).0 in
+    changes_mapped (n + 1) (month_of w.today) (months_of w.seals.reports) w.loans w.loans (on_day d) (all_found w.loans h.rising) (λ k. refl)
+      (λ k x lt. day_agrees_to n d w (get_or w.loans k x) le (h.held k x lt))
+      (λ k x lt. boarded_by n w (get_or w.loans k x) (h.held k x lt))
+      (closed_early n w h)
+
+pub day_keeps : (n d : ℕ) (w : World) → IsWorld n w → IsReadDay d → refusal_of n w (command.Day d) ≡ None → IsWorld (n + 1) (after (n + 1) w (command.Day d))
+unfolding after loans_after seals_after
+day_keeps n d w h read e =
+    let le = day_later n d w e in
+    subst (λ s. IsWorld (n + 1) (on_day_of d w s)) (sym (none_pending w.seals (changes_of (n + 1) (months_of w.seals.reports) w.loans (map (on_day d) w.loans)) (day_none n d w h e)))
+      (day_world n d w h le.1 read le.0)
+
+-- where no loan changes there are no adjustments
+pub kept_none : (n : ℕ) (w : World) → IsWorld n w → changes_of (n + 1) (months_of w.seals.reports) w.loans w.loans ≡ []
+kept_none n w h = changes_kept (n + 1) (months_of w.seals.reports) w.loans w.loans (all_found w.loans h.rising)
 
 -- ---- a remitted month
 
@@ -184,7 +199,7 @@ remit_keeps n p w h e =
     let is : p ≡ expected_remit w = same p (expected_remit w) three.no in
     let by_last : is_closed_by (last_month w.seals.reports) (expected_remit w) ≡ true = ap (is_closed_by (last_month w.seals.reports)) (sym is) ∙ yes (is_closed_by (last_month w.seals.reports) p) two.no in
     let closed = remitted_closed w.seals.reports w.remitted h.reports.sealed.consecutive h.reports.remitted by_last in
-    let none = changes_kept (n + 1) (months_of w.seals.reports) w.loans w.loans (all_found w.loans h.rising) in
+    let none = kept_none n w h in
     subst (λ s. IsWorld (n + 1) (remitted_with w p s)) (sym (none_pending w.seals (changes_of (n + 1) (months_of w.seals.reports) w.loans w.loans) none))
       (remit_world n p w h (not_full n one.no) (subst (IsClosed w.seals.reports) (sym is) closed))
   where

@@ -1,5 +1,5 @@
 -- Every world of a history is sound: the empty one is, and each accepted command keeps it so.
-use Rattle.std.proofs.Common.{◌≡◌, ℕ, zero, suc, ◌+◌, ◌*◌, ◌≤◌, ◌<◌, Bool, true, false, List, [], ◌∷◌, ◌++◌, length, take, arith, refl, sym, ap, subst, ◌∙◌, length-append}
+use Rattle.std.proofs.Common.{◌≡◌, ℕ, zero, suc, ◌+◌, ◌*◌, ◌≤◌, ◌<◌, Bool, true, false, List, [], ◌∷◌, ◌++◌, length, take, arith, refl, sym, ap, subst, ◌∙◌, length-append, append-nil, append_assoc}
 use Rattle.std.specs.Prelude.{Option, Some, None, IfSome, ℤ, pos, if◌then◌else◌}
 use Rattle.std.specs.List.{All, AllPairs}
 use Rattle.std.proofs.lemmas.Int.{ints}
@@ -22,7 +22,8 @@ use Rattle.period_adjust.proofs.SealedLemmas.{sealed_start}
 use Rattle.svc_world.specs.Held.{Held}
 use Rattle.svc_world.specs.World.{World, Accepted, accepted, first_world, after, world_from, world}
 use Rattle.svc_world.specs.Refusals.{refusal_of}
-use Rattle.svc_world.specs.Judging.{Judgement, Kept, Refused, Fresh, by_refusal, by_key, Known, known, judged, IsHistoryFrom, AreWellFormed, IsHistory}
+use Rattle.svc_world.specs.Judging.{Judgement, Kept, Refused, Fresh, by_refusal, by_key, is_key, reply_of, Known, known_from, known, judged, IsHistoryFrom, AreWellFormed, IsHistory}
+use Rattle.svc_world.specs.Custody.{rows_made, rows_from, rows_in}
 use Rattle.svc_world.specs.Worlds.{IsHeld, IsOwned, IsListed, sent_part, IsPassed, AreReports, IsWorld, AreWorlds}
 use Rattle.svc_world.proofs.EntryWorlds.{pay_keeps, curtail_keeps, payoff_keeps, deposit_keeps, disburse_keeps, refund_keeps, waive_keeps}
 use Rattle.svc_world.proofs.LoanWorlds.{reverse_keeps, line_keeps, drop_keeps, retype_keeps}
@@ -155,3 +156,48 @@ pub is_world : (h : List Accepted) → IsHistory h → IsWorld (length h) (world
 is_world h is =
     let same : 0 + length h ≡ length h = omega arith in
     subst (λ k. IsWorld k (world h)) same (last_world 0 first_world h first_is_world (history_accepted h is))
+
+-- ---- one command more: its rows, and what is known of keys
+
+pub rows_from-push : (n : ℕ) (w : World) (h : List Accepted) (a : Accepted) → rows_from n w (h ++ a ∷ []) ≡ rows_from n w h ++ rows_made (n + length h + 1) (world_from n w h) (after (n + length h + 1) (world_from n w h) a.command)
+unfolding rows_from world_from
+rows_from-push n w [] a =
+    let same : n + 1 ≡ n + 0 + 1 = omega arith in
+    append-nil (rows_made (n + 1) w (after (n + 1) w a.command)) ∙ ap (λ k. rows_made k w (after k w a.command)) same
+rows_from-push n w (x ∷ h) a =
+    let next = after (n + 1) w x.command in
+    let made = rows_made (n + 1) w next in
+    let rest = rows_from-push (n + 1) next h a in
+    let same : n + 1 + length h + 1 ≡ n + suc (length h) + 1 = omega arith in
+    ap (λ rows. made ++ rows) (rest ∙ ap (λ k. rows_from (n + 1) next h ++ rows_made k (world_from (n + 1) next h) (after k (world_from (n + 1) next h) a.command)) same)
+    ∙ sym (append_assoc made (rows_from (n + 1) next h) (rows_made (n + suc (length h) + 1) (world_from (n + 1) next h) (after (n + suc (length h) + 1) (world_from (n + 1) next h) a.command)))
+
+pub rows-push : (h : List Accepted) (a : Accepted) → rows_in (h ++ a ∷ []) ≡ rows_in h ++ rows_made (length h + 1) (world h) (after (length h + 1) (world h) a.command)
+rows-push h a =
+    let same : 0 + length h + 1 ≡ length h + 1 = omega arith in
+    rows_from-push 0 first_world h a ∙ ap (λ k. rows_in h ++ rows_made k (world h) (after k (world h) a.command)) same
+
+-- what is known of a key after one command more: what was known, else that command
+abbrev pub known_after : ℕ → World → Accepted → List ℕ → Option Known → Option Known
+known_after n w a key None = if is_key a.key key then Some (record { command = a.command; reply = reply_of n w a.command }) else None
+known_after n w a key (Some k) = Some k
+
+pub known_from-push : (n : ℕ) (w : World) (h : List Accepted) (a : Accepted) (key : List ℕ) → known_from n w (h ++ a ∷ []) key ≡ known_after (n + length h + 1) (world_from n w h) a key (known_from n w h key)
+unfolding known_from world_from
+known_from-push n w [] a key =
+    let same : n + 1 ≡ n + 0 + 1 = omega arith in
+    ap (λ k. if is_key a.key key then Some (record { command = a.command; reply = reply_of k w a.command }) else None) same
+known_from-push n w (x ∷ h) a key =
+    let next = after (n + 1) w x.command in
+    let rest = known_from-push (n + 1) next h a key in
+    let same : n + 1 + length h + 1 ≡ n + suc (length h) + 1 = omega arith in
+    let found : Option Known = Some (record { command = x.command; reply = reply_of (n + 1) w x.command }) in
+    elim (is_key x.key key) as (λ v. (if v then found else known_from (n + 1) next (h ++ a ∷ []) key) ≡ known_after (n + suc (length h) + 1) (world_from (n + 1) next h) a key (if v then found else known_from (n + 1) next h key)) [
+      | true ↦ refl
+      | false ↦ rest ∙ ap (λ k. known_after k (world_from (n + 1) next h) a key (known_from (n + 1) next h key)) same
+    ]
+
+pub known-push : (h : List Accepted) (a : Accepted) (key : List ℕ) → known (h ++ a ∷ []) key ≡ known_after (length h + 1) (world h) a key (known h key)
+known-push h a key =
+    let same : 0 + length h + 1 ≡ length h + 1 = omega arith in
+    known_from-push 0 first_world h a key ∙ ap (λ k. known_after k (world h) a key (known h key)) same

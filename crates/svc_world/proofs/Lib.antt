@@ -22,3 +22,4 @@ pub mod DayWorlds
 pub mod BoardWorlds
 pub mod ClosedWorlds
 pub mod HistoryLemmas
+pub mod LawLemmas
