@@ -1,30 +1,26 @@
 -- Limits of an escrow analysis of a loan: of its year, its opening, its parts and what a lawful plan settles.
-use Rattle.std.proofs.Common.{◌≡◌, ℕ, ◌+◌, ◌*◌, ◌/◌, ◌≤◌, Bool, true, false, List, [], ◌∷◌, map, length, arith, refl, sym, ap, ◌∙◌}
-use Rattle.std.specs.Prelude.{ℤ, pos, neg_ℤ, ◌+ℤ◌, ◌-ℤ◌, ◌≤ℤ◌, unsigned_abs, fold, take, if◌then◌else◌, Option, None}
+use Rattle.std.proofs.Common.{◌≡◌, ℕ, ◌+◌, ◌*◌, ◌≤◌, true, false, List, [], ◌∷◌, map, length, arith, refl}
+use Rattle.std.specs.Prelude.{ℤ, pos, ◌+ℤ◌, ◌-ℤ◌, ◌≤ℤ◌, unsigned_abs, fold, take, if◌then◌else◌, None}
 use Rattle.std.specs.Int.{int_max}
 use Rattle.std.specs.List.{All, range_with_len}
 use Rattle.std.proofs.lemmas.Int.{ints, clamps}
 use Rattle.std.proofs.lemmas.List.{length-map, length-take}
-use Rattle.std.proofs.lemmas.List.Elements.{All-cons, All-head, All-tail, All-nil, All-map, All-take}
+use Rattle.std.proofs.lemmas.List.Elements.{All-head, All-tail, All-map, All-take}
 use Rattle.std.proofs.Math.Nat.{mul-suc, mul-le-mul_left}
 use Rattle.svc_base.specs.Calendar.{number_in_year}
-use Rattle.svc_types.specs.declared.books.Books.{Books}
-use Rattle.svc_types.specs.declared.account.Act.{Act}
 use Rattle.svc_types.specs.declared.account.Act.TheVariants.{Analyse}
 use Rattle.svc_types.specs.declared.escrow.Plan.{Plan}
-use Rattle.svc_spec.specs.Books.{IsAct, IsEntryAmount, IsPlan}
-use Rattle.svc_spec.specs.Accounts.{Account, books_of}
+use Rattle.svc_spec.specs.Books.{IsAct}
 use Rattle.svc_spec.specs.Totals.{received, refunded}
 use Rattle.escrow_lines.specs.declared.line.Line.{Line}
 use Rattle.escrow_lines.specs.Bills.{IsBill, cents_in, falls_in}
 use Rattle.escrow_lines.specs.BillLists.{AreLines, month_total, year_of}
 use Rattle.escrow_analysis.specs.AggregateAnalysis.{months, total, base, cushion, trial}
-use Rattle.escrow_resolve.specs.Parts.{AreParts, surplus, shortage, deficiency, escrow_parts}
-use Rattle.escrow_resolve.specs.Limits.{IsShare, IsWithinParts}
+use Rattle.escrow_resolve.specs.Parts.{AreParts, surplus, shortage, deficiency}
 use Rattle.escrow_resolve.proofs.LimitLemmas.{settled_plan-within}
 use Rattle.svc_world.specs.Held.{Held, books_now}
 use Rattle.svc_world.specs.Analysing.{year_begins, year_of_loan, cushion_months, least_opening, opening_of, parts_of, is_current_now, loan_plan_fault, settlement_of}
-use Rattle.svc_world.specs.Worlds.{IsNamedRefund, IsNamedAct, IsLimited, IsHeld}
+use Rattle.svc_world.specs.Worlds.{IsNamedAct, IsHeld}
 use Rattle.svc_world.proofs.SumsWithin.{IsUpTo}
 use Rattle.svc_world.proofs.HoldingLemmas.{AreHoldings, account_holdings}
 use Rattle.svc_world.proofs.LimitedLemmas.{escrow_covered}
@@ -201,7 +197,8 @@ is_settlement n day l plan h lawful =
           short_months = w.short_months;
           deficient = record { low = d0; high = omega (arith, ints, d1, s3) };
           deficient_months = w.deficient_months;
-        });
+        },
+      );
       named = record { low = r0; high = omega (arith, ints, clamps, r1, s1, e1) };
       covered = omega (arith, ints, clamps, r1, s1, covered);
     }

@@ -1,9 +1,9 @@
 -- A world stays sound where a loan is taken on.
-use Rattle.std.proofs.Common.{◌≡◌, ℕ, suc, ◌+◌, ◌≤◌, ◌<◌, Bool, true, false, not, List, [], ◌∷◌, ◌++◌, length, get_or, arith, refl, sym, ap, subst, ◌∙◌, append-nil}
-use Rattle.std.specs.Prelude.{◌==◌, nat_le, nat_lt, ◌&&◌, ◌||◌, is_some, Option, Some, None, IfSome, ℤ, pos, int_le, int_lt, if◌then◌else◌}
-use Rattle.std.specs.List.{All, AllPairs, find}
+use Rattle.std.proofs.Common.{◌≡◌, ℕ, ◌+◌, ◌≤◌, ◌<◌, Bool, true, false, not, List, [], ◌∷◌, ◌++◌, length, get_or, arith, refl, sym, ap, subst, ◌∙◌}
+use Rattle.std.specs.Prelude.{◌==◌, nat_le, ◌&&◌, ◌||◌, is_some, Option, Some, None, IfSome, pos, int_le, int_lt, if◌then◌else◌}
+use Rattle.std.specs.List.{All, find}
 use Rattle.std.proofs.lemmas.Bool.Decides.{nat_tests}
-use Rattle.std.proofs.lemmas.List.Elements.{All-map, All-cons, All-nil}
+use Rattle.std.proofs.lemmas.List.Elements.{All-map, All-nil}
 use Rattle.svc_base.specs.Calendar.{IsReadDay, month_of}
 use Rattle.svc_base.proofs.CentsRules.{from_int_le, from_int_lt}
 use Rattle.svc_types.specs.declared.terms.Terms.{Terms}
@@ -17,23 +17,20 @@ use Rattle.svc_types.specs.declared.replies.Limit.TheVariants.{Loans}
 use Rattle.svc_types.specs.Terms.{is_in_range, first_missed, term_fault, IsSound}
 use Rattle.svc_base.specs.Money.{month_interest}
 use Rattle.svc_spec.specs.Accounts.{MayBegin}
-use Rattle.escrow_lines.specs.declared.line.Line.{Line}
 use Rattle.escrow_lines.specs.Bills.{IsBill}
-use Rattle.escrow_lines.specs.BillLists.{AreLines}
 use Rattle.period_adjust.specs.Sealed.{Sealed, Reporting}
 use Rattle.period_adjust.specs.Conditions.{first_month, last_month}
 use Rattle.period_adjust.specs.Kept.{AreConsecutive, month_after}
 use Rattle.period_adjust.proofs.KeptLemmas.{month_after-last}
 use Rattle.svc_world.specs.Held.{Held, find_loan, boarded, boarded_month, with_loan}
-use Rattle.svc_world.specs.LoanDues.{due_of}
 use Rattle.svc_world.specs.Reports.{months_of, changes_of, nothing_due}
 use Rattle.svc_world.specs.World.{World, loans_after, seals_after, after}
-use Rattle.svc_world.specs.Refusals.{case, case_of, first_of, refusal_of, full_of_commands, future_dated, with_last, board_cases}
-use Rattle.svc_world.specs.Worlds.{IsHeld, IsThere, IsOwned, IsListed, AddUp, due_by, AreReports, IsWorld}
+use Rattle.svc_world.specs.Refusals.{case, case_of, refusal_of, full_of_commands, future_dated, with_last, board_cases}
+use Rattle.svc_world.specs.Worlds.{IsHeld, IsThere, due_by, IsWorld}
 use Rattle.svc_world.proofs.LimitedLemmas.{begun_limited}
 use Rattle.svc_world.proofs.AddUpLemmas.{same_adds}
 use Rattle.svc_world.proofs.ChangesLemmas.{IsSameDue, equal_due, due_before, changes_boarded}
-use Rattle.svc_world.proofs.LoanListLemmas.{rises, all_found, find_boarded, with_loan_all, with_loan_length, with_loan_rises}
+use Rattle.svc_world.proofs.LoanListLemmas.{all_found, find_boarded, with_loan_all, with_loan_length, with_loan_rises}
 use Rattle.svc_world.proofs.CaseLemmas.{past, past_of, past_last}
 use Rattle.svc_world.proofs.ChangedWorlds.{held_more}
 use Rattle.svc_world.proofs.DayWorlds.{none_pending}
@@ -91,6 +88,7 @@ is_sound t e =
   where
     at_most : (a b : ℕ) → nat_le a b ≡ true → a ≤ b
     at_most a b e = grind (arith, nat_tests)
+
     one_of : (m f : ℕ) → ((f == m + 1) || (f == m + 2)) ≡ true → (m + 1 ≤ f) × (f ≤ m + 2)
     one_of m f e =
         elim (f == m + 1) as (λ v. (f == m + 1) ≡ v → (v || (f == m + 2)) ≡ true → (m + 1 ≤ f) × (f ≤ m + 2)) [
@@ -131,7 +129,7 @@ same_due_boarded l loans id p none lt =
           let no : find_loan id loans ≡ None = ap (λ i. find_loan i loans) (sym is) ∙ none in
           let new = due_before l p lt in
           subst (λ o. IsSameDue (due_by o p) (due_by (find_loan id (with_loan l loans)) p)) (sym no)
-            (subst (λ o. IsSameDue (nothing_due p) (due_by o p)) (sym found) new)
+          (subst (λ o. IsSameDue (nothing_due p) (due_by o p)) (sym found) new)
       | false ↦ λ e found. equal_due (due_by (find_loan id loans) p) (due_by (find_loan id (with_loan l loans)) p) (ap (λ o. due_by o p) found)
     ] refl (find_boarded id l loans none)
 
@@ -220,7 +218,7 @@ pub board_none : (n id : ℕ) (t : Terms) (w : World) → IsWorld n w → IsBoar
 board_none n id t w h b =
     let l = boarded id t w.today in
     changes_boarded (n + 1) (months_of w.seals.reports) w.loans w.loans l (all_found w.loans h.rising) b.new
-      (All-map (λ p. p < boarded_month l) (λ (r : Sealed). r.month) w.seals.reports (λ k d lt. closed_before n w (boarded_month l) (get_or w.seals.reports k d).month h b.late (h.reports.sealed.reports k d lt).high))
+    (All-map (λ p. p < boarded_month l) (λ (r : Sealed). r.month) w.seals.reports (λ k d lt. closed_before n w (boarded_month l) (get_or w.seals.reports k d).month h b.late (h.reports.sealed.reports k d lt).high))
 
 pub board_keeps : (n id : ℕ) (t : Terms) (w : World) → IsWorld n w → IsReadDay t.boarded → refusal_of n w (command.Board id t) ≡ None → IsWorld (n + 1) (after (n + 1) w (command.Board id t))
 unfolding after loans_after seals_after
@@ -229,4 +227,4 @@ board_keeps n id t w h read e =
     let b = boarding n id t w e in
     let may : MayBegin t w.today = record { terms = b.terms; boarded = read; after = b.until } in
     subst (λ s. IsWorld (n + 1) (boarded_with w l s)) (sym (none_pending w.seals (changes_of (n + 1) (months_of w.seals.reports) w.loans (with_loan l w.loans)) (board_none n id t w h b)))
-      (board_world n w l h b.few b.room b.new b.late (new_held n id t w may))
+    (board_world n w l h b.few b.room b.new b.late (new_held n id t w may))

@@ -1,9 +1,8 @@
 -- Without a refusal no rule holds: what each command's rules leave.
-use Rattle.std.proofs.Common.{◌≡◌, ℕ, zero, suc, ◌+◌, ◌-◌, ◌≤◌, ◌<◌, Bool, true, false, not, List, [], ◌∷◌, ◌++◌, length, max, arith, refl, sym, ap, ◌∙◌}
-use Rattle.std.specs.Prelude.{◌==◌, nat_le, nat_lt, ◌&&◌, Option, Some, None, IfSome, ℤ, pos, ◌≤ℤ◌, int_le, if◌then◌else◌}
+use Rattle.std.proofs.Common.{◌≡◌, ℕ, suc, ◌+◌, ◌-◌, ◌≤◌, ◌<◌, Bool, true, false, not, List, [], ◌∷◌, ◌++◌, length, max, arith, refl}
+use Rattle.std.specs.Prelude.{nat_le, ◌&&◌, Option, Some, None, IfSome, ℤ, pos, ◌≤ℤ◌, int_le, if◌then◌else◌}
 use Rattle.std.specs.List.{find, filter}
 use Rattle.std.specs.Option.{option_map, option_map_or}
-use Rattle.std.proofs.lemmas.Int.{ints}
 use Rattle.std.proofs.lemmas.Bool.Decides.{nat_tests}
 use Rattle.svc_base.proofs.CentsRules.{from_int_le}
 use Rattle.svc_base.specs.Calendar.{month_of}

@@ -1,33 +1,29 @@
 -- A world stays sound where one loan is changed from a month on: by an entry, a reversal, an analysis, a change
 -- of type, a line.
-use Rattle.std.proofs.Common.{◌≡◌, ℕ, zero, suc, ◌+◌, ◌-◌, ◌≤◌, ◌<◌, Bool, true, false, cond, List, [], ◌∷◌, ◌++◌, map, length, get_or, arith, refl, sym, ap, subst, ◌∙◌, length-append}
-use Rattle.std.specs.Prelude.{◌==◌, Option, Some, None, IfSome, if◌then◌else◌}
+use Rattle.std.proofs.Common.{◌≡◌, ℕ, suc, ◌+◌, ◌-◌, ◌≤◌, ◌<◌, true, false, List, [], ◌∷◌, ◌++◌, map, length, get_or, arith, refl, sym, ap, subst, ◌∙◌, length-append}
+use Rattle.std.specs.Prelude.{◌==◌, Option, Some, None, IfSome}
 use Rattle.std.specs.List.{All, AllPairs, range_with_len}
 use Rattle.std.proofs.lemmas.Bool.Decides.{nat_tests}
-use Rattle.std.proofs.lemmas.List.Elements.{All-cons, All-head, All-tail, All-nil, All-append}
-use Rattle.svc_base.specs.Calendar.{month_of}
-use Rattle.svc_types.specs.declared.terms.Terms.{Terms}
-use Rattle.svc_types.specs.declared.account.Entry.{Entry}
+use Rattle.std.proofs.lemmas.List.Elements.{All-append}
 use Rattle.remit_types.specs.declared.dues.MonthDue.{MonthDue}
 use Rattle.period_adjust.specs.declared.adjustment.Adjustment.{Adjustment}
-use Rattle.period_adjust.specs.declared.report_line.ReportLine.{ReportLine}
-use Rattle.period_adjust.specs.Sealed.{Sealed, Reporting, reporting}
+use Rattle.period_adjust.specs.Sealed.{Sealed, reporting}
 use Rattle.period_adjust.specs.Changes.{adjustments_of}
-use Rattle.period_adjust.specs.Totals.{SendsItsSums, Change, after}
-use Rattle.period_adjust.specs.Conditions.{IsClosed, IsSmallDue, MayChange, first_month, last_month, count_sent, count_held}
-use Rattle.period_adjust.specs.Kept.{AreSealed, AreConsecutive, IsBefore, month_after}
+use Rattle.period_adjust.specs.Totals.{Change, after}
+use Rattle.period_adjust.specs.Conditions.{IsClosed, MayChange, first_month, last_month, count_held}
+use Rattle.period_adjust.specs.Kept.{AreSealed, AreConsecutive, month_after}
 use Rattle.period_adjust.proofs.SealedLemmas.{sealed_call, adjustments_all, adjustments_loan}
 use Rattle.period_adjust.proofs.KeptLemmas.{closed_to_end, month_after-last}
 use Rattle.svc_world.specs.Held.{Held, find_loan, changed, boarded_month}
 use Rattle.svc_world.specs.LoanDues.{due_of}
 use Rattle.svc_world.specs.Reports.{months_of, changes_of}
 use Rattle.svc_world.specs.World.{World}
-use Rattle.svc_world.specs.Worlds.{IsLimited, IsHeld, IsThere, IsOwned, IsListed, AddUp, AreReports, IsWorld}
+use Rattle.svc_world.specs.Worlds.{IsLimited, IsHeld, IsThere, IsOwned, AddUp, IsWorld}
 use Rattle.svc_world.proofs.AgreeLemmas.{AgreeTo}
 use Rattle.svc_world.proofs.CarryLemmas.{due_small}
 use Rattle.svc_world.proofs.ChangesLemmas.{months_are, changes_from, changes_changed}
 use Rattle.svc_world.proofs.AddUpLemmas.{change_adds, may_record, dues_all}
-use Rattle.svc_world.proofs.LoanListLemmas.{rises, IsFound, all_found, found_id, found_all, KeepsNumber, find_changed, find_changed_other, changed_all, changed_numbers, rises_by, length_by}
+use Rattle.svc_world.proofs.LoanListLemmas.{rises, all_found, found_all, KeepsNumber, find_changed, find_changed_other, changed_all, changed_numbers, rises_by, length_by}
 
 -- ---- the months of adjustments
 
@@ -117,11 +113,11 @@ change_keeps n m w f l h few e ch room =
     let small : (p : ℕ) → p < month_after (last_month s.reports) → p < 25_692 = λ p lt. (let most = r.sealed.most in omega arith) in
     let below : (p : ℕ) → m ≤ p → p < m + c → p < month_after (last_month s.reports) = λ p low high. omega arith in
     let may : MayChange s (n + 1) l.id before later = may_record s (n + 1) w.loans l (f l) m c h.add_up e
-        (λ p low high. closed_since s.reports m p consecutive from low (below p low high))
-        below
-        (λ p low high. due_small l p (small p (below p low high)) limited)
-        (λ p low high. due_small (f l) p (small p (below p low high)) ch.held.limited)
-        room in
+    (λ p low high. closed_since s.reports m p consecutive from low (below p low high))
+    below
+    (λ p low high. due_small l p (small p (below p low high)) limited)
+    (λ p low high. due_small (f l) p (small p (below p low high)) ch.held.limited)
+    room in
     let are = changes_are (n + 1) m s.reports w.loans f l consecutive from h.rising e ch.number ch.agree ch.since in
     let new = world_with w l.id f (n + 1) in
     let same : new.seals ≡ after s (Change (n + 1) l.id before later) = ap (λ xs. reporting s.reports (s.pending ++ xs)) are in
@@ -155,6 +151,7 @@ change_keeps n m w f l h few e ch room =
   where
     held_count : (reports : List Sealed) (pending more : List Adjustment) → count_held (reporting reports pending) + length more ≤ 4_000_000 → count_held (reporting reports (pending ++ more)) ≤ 4_000_000
     held_count reports pending more le = omega (arith, length-append pending more)
+
     owned_new : (loans : List Held) (l k : Held) (m c n : ℕ) → ((p : ℕ) → m ≤ p → IsThere loans l.id p) → All (IsOwned loans) (adjustments_of n l.id (map (due_of l) (range_with_len m c)) (map (due_of k) (range_with_len m c)))
     owned_new loans l k m c n here = λ i d lt.
         let loan = adjustments_loan n l.id (map (due_of l) (range_with_len m c)) (map (due_of k) (range_with_len m c)) i d lt in

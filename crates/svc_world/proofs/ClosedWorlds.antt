@@ -1,14 +1,14 @@
 -- A world stays sound where a month is closed.
-use Rattle.std.proofs.Common.{◌≡◌, ℕ, zero, suc, ◌+◌, ◌-◌, ◌≤◌, ◌<◌, min, Bool, true, false, not, List, [], ◌∷◌, ◌++◌, map, length, get_or, arith, refl, sym, ap, subst, ◌∙◌, length-append}
-use Rattle.std.specs.Prelude.{◌==◌, nat_le, take, Option, Some, None, IfSome, ℤ, pos, ◌≤ℤ◌}
+use Rattle.std.proofs.Common.{◌≡◌, ℕ, ◌+◌, ◌-◌, ◌≤◌, ◌<◌, min, true, false, not, List, [], ◌∷◌, ◌++◌, map, length, get_or, arith, refl, sym, ap, subst, length-append}
+use Rattle.std.specs.Prelude.{◌==◌, nat_le, take, Option, Some, None, IfSome}
 use Rattle.std.specs.List.{All, AllPairs}
 use Rattle.std.specs.Option.{option_map_or}
 use Rattle.std.proofs.lemmas.Int.{ints}
 use Rattle.std.proofs.lemmas.Bool.Decides.{nat_tests}
 use Rattle.std.proofs.lemmas.List.{take_all, take-append-le}
-use Rattle.std.proofs.lemmas.List.Elements.{All-map, All-push, All-cons, All-head, All-tail, All-nil}
+use Rattle.std.proofs.lemmas.List.Elements.{All-map, All-push, All-cons, All-nil}
 use Rattle.std.proofs.lemmas.List.Kept.{AllPairs-cons}
-use Rattle.svc_base.specs.Calendar.{IsMonth, month_of, last_day}
+use Rattle.svc_base.specs.Calendar.{month_of, last_day}
 use Rattle.svc_base.specs.Text.{IsReadMonth}
 use Rattle.svc_base.specs.Sums.{total_by}
 use Rattle.svc_types.proofs.OrderLemmas.{pairs_head, pairs_tail}
@@ -17,24 +17,24 @@ use Rattle.svc_types.specs.declared.replies.Refusal.TheVariants.{Full, WrongPeri
 use Rattle.svc_types.specs.declared.replies.Limit.TheVariants.{Months}
 use Rattle.period_adjust.specs.declared.adjustment.Adjustment.{Adjustment}
 use Rattle.period_adjust.specs.declared.report_line.ReportLine.{ReportLine}
-use Rattle.period_adjust.specs.Sealed.{Sealed, Reporting, reporting}
+use Rattle.period_adjust.specs.Sealed.{Sealed, Reporting}
 use Rattle.period_adjust.specs.Sums.{DuePart, line_with, report_of}
 use Rattle.period_adjust.specs.Totals.{Close}
 use Rattle.period_adjust.specs.Totals as seals
-use Rattle.period_adjust.specs.Conditions.{IsSmallLine, IsClosed, MayClose, first_month, last_month, count_sent, count_held}
-use Rattle.period_adjust.specs.Kept.{AreSealed, month_after}
+use Rattle.period_adjust.specs.Conditions.{IsSmallLine, IsClosed, MayClose, first_month, last_month}
+use Rattle.period_adjust.specs.Kept.{month_after}
 use Rattle.period_adjust.proofs.KeptLemmas.{count_sent-push, last_month-push, closed-push}
 use Rattle.period_adjust.proofs.SealedLemmas.{sealed_call}
 use Rattle.period_adjust.proofs.SentLemmas.{call_sends}
-use Rattle.svc_world.specs.Held.{Held, find_loan, boarded_month}
+use Rattle.svc_world.specs.Held.{Held, boarded_month}
 use Rattle.svc_world.specs.Reports.{line_of, lines_of}
 use Rattle.svc_world.specs.World.{World, loans_after, seals_after, after}
 use Rattle.svc_world.specs.Refusals.{case, refusal_of, full_of_commands, least_boarded, first_expected, expected_close, close_cases}
-use Rattle.svc_world.specs.Worlds.{IsLimited, IsHeld, IsThere, IsOwned, IsListed, IsPassed, sent_part, AreReports, IsWorld}
+use Rattle.svc_world.specs.Worlds.{IsLimited, IsThere, IsOwned, IsListed, IsPassed, sent_part, AreReports, IsWorld}
 use Rattle.svc_world.proofs.CarryLemmas.{carry_at_within, due_small}
 use Rattle.svc_world.proofs.CloseLemmas.{lines_all, lines_rise, may_close, close_adds}
 use Rattle.svc_world.proofs.SentSumLemmas.{all_passed}
-use Rattle.svc_world.proofs.LoanListLemmas.{rises, IsFound, all_found}
+use Rattle.svc_world.proofs.LoanListLemmas.{IsFound, all_found}
 use Rattle.svc_world.proofs.CaseLemmas.{past}
 use Rattle.svc_world.proofs.ChangedWorlds.{held_more}
 use Rattle.svc_world.proofs.NamedLoans.{not_full}
@@ -77,16 +77,19 @@ closing n p w e =
     let two = past (case (nat_le 600 (length w.seals.reports)) (Full Months)) (case (not (p == expected_close w)) (WrongPeriod (expected_close w)) ∷ case (nat_le w.today (last_day p)) (NotEnded (last_day p)) ∷ []) one.rest in
     let three = past (case (not (p == expected_close w)) (WrongPeriod (expected_close w))) (case (nat_le w.today (last_day p)) (NotEnded (last_day p)) ∷ []) two.rest in
     let four = past (case (nat_le w.today (last_day p)) (NotEnded (last_day p))) [] three.rest in
-    let is = same p (expected_close w) three.no in
-    (record {
-      few = below (length w.seals.reports) 600 two.no;
-      next = next_of (last_month w.seals.reports) (first_expected (month_of w.today) w.loans) p is;
-      first = first_of_all (last_month w.seals.reports) (month_of w.today) p w.loans is;
-      ended = below (last_day p) w.today four.no;
-    }, not_full n one.no)
+    let is = same p (expected_close w) three.no in (
+      record {
+        few = below (length w.seals.reports) 600 two.no;
+        next = next_of (last_month w.seals.reports) (first_expected (month_of w.today) w.loans) p is;
+        first = first_of_all (last_month w.seals.reports) (month_of w.today) p w.loans is;
+        ended = below (last_day p) w.today four.no;
+      },
+      not_full n one.no,
+    )
   where
     below : (a b : ℕ) → nat_le b a ≡ false → a < b
     below a b e = grind (arith, nat_tests)
+
     same : (a b : ℕ) → not (a == b) ≡ false → a ≡ b
     same a b e = elim (a == b) as (λ v. (a == b) ≡ v → not v ≡ false → a ≡ b) [
       | true ↦ λ is t. grind (arith, nat_tests)
@@ -121,7 +124,7 @@ closing_may n p w h read c =
       calendar = record { begin = omega (arith, from); end = omega (arith, to) };
       expected = record { high = omega (arith, to); next = c.next };
       lines = may_close w.seals p w.loans h.reports.sealed (after_last (last_month w.seals.reports) p c.next) h.rising h.reports.owned
-        (λ k d lt t. small_line p (get_or w.loans k d) (omega (arith, to)) (h.held k d lt).limited);
+          (λ k d lt t. small_line p (get_or w.loans k d) (omega (arith, to)) (h.held k d lt).limited);
     }
 
 -- ---- the reports after it
@@ -140,13 +143,13 @@ with_rise ps [] h = λ i j d lt len. absurd (omega arith)
 with_rise ps (l ∷ ls) h =
     let R : ReportLine → ReportLine → Type 0 = λ a b. a.loan < b.loan in
     AllPairs-cons R (line_with ps l) (map (line_with ps) ls)
-      (All-map (λ (m : ReportLine). l.loan < m.loan) (line_with ps) ls (pairs_head R l ls h))
-      (with_rise ps ls (pairs_tail R l ls h))
+    (All-map (λ (m : ReportLine). l.loan < m.loan) (line_with ps) ls (pairs_head R l ls h))
+    (with_rise ps ls (pairs_tail R l ls h))
 
 new_listed : (n p : ℕ) (w : World) → IsWorld n w → All (IsListed w.loans p) (closed_report w p).lines
 new_listed n p w h =
     All-map (IsListed w.loans p) (line_with w.seals.pending) (closed_lines w p)
-      (lines_all (IsListed w.loans p) w.seals.pending p w.loans (λ k d lt t. there (get_or w.loans k d) (all_found w.loans h.rising k d lt) t))
+    (lines_all (IsListed w.loans p) w.seals.pending p w.loans (λ k d lt t. there (get_or w.loans k d) (all_found w.loans h.rising k d lt) t))
   where
     there : (l : Held) → IsFound w.loans l → nat_le (boarded_month l) p ≡ true → IsThere w.loans l.id p
     there l found t = record { loan = l; found = found; since = grind (arith, nat_tests) }
@@ -172,13 +175,13 @@ all_sent n p w part id h read c =
     let to = read.last in
     let end : month_after (last_month (closed_seals w p).reports) ≡ p + 1 = ap month_after (last_month-push w.seals.reports (closed_report w p)) in
     all_passed part id (p + 1 - 23_868) (closed_seals w p) w.loans
-      (sealed_call w.seals (Close p (closed_lines w p)) h.reports.sealed may)
-      refl
-      (call_sends w.seals (Close p (closed_lines w p)) h.reports.sends may)
-      (close_adds w.seals p w.loans h.reports.sealed h.add_up may h.rising c.first)
-      (λ k d lt. (h.held k d lt).limited)
-      (omega (arith, end, from))
-      (omega (arith, to))
+    (sealed_call w.seals (Close p (closed_lines w p)) h.reports.sealed may)
+    refl
+    (call_sends w.seals (Close p (closed_lines w p)) h.reports.sends may)
+    (close_adds w.seals p w.loans h.reports.sealed h.add_up may h.rising c.first)
+    (λ k d lt. (h.held k d lt).limited)
+    (omega (arith, end, from))
+    (omega (arith, to))
 
 passed_closed : (n p : ℕ) (w : World) (part : DuePart) (k id : ℕ) → IsWorld n w → IsReadMonth p → IsClosing w p → IsPassed (total_by (sent_part part id) (take k (w.seals.reports ++ closed_report w p ∷ [])))
 passed_closed n p w part k id h read c =

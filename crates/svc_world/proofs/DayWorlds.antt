@@ -1,16 +1,13 @@
 -- A world stays sound on a later business day, and where a month is remitted.
-use Rattle.std.proofs.Common.{◌≡◌, ℕ, ◌+◌, ◌≤◌, ◌<◌, Bool, true, false, not, List, [], ◌∷◌, ◌++◌, map, length, get_or, arith, refl, sym, ap, subst, ◌∙◌, append-nil}
-use Rattle.std.specs.Prelude.{◌==◌, nat_le, nat_lt, Option, Some, None, IfSome, if◌then◌else◌}
-use Rattle.std.specs.List.{All, AllPairs}
+use Rattle.std.proofs.Common.{◌≡◌, ℕ, ◌+◌, ◌≤◌, ◌<◌, Bool, true, false, not, List, [], ◌∷◌, ◌++◌, map, get_or, arith, refl, sym, ap, subst, ◌∙◌, append-nil}
+use Rattle.std.specs.Prelude.{◌==◌, nat_le, Option, Some, None, IfSome}
+use Rattle.std.specs.List.{All}
 use Rattle.std.proofs.lemmas.Bool.Decides.{nat_tests}
 use Rattle.std.proofs.lemmas.List.Elements.{All-map}
-use Rattle.svc_base.specs.Calendar.{IsDay, IsReadDay, month_of, last_day, month_length}
-use Rattle.svc_types.specs.declared.account.Entry.{Entry}
+use Rattle.svc_base.specs.Calendar.{IsReadDay, month_of, last_day}
 use Rattle.svc_types.specs.declared.requests.Command.TheVariants as command
-use Rattle.svc_types.specs.declared.replies.Refusal.TheVariants.{DayNotLater, NotClosed, WrongRemit}
-use Rattle.remit_types.specs.declared.dues.MonthDue.{MonthDue}
+use Rattle.svc_types.specs.declared.replies.Refusal.TheVariants.{DayNotLater, WrongRemit}
 use Rattle.period_adjust.specs.declared.adjustment.Adjustment.{Adjustment}
-use Rattle.period_adjust.specs.declared.report_line.ReportLine.{ReportLine}
 use Rattle.period_adjust.specs.Sealed.{Sealed, Reporting, reporting}
 use Rattle.period_adjust.specs.Conditions.{IsClosed, first_month, last_month}
 use Rattle.period_adjust.specs.Kept.{AreConsecutive, month_after, next_remit}
@@ -19,13 +16,13 @@ use Rattle.svc_world.specs.Held.{Held, find_loan, boarded_month, on_day}
 use Rattle.svc_world.specs.LoanDues.{due_of}
 use Rattle.svc_world.specs.Reports.{months_of, changes_of, nothing_due}
 use Rattle.svc_world.specs.World.{World, loans_after, seals_after, after}
-use Rattle.svc_world.specs.Refusals.{case, first_of, refusal_of, full_of_commands, not_closed, is_closed_by, expected_remit, remit_cases, cases_by_command}
-use Rattle.svc_world.specs.Worlds.{IsHeld, IsThere, IsOwned, IsListed, AddUp, due_by, AreReports, IsWorld}
+use Rattle.svc_world.specs.Refusals.{case, refusal_of, full_of_commands, not_closed, is_closed_by, expected_remit, remit_cases, cases_by_command}
+use Rattle.svc_world.specs.Worlds.{IsHeld, IsThere, due_by, AreReports, IsWorld}
 use Rattle.svc_world.proofs.LimitedLemmas.{advanced_limited}
 use Rattle.svc_world.proofs.AgreeLemmas.{AgreeTo, day_agrees, same_due}
 use Rattle.svc_world.proofs.AddUpLemmas.{same_adds}
 use Rattle.svc_world.proofs.ChangesLemmas.{IsSameDue, equal_due, changes_kept, changes_mapped}
-use Rattle.svc_world.proofs.LoanListLemmas.{rises, all_found, mapped_numbers, rises_by, length_by, find_mapped, find_mapped_none, found_all}
+use Rattle.svc_world.proofs.LoanListLemmas.{all_found, mapped_numbers, rises_by, length_by, find_mapped, find_mapped_none, found_all}
 use Rattle.svc_world.proofs.CaseLemmas.{past}
 use Rattle.svc_world.proofs.ChangedWorlds.{held_more}
 use Rattle.svc_world.proofs.NamedLoans.{not_full}
@@ -74,7 +71,7 @@ same_due_on n d id p w h le lt =
           let held = found_all (IsHeld n w.today) id w.loans l e h.held in
           let some = find_mapped id (on_day d) w.loans l e (λ k. refl) in
           equal_due (due_of l p) (due_by (find_loan id (map (on_day d) w.loans)) p)
-            (ap (λ o. due_by o p) some ∙ same_due (month_of w.today) l (on_day d l) p (day_agrees_to n d w l le held) (boarded_by n w l held) lt)
+          (ap (λ o. due_by o p) some ∙ same_due (month_of w.today) l (on_day d l) p (day_agrees_to n d w l le held) (boarded_by n w l held) lt)
     ] refl
 
 -- the world on another day, before its adjustments are known to be none
@@ -140,16 +137,16 @@ pub day_none : (n d : ℕ) (w : World) → IsWorld n w → refusal_of n w (comma
 day_none n d w h e =
     let le = (day_later n d w e).0 in
     changes_mapped (n + 1) (month_of w.today) (months_of w.seals.reports) w.loans w.loans (on_day d) (all_found w.loans h.rising) (λ k. refl)
-      (λ k x lt. day_agrees_to n d w (get_or w.loans k x) le (h.held k x lt))
-      (λ k x lt. boarded_by n w (get_or w.loans k x) (h.held k x lt))
-      (closed_early n w h)
+    (λ k x lt. day_agrees_to n d w (get_or w.loans k x) le (h.held k x lt))
+    (λ k x lt. boarded_by n w (get_or w.loans k x) (h.held k x lt))
+    (closed_early n w h)
 
 pub day_keeps : (n d : ℕ) (w : World) → IsWorld n w → IsReadDay d → refusal_of n w (command.Day d) ≡ None → IsWorld (n + 1) (after (n + 1) w (command.Day d))
 unfolding after loans_after seals_after
 day_keeps n d w h read e =
     let le = day_later n d w e in
     subst (λ s. IsWorld (n + 1) (on_day_of d w s)) (sym (none_pending w.seals (changes_of (n + 1) (months_of w.seals.reports) w.loans (map (on_day d) w.loans)) (day_none n d w h e)))
-      (day_world n d w h le.1 read le.0)
+    (day_world n d w h le.1 read le.0)
 
 -- where no loan changes there are no adjustments
 pub kept_none : (n : ℕ) (w : World) → IsWorld n w → changes_of (n + 1) (months_of w.seals.reports) w.loans w.loans ≡ []
@@ -201,10 +198,11 @@ remit_keeps n p w h e =
     let closed = remitted_closed w.seals.reports w.remitted h.reports.sealed.consecutive h.reports.remitted by_last in
     let none = kept_none n w h in
     subst (λ s. IsWorld (n + 1) (remitted_with w p s)) (sym (none_pending w.seals (changes_of (n + 1) (months_of w.seals.reports) w.loans w.loans) none))
-      (remit_world n p w h (not_full n one.no) (subst (IsClosed w.seals.reports) (sym is) closed))
+    (remit_world n p w h (not_full n one.no) (subst (IsClosed w.seals.reports) (sym is) closed))
   where
     yes : (b : Bool) → not b ≡ false → b ≡ true
     yes true e = refl
     yes false e = absurd (cc)
+
     same : (a b : ℕ) → not (a == b) ≡ false → a ≡ b
     same a b e = let t = yes (a == b) e in grind (arith, nat_tests)

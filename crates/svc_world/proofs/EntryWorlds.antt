@@ -1,38 +1,31 @@
 -- A world stays sound with one more entry of a loan: a payment, a curtailment, a payoff, a deposit, a
 -- disbursement, a refund, a waiver.
-use Rattle.std.proofs.Common.{◌≡◌, ℕ, suc, ◌+◌, ◌-◌, ◌≤◌, ◌<◌, true, false, List, length, get_or, arith, refl, sym, ap, subst, ◌∙◌}
-use Rattle.std.specs.Prelude.{nat_le, Option, Some, None, IfSome, ℤ, pos, ◌+ℤ◌, ◌≤ℤ◌, int_lt}
-use Rattle.std.specs.List.{All}
+use Rattle.std.proofs.Common.{◌≡◌, ℕ, ◌+◌, ◌≤◌, ◌<◌, length, get_or, arith, refl, sym, subst}
+use Rattle.std.specs.Prelude.{Some, None, ℤ, pos, ◌+ℤ◌, ◌≤ℤ◌}
 use Rattle.std.proofs.lemmas.Int.{ints}
-use Rattle.std.proofs.lemmas.Bool.Decides.{nat_tests}
 use Rattle.std.proofs.lemmas.List.Elements.{All-push}
 use Rattle.svc_base.specs.Calendar.{IsDay, month_of}
 use Rattle.svc_base.proofs.CentsRules.{from_not_int_lt}
 use Rattle.svc_types.specs.declared.account.Act.{Act}
-use Rattle.svc_types.specs.declared.account.Act.TheVariants.{Pay, Curtail, Payoff, Deposit, Disburse, Refund, Waive, Analyse}
+use Rattle.svc_types.specs.declared.account.Act.TheVariants.{Pay, Curtail, Payoff, Deposit, Disburse, Refund, Waive}
 use Rattle.svc_types.specs.declared.account.Designation.{Designation}
 use Rattle.svc_types.specs.declared.account.Entry.{Entry}
-use Rattle.svc_types.specs.declared.requests.Command.{Command}
 use Rattle.svc_types.specs.declared.requests.Command.TheVariants as command
-use Rattle.svc_types.specs.Requests.{IsCommand}
 use Rattle.svc_spec.specs.Books.{IsAct, IsEntryAmount}
 use Rattle.svc_spec.specs.Step.{brought}
 use Rattle.svc_spec.specs.Payoff.{available}
-use Rattle.svc_spec.specs.Accounts.{Account, IsAccount, MayPost, books_of}
+use Rattle.svc_spec.specs.Accounts.{MayPost}
 use Rattle.svc_spec.specs.Totals.{refunded_by, received, refunded}
-use Rattle.period_adjust.specs.Conditions.{count_held, first_month, last_month}
-use Rattle.period_adjust.specs.Kept.{month_after}
-use Rattle.svc_world.specs.Held.{Held, find_loan, boarded_month, books_now, with_entry}
+use Rattle.svc_world.specs.Held.{Held, find_loan, books_now, with_entry}
 use Rattle.svc_world.specs.World.{World, entry, loans_after, seals_after, after}
-use Rattle.svc_world.specs.Refusals.{Case, case, first_of, refusal_of, full_of_commands, asks_no_more, over_principal, payoff_short, no_such_line, over_refund, over_waiver, dated_cases, present_cases, cases_by_command, on_loan, closed_from}
+use Rattle.svc_world.specs.Refusals.{Case, refusal_of, asks_no_more, over_principal, payoff_short, no_such_line, over_refund, over_waiver, dated_cases, present_cases}
 use Rattle.svc_world.specs.Worlds.{IsNamedAmount, IsNamedAct, IsLimited, IsHeld, IsWorld}
 use Rattle.svc_world.proofs.LimitedLemmas.{posted_limited, available_covered}
 use Rattle.svc_world.proofs.AgreeLemmas.{entry_agrees}
-use Rattle.svc_world.proofs.LoanListLemmas.{found_id, found_all}
-use Rattle.svc_world.proofs.CaseLemmas.{IsPast, past, IsOnLoan, past_loan, IsEntered, HasRoom, IsDated, dated, IsPresent, present, closed_enough}
-use Rattle.svc_world.proofs.NamedLoans.{named_loan, room_enough, IsAsked, asked}
+use Rattle.svc_world.proofs.CaseLemmas.{IsEntered, HasRoom, IsDated, dated, IsPresent, present}
+use Rattle.svc_world.proofs.NamedLoans.{named_loan, room_enough, asked}
 use Rattle.svc_world.proofs.QuietWorlds.{IsQuiet, quiet_keeps, today_open}
-use Rattle.svc_world.proofs.ChangedWorlds.{IsChange, closed_months, first_by, world_with, change_keeps}
+use Rattle.svc_world.proofs.ChangedWorlds.{IsChange, world_with, change_keeps}
 
 -- ---- one more entry
 
@@ -77,7 +70,7 @@ entry_keeps n d id w a l h few found e =
     let ch = entry_change n d w a l is.held e in
     let room = room_enough n (month_of d) w l h is.found ch.since e.room in
     subst (λ i. IsWorld (n + 1) (world_with w i (with_entry (entry (n + 1) d a)) (n + 1))) is.number
-      (change_keeps n (month_of d) w (with_entry (entry (n + 1) d a)) l h few is.found ch room)
+    (change_keeps n (month_of d) w (with_entry (entry (n + 1) d a)) l h few is.found ch room)
 
 entered_sum : (c : ℤ) → IsEntered c → IsEntryAmount c
 entered_sum c h = let low = h.low in let high = h.high in record { low = omega (arith, ints); high = omega (arith, ints) }
@@ -102,7 +95,7 @@ pay_keeps n id d w c over h exists e =
     let it = dated w d c asks_no_more l q.loan.rest in
     let low = it.amount.low in
     entry_keeps n d id w (Pay c over) l h q.few q.loan.found
-      (dated_entry w d c (asks_no_more l) l (Pay c over) limited exists it (entered_sum c it.amount) (entered_named c it.amount) refl (omega (arith, ints, low)))
+    (dated_entry w d c (asks_no_more l) l (Pay c over) limited exists it (entered_sum c it.amount) (entered_named c it.amount) refl (omega (arith, ints, low)))
 
 pub curtail_keeps : (n id d : ℕ) (w : World) (c : ℤ) → IsWorld n w → IsDay d → refusal_of n w (command.Curtail id d c) ≡ None → IsWorld (n + 1) (after (n + 1) w (command.Curtail id d c))
 unfolding after loans_after seals_after
@@ -113,7 +106,7 @@ curtail_keeps n id d w c h exists e =
     let it = dated w d c (over_principal d c) l q.loan.rest in
     let low = it.amount.low in
     entry_keeps n d id w (Curtail c) l h q.few q.loan.found
-      (dated_entry w d c (over_principal d c l) l (Curtail c) limited exists it (entered_sum c it.amount) (entered_named c it.amount) refl (omega (arith, ints, low)))
+    (dated_entry w d c (over_principal d c l) l (Curtail c) limited exists it (entered_sum c it.amount) (entered_named c it.amount) refl (omega (arith, ints, low)))
 
 pub payoff_keeps : (n id d : ℕ) (w : World) (c : ℤ) → IsWorld n w → IsDay d → refusal_of n w (command.Payoff id d c) ≡ None → IsWorld (n + 1) (after (n + 1) w (command.Payoff id d c))
 unfolding after loans_after seals_after
@@ -124,7 +117,7 @@ payoff_keeps n id d w c h exists e =
     let it = dated w d c (payoff_short d c) l q.loan.rest in
     let low = it.amount.low in
     entry_keeps n d id w (Payoff c) l h q.few q.loan.found
-      (dated_entry w d c (payoff_short d c l) l (Payoff c) limited exists it (entered_sum c it.amount) (entered_named c it.amount) refl (omega (arith, ints, low)))
+    (dated_entry w d c (payoff_short d c l) l (Payoff c) limited exists it (entered_sum c it.amount) (entered_named c it.amount) refl (omega (arith, ints, low)))
 
 pub deposit_keeps : (n id d : ℕ) (w : World) (c : ℤ) → IsWorld n w → IsDay d → refusal_of n w (command.Deposit id d c) ≡ None → IsWorld (n + 1) (after (n + 1) w (command.Deposit id d c))
 unfolding after loans_after seals_after
@@ -135,7 +128,7 @@ deposit_keeps n id d w c h exists e =
     let it = dated w d c asks_no_more l q.loan.rest in
     let low = it.amount.low in
     entry_keeps n d id w (Deposit c) l h q.few q.loan.found
-      (dated_entry w d c (asks_no_more l) l (Deposit c) limited exists it (entered_sum c it.amount) (entered_named c it.amount) refl (omega (arith, ints, low)))
+    (dated_entry w d c (asks_no_more l) l (Deposit c) limited exists it (entered_sum c it.amount) (entered_named c it.amount) refl (omega (arith, ints, low)))
 
 pub disburse_keeps : (n id d line : ℕ) (w : World) (c : ℤ) → IsWorld n w → IsDay d → refusal_of n w (command.Disburse id d c line) ≡ None → IsWorld (n + 1) (after (n + 1) w (command.Disburse id d c line))
 unfolding after loans_after seals_after
@@ -145,7 +138,7 @@ disburse_keeps n id d line w c h exists e =
     let limited = (named_loan n w id l h q.loan.found).held.limited in
     let it = dated w d c (no_such_line line) l q.loan.rest in
     entry_keeps n d id w (Disburse c line) l h q.few q.loan.found
-      (dated_entry w d c (no_such_line line l) l (Disburse c line) limited exists it (entered_sum c it.amount) (entered_named c it.amount) refl (omega (arith, ints)))
+    (dated_entry w d c (no_such_line line l) l (Disburse c line) limited exists it (entered_sum c it.amount) (entered_named c it.amount) refl (omega (arith, ints)))
 
 -- an entry of the business day that refunds no more than may be refunded
 present_entry : (n : ℕ) (w : World) (c : ℤ) (asked : Case) (l : Held) (a : Act) → IsHeld n w.today l → IsDay w.today → IsPresent w c asked l → IsAct a → IsNamedAct a → (refunded l.account +ℤ refunded_by a) ≤ℤ (received l.account +ℤ brought a) → IsEntry w l w.today a
@@ -168,7 +161,7 @@ refund_quiet n id w c h e =
     let le = from_not_int_lt (available (books_now l)) c it.own in
     let covered = available_covered l.account c held.limited le in
     present_quiet n id w (Refund c) l h q.few q.loan.found
-      (present_entry n w c (over_refund c l) l (Refund c) held h.today.exists it (entered_sum c it.amount) (entered_named c it.amount) (omega (arith, ints, covered)))
+    (present_entry n w c (over_refund c l) l (Refund c) held h.today.exists it (entered_sum c it.amount) (entered_named c it.amount) (omega (arith, ints, covered)))
 
 pub waive_quiet : (n id : ℕ) (w : World) (c : ℤ) → IsWorld n w → refusal_of n w (command.Waive id c) ≡ None → IsQuiet n w id (with_entry (entry (n + 1) w.today (Waive c)))
 waive_quiet n id w c h e =
@@ -178,7 +171,7 @@ waive_quiet n id w c h e =
     let it = present w c (over_waiver c) l q.loan.rest in
     let covered = held.limited.covered in
     present_quiet n id w (Waive c) l h q.few q.loan.found
-      (present_entry n w c (over_waiver c l) l (Waive c) held h.today.exists it (entered_sum c it.amount) (entered_named c it.amount) (omega (arith, ints, covered)))
+    (present_entry n w c (over_waiver c l) l (Waive c) held h.today.exists it (entered_sum c it.amount) (entered_named c it.amount) (omega (arith, ints, covered)))
 
 pub refund_keeps : (n id : ℕ) (w : World) (c : ℤ) → IsWorld n w → refusal_of n w (command.Refund id c) ≡ None → IsWorld (n + 1) (after (n + 1) w (command.Refund id c))
 unfolding after loans_after seals_after

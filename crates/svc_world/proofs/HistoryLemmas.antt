@@ -1,10 +1,10 @@
 -- Every world of a history is sound: the empty one is, and each accepted command keeps it so.
-use Rattle.std.proofs.Common.{◌≡◌, ℕ, zero, suc, ◌+◌, ◌*◌, ◌≤◌, ◌<◌, Bool, true, false, List, [], ◌∷◌, ◌++◌, length, take, arith, refl, sym, ap, subst, ◌∙◌, length-append, append-nil, append_assoc}
-use Rattle.std.specs.Prelude.{Option, Some, None, IfSome, ℤ, pos, if◌then◌else◌}
-use Rattle.std.specs.List.{All, AllPairs}
+use Rattle.std.proofs.Common.{◌≡◌, ℕ, zero, suc, ◌+◌, Bool, true, false, List, [], ◌∷◌, ◌++◌, length, take, arith, refl, sym, ap, subst, ◌∙◌, length-append, append-nil, append_assoc}
+use Rattle.std.specs.Prelude.{Option, Some, None, if◌then◌else◌}
+use Rattle.std.specs.List.{All}
 use Rattle.std.proofs.lemmas.Int.{ints}
 use Rattle.std.proofs.lemmas.List.Elements.{All-head, All-tail, All-nil}
-use Rattle.svc_base.specs.Calendar.{IsReadDay, first_day, month_length}
+use Rattle.svc_base.specs.Calendar.{month_length}
 use Rattle.svc_base.specs.Sums.{total_by}
 use Rattle.svc_types.specs.declared.requests.Command.{Command}
 use Rattle.svc_types.specs.declared.requests.Command.TheVariants as command
@@ -14,17 +14,15 @@ use Rattle.svc_types.specs.declared.replies.Refusal.TheVariants.{KeyReused}
 use Rattle.svc_types.specs.Keys.{IsKey}
 use Rattle.svc_types.specs.Requests.{IsCommand}
 use Rattle.svc_types.specs.Same.{is_same}
-use Rattle.period_adjust.specs.Sealed.{Sealed, Reporting, reporting}
+use Rattle.period_adjust.specs.Sealed.{Sealed}
 use Rattle.period_adjust.specs.Sums.{DuePart}
 use Rattle.period_adjust.specs.Totals.{SendsItsSums}
-use Rattle.period_adjust.specs.Kept.{AreSealed}
 use Rattle.period_adjust.proofs.SealedLemmas.{sealed_start}
-use Rattle.svc_world.specs.Held.{Held}
-use Rattle.svc_world.specs.World.{World, Accepted, accepted, first_world, after, world_from, world}
+use Rattle.svc_world.specs.World.{World, Accepted, first_world, after, world_from, world}
 use Rattle.svc_world.specs.Refusals.{refusal_of}
-use Rattle.svc_world.specs.Judging.{Judgement, Kept, Refused, Fresh, by_refusal, by_key, is_key, reply_of, Known, known_from, known, judged, IsHistoryFrom, AreWellFormed, IsHistory}
+use Rattle.svc_world.specs.Judging.{Kept, Refused, Fresh, by_refusal, by_key, is_key, reply_of, Known, known_from, known, judged, IsHistoryFrom, AreWellFormed, IsHistory}
 use Rattle.svc_world.specs.Custody.{rows_made, rows_from, rows_in}
-use Rattle.svc_world.specs.Worlds.{IsHeld, IsOwned, IsListed, sent_part, IsPassed, AreReports, IsWorld, AreWorlds}
+use Rattle.svc_world.specs.Worlds.{IsHeld, IsOwned, IsListed, sent_part, IsPassed, IsWorld, AreWorlds}
 use Rattle.svc_world.proofs.EntryWorlds.{pay_keeps, curtail_keeps, payoff_keeps, deposit_keeps, disburse_keeps, refund_keeps, waive_keeps}
 use Rattle.svc_world.proofs.LoanWorlds.{reverse_keeps, line_keeps, drop_keeps, retype_keeps}
 use Rattle.svc_world.proofs.AnalysedWorlds.{analyse_keeps}
@@ -125,10 +123,11 @@ accepted_from done [] formed fresh = tt
 accepted_from done (a ∷ more) formed fresh =
     let here = All-head (λ (x : Accepted). IsKey x.key × IsCommand x.command) a more formed in
     let rest = accepted_from (done ++ a ∷ []) more (All-tail (λ (x : Accepted). IsKey x.key × IsCommand x.command) a more formed) fresh.1 in
-    let count : length (done ++ a ∷ []) ≡ length done + 1 = omega (arith, length-append done (a ∷ [])) in
-    ((here.1, fresh_none done a.key a.command fresh.0),
-     subst (λ k. AreAccepted k (after (length done + 1) (world done) a.command) more) count
-       (subst (λ x. AreAccepted (length (done ++ a ∷ [])) x more) (world-push done a) rest))
+    let count : length (done ++ a ∷ []) ≡ length done + 1 = omega (arith, length-append done (a ∷ [])) in (
+      (here.1, fresh_none done a.key a.command fresh.0),
+      subst (λ k. AreAccepted k (after (length done + 1) (world done) a.command) more) count
+          (subst (λ x. AreAccepted (length (done ++ a ∷ [])) x more) (world-push done a) rest),
+    )
 
 pub history_accepted : (h : List Accepted) → IsHistory h → AreAccepted 0 first_world h
 unfolding world_from

@@ -1,7 +1,7 @@
 -- The laws of the books after every history: cash is what is held, reports only grow, and few commands have
 -- adjustments.
-use Rattle.std.proofs.Common.{◌≡◌, ℕ, zero, suc, ◌+◌, List, [], ◌∷◌, ◌++◌, map, length, arith, refl, sym, ap, ◌∙◌, append-nil, append_assoc}
-use Rattle.std.specs.Prelude.{◌≢◌, Option, Some, None, ℤ, pos, ◌+ℤ◌, ◌-ℤ◌}
+use Rattle.std.proofs.Common.{◌≡◌, ℕ, ◌+◌, List, [], ◌∷◌, ◌++◌, length, arith, refl, sym, ap, ◌∙◌, append-nil, append_assoc}
+use Rattle.std.specs.Prelude.{◌≢◌, None, pos, ◌+ℤ◌, ◌-ℤ◌}
 use Rattle.std.specs.List.{All}
 use Rattle.std.proofs.lemmas.Int.{ints}
 use Rattle.svc_base.specs.Sums.{total_by}
@@ -9,7 +9,6 @@ use Rattle.svc_base.proofs.SumLemmas.{total_by-same}
 use Rattle.svc_types.specs.declared.account.Act.TheVariants as act
 use Rattle.svc_types.specs.declared.requests.Command.{Command}
 use Rattle.svc_types.specs.declared.requests.Command.TheVariants as command
-use Rattle.svc_types.specs.Requests.{IsCommand}
 use Rattle.svc_spec.specs.Accounts.{IsAccount}
 use Rattle.svc_spec.proofs.TotalLemmas.{account_total}
 use Rattle.custodial_book.specs.declared.row.Row.{Row}
@@ -17,7 +16,7 @@ use Rattle.custodial_book.specs.declared.part.Account.{Account as CashAccount}
 use Rattle.custodial_book.specs.declared.part.Account.TheVariants.{T, P}
 use Rattle.custodial_book.specs.Rows.{balance_of}
 use Rattle.period_adjust.specs.Sums.{report_of}
-use Rattle.svc_world.specs.Held.{Held, find_loan, boarded, with_loan, with_entry, with_reversal, on_day, with_bill, without_bill, with_type, changed}
+use Rattle.svc_world.specs.Held.{Held, find_loan, boarded, with_loan, with_entry, with_reversal, on_day, with_bill, without_bill, with_type}
 use Rattle.svc_world.specs.LoanDues.{type_change}
 use Rattle.svc_world.specs.Reports.{lines_of}
 use Rattle.svc_world.specs.World.{World, Accepted, first_world, entry, with_analysis, loans_after, seals_after, after, world_from, world}
@@ -25,7 +24,7 @@ use Rattle.svc_world.specs.Refusals.{refusal_of}
 use Rattle.svc_world.specs.Judging.{Fresh, judged, IsHistory}
 use Rattle.svc_world.specs.Worlds.{IsWorld}
 use Rattle.svc_world.specs.Custody.{borrower_cash, held_for, rows_made, rows_from, rows_in}
-use Rattle.svc_world.specs.Laws.{IsConserved, IsHeldBack, AreLawful, ReportsGrow, CanAdjust, adjustments_by, IsLawfulStep}
+use Rattle.svc_world.specs.Laws.{AreLawful, ReportsGrow, CanAdjust, adjustments_by, IsLawfulStep}
 use Rattle.svc_world.proofs.LoanListLemmas.{numbers_of, changed_numbers, mapped_numbers}
 use Rattle.svc_world.proofs.CashLemmas.{is_held_back, holds, rows_are_cash, boarding_rows_are_cash}
 use Rattle.svc_world.proofs.QuietWorlds.{quiet_none}

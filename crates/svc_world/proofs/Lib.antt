@@ -23,3 +23,4 @@ pub mod BoardWorlds
 pub mod ClosedWorlds
 pub mod HistoryLemmas
 pub mod LawLemmas
+pub mod OpeningLemmas

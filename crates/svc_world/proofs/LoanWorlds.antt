@@ -1,6 +1,6 @@
 -- A world stays sound where an entry is reversed, a line is set or dropped, or the type changes.
-use Rattle.std.proofs.Common.{◌≡◌, ℕ, zero, suc, ◌+◌, ◌-◌, ◌≤◌, ◌<◌, max, Bool, true, false, not, List, [], ◌∷◌, ◌++◌, length, get_or, arith, refl, sym, ap, subst, ◌∙◌, length-append, append-nil}
-use Rattle.std.specs.Prelude.{◌==◌, nat_le, nat_lt, ◌&&◌, ◌||◌, IsTrue, Option, Some, None, IfSome, ℤ, pos, ◌≤ℤ◌, int_le, if◌then◌else◌, is_some}
+use Rattle.std.proofs.Common.{◌≡◌, ℕ, suc, ◌+◌, ◌≤◌, ◌<◌, max, Bool, true, false, not, List, [], ◌∷◌, length, get_or, arith, refl, sym, ap, subst, ◌∙◌, length-append, append-nil}
+use Rattle.std.specs.Prelude.{◌==◌, nat_le, nat_lt, ◌&&◌, ◌||◌, Option, Some, None, IfSome, pos, int_le, if◌then◌else◌, is_some}
 use Rattle.std.specs.List.{All, find, list_any}
 use Rattle.std.proofs.lemmas.Bool.Decides.{nat_tests}
 use Rattle.std.proofs.lemmas.List.Elements.{All-push, All-head, All-tail}
@@ -10,28 +10,27 @@ use Rattle.svc_types.specs.declared.terms.RemitType.{RemitType}
 use Rattle.svc_types.specs.declared.account.Entry.{Entry}
 use Rattle.svc_types.specs.declared.faults.LineWhy.{LineWhy}
 use Rattle.svc_types.specs.declared.faults.LineWhy.TheVariants.{Amount, MonthRange, Every}
-use Rattle.svc_types.specs.declared.requests.Command.{Command}
 use Rattle.svc_types.specs.declared.requests.Command.TheVariants as command
 use Rattle.svc_types.specs.declared.requests.TypeChange.{TypeChange}
 use Rattle.svc_types.specs.declared.replies.Refusal.TheVariants.{AlreadyReversed, BadLine, ClosedMonth, Full}
 use Rattle.svc_types.specs.declared.replies.Limit.TheVariants.{Types, Lines}
 use Rattle.svc_types.specs.declared.replies.Refusal.TheVariants as refusal
-use Rattle.svc_spec.specs.Accounts.{Account, IsAccount, entry_of, reverser_of}
+use Rattle.svc_spec.specs.Accounts.{entry_of, reverser_of}
 use Rattle.escrow_lines.specs.declared.line.Line.{Line}
-use Rattle.escrow_lines.specs.Bills.{IsBill, is_right, is_period, line_fault}
+use Rattle.escrow_lines.specs.Bills.{IsBill, is_right, line_fault}
 use Rattle.escrow_lines.specs.BillLists.{has_id, with_line, AreLines}
 use Rattle.escrow_lines.proofs.LineLemmas.{are_with, are_without}
-use Rattle.period_adjust.specs.Conditions.{count_held, first_month, last_month}
+use Rattle.period_adjust.specs.Conditions.{last_month}
 use Rattle.period_adjust.specs.Kept.{month_after}
-use Rattle.svc_world.specs.Held.{Held, find_loan, boarded_month, with_reversal, with_bill, without_bill, with_type}
+use Rattle.svc_world.specs.Held.{Held, boarded_month, with_reversal, with_bill, without_bill, with_type}
 use Rattle.svc_world.specs.LoanDues.{type_change}
 use Rattle.svc_world.specs.World.{World, loans_after, seals_after, after}
-use Rattle.svc_world.specs.Refusals.{Case, case, case_of, first_of, refusal_of, is_analysis, adjustments_full, entry_reversal_cases, reversal_cases, line_cases, has_line, no_such_line, retype_cases, with_last}
-use Rattle.svc_world.specs.Worlds.{IsLimited, IsHeld, IsWorld}
+use Rattle.svc_world.specs.Refusals.{case, case_of, first_of, refusal_of, is_analysis, adjustments_full, entry_reversal_cases, reversal_cases, line_cases, has_line, no_such_line, retype_cases, with_last}
+use Rattle.svc_world.specs.Worlds.{IsHeld, IsWorld}
 use Rattle.svc_world.proofs.LimitedLemmas.{reversed_limited}
 use Rattle.svc_world.proofs.AgreeLemmas.{AgreeTo, reversal_agrees, type_agrees}
-use Rattle.svc_world.proofs.CaseLemmas.{past, past_of, IsPastLast, past_last, HasRoom, room_left}
-use Rattle.svc_world.proofs.ChangedWorlds.{IsChange, closed_months, world_with, change_keeps}
+use Rattle.svc_world.proofs.CaseLemmas.{past, past_of, past_last, HasRoom, room_left}
+use Rattle.svc_world.proofs.ChangedWorlds.{IsChange, world_with, change_keeps}
 use Rattle.svc_world.proofs.NamedLoans.{named_loan, room_enough, asked}
 use Rattle.svc_world.proofs.QuietWorlds.{IsQuiet, quiet_keeps}
 
@@ -92,7 +91,7 @@ reverse_keeps n id number w h e =
     let f = with_reversal number (n + 1) in
     let ch = reversal_change n number w l it.entry is.held it.found in
     subst (λ i. IsWorld (n + 1) (world_with w i f (n + 1))) is.number
-      (change_keeps n m w f l h q.few is.found ch (room_enough n m w l h is.found ch.since it.room))
+    (change_keeps n m w f l h q.few is.found ch (room_enough n m w l h is.found ch.since it.room))
 
 -- ---- changes from a month on that is not closed
 
@@ -134,6 +133,7 @@ bill_from line e =
     both true true e = (refl, refl)
     both true false e = absurd (cc)
     both false b e = absurd (cc)
+
     right : (line : Line) (why : LineWhy) (rest : List LineWhy) → find (λ y. not (is_right line y)) (why ∷ rest) ≡ None → (is_right line why ≡ true) × (find (λ y. not (is_right line y)) rest ≡ None)
     right line why rest e =
         elim (is_right line why) as (λ v. is_right line why ≡ v → (if not v then Some why else find (λ y. not (is_right line y)) rest) ≡ None → (is_right line why ≡ true) × (find (λ y. not (is_right line y)) rest ≡ None)) [

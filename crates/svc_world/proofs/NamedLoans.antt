@@ -1,9 +1,9 @@
 -- The loan that an accepted command names, and the room for its adjustments.
-use Rattle.std.proofs.Common.{◌≡◌, ℕ, ◌+◌, ◌-◌, ◌≤◌, ◌<◌, false, List, arith, refl, sym, ap, ◌∙◌}
-use Rattle.std.specs.Prelude.{nat_le, Option, Some, None, IfSome}
+use Rattle.std.proofs.Common.{◌≡◌, ℕ, ◌+◌, ◌≤◌, ◌<◌, false, List, arith, sym, ap, ◌∙◌}
+use Rattle.std.specs.Prelude.{Some, None}
 use Rattle.std.proofs.lemmas.Bool.Decides.{nat_tests}
 use Rattle.svc_types.specs.declared.requests.Command.{Command}
-use Rattle.period_adjust.specs.Conditions.{count_held, first_month, last_month}
+use Rattle.period_adjust.specs.Conditions.{count_held, first_month}
 use Rattle.svc_world.specs.Held.{Held, find_loan, boarded_month}
 use Rattle.svc_world.specs.World.{World}
 use Rattle.svc_world.specs.Refusals.{Case, first_of, on_loan, full_of_commands, cases_by_command, refusal_of}

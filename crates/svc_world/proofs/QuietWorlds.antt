@@ -1,12 +1,12 @@
 -- A command that changes a loan from a month on that is not closed: the world stays sound, and the command has
 -- no adjustments.
-use Rattle.std.proofs.Common.{◌≡◌, ℕ, ◌+◌, ◌-◌, ◌≤◌, ◌<◌, true, false, List, [], map, arith, refl, sym, ap, subst, ◌∙◌}
-use Rattle.std.specs.Prelude.{◌==◌, nat_lt, nat_le, Option, Some, None, IfSome}
-use Rattle.std.specs.List.{All, range_with_len}
+use Rattle.std.proofs.Common.{◌≡◌, ℕ, ◌+◌, ◌≤◌, ◌<◌, true, false, [], map, arith, refl, sym, ap, subst, ◌∙◌}
+use Rattle.std.specs.Prelude.{◌==◌, nat_lt, Option, Some, None, IfSome}
+use Rattle.std.specs.List.{range_with_len}
 use Rattle.std.proofs.lemmas.Bool.Decides.{nat_tests}
 use Rattle.svc_base.specs.Calendar.{IsDay, month_of, last_day, month_length}
 use Rattle.period_adjust.specs.Changes.{adjustments_of}
-use Rattle.period_adjust.specs.Conditions.{count_held, first_month, last_month}
+use Rattle.period_adjust.specs.Conditions.{first_month, last_month}
 use Rattle.period_adjust.specs.Kept.{month_after}
 use Rattle.svc_world.specs.Held.{Held, find_loan, changed}
 use Rattle.svc_world.specs.LoanDues.{due_of}
@@ -31,7 +31,7 @@ quiet_keeps n id w f h q =
     let most = h.reports.held in
     let end = q.end in
     subst (λ i. IsWorld (n + 1) (world_with w i f (n + 1))) is.number
-      (change_keeps n q.month w f q.loan h q.few is.found q.change (omega (arith, most, end)))
+    (change_keeps n q.month w f q.loan h q.few is.found q.change (omega (arith, most, end)))
 
 pub quiet_none : (n id : ℕ) (w : World) (f : Held → Held) → IsWorld n w → IsQuiet n w id f → changes_of (n + 1) (months_of w.seals.reports) w.loans (changed id f w.loans) ≡ []
 quiet_none n id w f h q =
