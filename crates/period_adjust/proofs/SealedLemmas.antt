@@ -69,7 +69,7 @@ sums_fit s end h = λ k p loan.
 
 -- A change of dues.
 
-adjustments_all : (P : ℕ → Type 0) (number l : ℕ) (bs later : List MonthDue) → All (λ d. P d.month) later → All (λ a. P a.month) (adjustments_of number l bs later)
+pub adjustments_all : (P : ℕ → Type 0) (number l : ℕ) (bs later : List MonthDue) → All (λ d. P d.month) later → All (λ a. P a.month) (adjustments_of number l bs later)
 adjustments_all P number l [] later h = All-nil (λ (a : Adjustment). P a.month)
 adjustments_all P number l (b ∷ bs) [] h = All-nil (λ (a : Adjustment). P a.month)
 adjustments_all P number l (b ∷ bs) (a ∷ later) h =

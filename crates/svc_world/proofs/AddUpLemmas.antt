@@ -1,24 +1,23 @@
 -- What a command records of a loan's dues may be recorded, and reports and adjustments add up after it.
-use Rattle.std.proofs.Common.{◌≡◌, ℕ, zero, suc, ◌+◌, ◌-◌, ◌≤◌, ◌<◌, Bool, true, false, cond, List, [], ◌∷◌, ◌++◌, map, length, get_or, arith, refl, sym, ap, subst, ◌∙◌, length-append}
-use Rattle.std.specs.Prelude.{◌&&◌, ◌==◌, nat_lt, nat_le, ℤ, pos, Option, Some, None, IfSome, if◌then◌else◌}
+use Rattle.std.proofs.Common.{◌≡◌, ℕ, zero, suc, ◌+◌, ◌≤◌, ◌<◌, true, false, List, [], ◌∷◌, map, length, arith, refl, sym, ap, ◌∙◌, length-append}
+use Rattle.std.specs.Prelude.{◌==◌, nat_lt, ℤ, Some, if◌then◌else◌}
 use Rattle.std.specs.List.{All, AllPairs, range_with_len}
 use Rattle.std.proofs.lemmas.Bool.Decides.{nat_tests}
-use Rattle.std.proofs.lemmas.List.Elements.{All-cons, All-head, All-tail, All-nil}
+use Rattle.std.proofs.lemmas.List.Elements.{All-cons, All-nil}
 use Rattle.std.proofs.lemmas.List.Kept.{AllPairs-cons}
 use Rattle.remit_types.specs.declared.dues.MonthDue.{MonthDue}
-use Rattle.period_adjust.specs.declared.adjustment.Adjustment.{Adjustment}
-use Rattle.period_adjust.specs.Sealed.{Sealed, Reporting, reporting}
+use Rattle.period_adjust.specs.Sealed.{Reporting}
 use Rattle.period_adjust.specs.Sums.{DuePart, Interest, Principal}
 use Rattle.period_adjust.specs.Changes.{is_unchanged, adjustment, change_of, adjustments_of}
-use Rattle.period_adjust.specs.Totals.{total, part_of_due, due_in, given, Change, Close, after}
-use Rattle.period_adjust.specs.Conditions.{IsSmallDue, IsDueSoFar, IsClosed, MayChange, first_month, last_month, count_held}
+use Rattle.period_adjust.specs.Totals.{total, part_of_due, due_in, Change, after}
+use Rattle.period_adjust.specs.Conditions.{IsSmallDue, IsDueSoFar, IsClosed, MayChange, last_month, count_held}
 use Rattle.period_adjust.specs.Kept.{AreSealed, month_after}
 use Rattle.period_adjust.proofs.SealedLemmas.{call_adds_up}
 use Rattle.svc_world.specs.Held.{Held, find_loan, changed, boarded_month}
 use Rattle.svc_world.specs.LoanDues.{due_of}
 use Rattle.svc_world.specs.Worlds.{due_by, AddUp}
 use Rattle.svc_world.proofs.AgreeLemmas.{AgreeTo, same_due}
-use Rattle.svc_world.proofs.ChangesLemmas.{IsSameDue, range_all}
+use Rattle.svc_world.proofs.ChangesLemmas.{IsSameDue}
 use Rattle.svc_world.proofs.LoanListLemmas.{KeepsNumber, find_changed, find_changed_other}
 
 -- ---- what is given for a month by the dues of consecutive months

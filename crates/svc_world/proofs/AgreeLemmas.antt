@@ -1,26 +1,22 @@
 -- What an entry, a reversal, a business day and a change of type leave as it was: the books at the ends of
 -- earlier months, and the dues of these months.
-use Rattle.std.proofs.Common.{◌≡◌, ℕ, zero, suc, ◌+◌, ◌-◌, ◌*◌, ◌≤◌, ◌<◌, min, true, false, List, [], ◌∷◌, ◌++◌, map, arith, refl, sym, ap, subst, ◌∙◌}
-use Rattle.std.specs.Prelude.{nat_lt, nat_le, ◌&&◌, fold, Option, Some, None, IfSome, if◌then◌else◌}
-use Rattle.std.specs.List.{All, range_with_len}
+use Rattle.std.proofs.Common.{◌≡◌, ℕ, zero, suc, ◌+◌, ◌-◌, ◌≤◌, ◌<◌, min, true, false, ◌∷◌, arith, refl, sym, ap, ◌∙◌}
+use Rattle.std.specs.Prelude.{nat_lt, nat_le, fold, Option, Some, IfSome}
 use Rattle.std.proofs.lemmas.Bool.Decides.{nat_tests}
 use Rattle.std.proofs.lemmas.List.Sums.{fold_push}
-use Rattle.svc_base.specs.Calendar.{month_of, last_day, month_length}
+use Rattle.svc_base.specs.Calendar.{month_of, last_day}
 use Rattle.svc_base.specs.DayLemmas.{month_length_most}
 use Rattle.svc_types.specs.declared.terms.Terms.{Terms}
-use Rattle.svc_types.specs.declared.terms.RemitType.{RemitType}
 use Rattle.svc_types.specs.declared.account.Entry.{Entry}
-use Rattle.svc_types.specs.declared.books.Books.{Books}
-use Rattle.svc_types.specs.declared.books.MonthFacts.{MonthFacts}
 use Rattle.svc_types.specs.declared.requests.TypeChange.{TypeChange}
 use Rattle.svc_spec.specs.Books.{start}
 use Rattle.svc_spec.specs.Accounts.{Account, IsAccount, MayPost, books_of, entry_of, posted, reversed_in, advanced_to}
-use Rattle.svc_spec.specs.Months.{end_day, books_at_end, facts_between, month_facts}
+use Rattle.svc_spec.specs.Months.{end_day, books_at_end, month_facts}
 use Rattle.svc_spec.proofs.MonthLemmas.{before_boarded, from_boarded}
-use Rattle.svc_spec.proofs.SameLemmas.{posted_same, reversed_same, advanced_same}
-use Rattle.remit_types.specs.Dues.{LoanMonth, loan_month, carried, due_between}
+use Rattle.svc_spec.proofs.SameLemmas.{posted_same, reversed_same}
+use Rattle.remit_types.specs.Dues.{loan_month, carried, due_between}
 use Rattle.svc_world.specs.Held.{Held, boarded_month, with_entry, with_reversal, on_day, with_type}
-use Rattle.svc_world.specs.LoanDues.{type_change, counting, kind_in, month_of_loan, first_months, carried_to, carried_at, due_in, carry_of, due_of}
+use Rattle.svc_world.specs.LoanDues.{type_change, counting, kind_in, month_of_loan, first_months, carried_to, carry_of, due_of}
 
 -- two accounts of one loan that have the same books at the ends of all months before one
 pub record AgreeBefore (m : ℕ) (a b : Account) : Type 0 where
@@ -66,9 +62,9 @@ pub advanced_agrees : (a : Account) (d : ℕ) → a.today ≤ d → AgreeBefore 
 advanced_agrees a d le = record {
   terms = refl;
   ends = λ p lt. same_end a (advanced_to d a) p refl (λ from.
-    let most = month_length_most p in
-    let same : min (last_day p) d ≡ min (last_day p) a.today = omega arith in
-    ap (books_of a) same);
+      let most = month_length_most p in
+      let same : min (last_day p) d ≡ min (last_day p) a.today = omega arith in
+      ap (books_of a) same);
 }
 
 pub same_facts : (m : ℕ) (a b : Account) (p : ℕ) → AgreeBefore m a b → p < m → month_facts b p ≡ month_facts a p
@@ -129,6 +125,6 @@ pub type_agrees : (l : Held) (c : TypeChange) → AgreeTo c.from l (with_type c 
 type_agrees l c = record {
   account = record { terms = refl; ends = λ p lt. refl };
   kinds = λ p lt.
-    let best = fold (counting p) (type_change 0 l.account.terms.kind) l.types in
-    ap (λ (x : TypeChange). x.kind) (fold_push (counting p) (type_change 0 l.account.terms.kind) l.types c ∙ counting_later p best c lt);
+      let best = fold (counting p) (type_change 0 l.account.terms.kind) l.types in
+      ap (λ (x : TypeChange). x.kind) (fold_push (counting p) (type_change 0 l.account.terms.kind) l.types c ∙ counting_later p best c lt);
 }

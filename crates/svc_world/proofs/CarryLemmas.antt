@@ -1,37 +1,35 @@
 -- The limits of what is carried of a loan and due for its months, and sums of dues.
-use Rattle.std.proofs.Common.{◌≡◌, ℕ, zero, suc, ◌+◌, ◌-◌, ◌*◌, ◌≤◌, ◌<◌, min, true, false, List, [], ◌∷◌, map, length, arith, refl, sym, ap, subst, ◌∙◌}
-use Rattle.std.specs.Prelude.{ℤ, pos, neg_ℤ, ◌+ℤ◌, ◌-ℤ◌, ◌≤ℤ◌, nat_lt, if◌then◌else◌}
-use Rattle.std.specs.List.{All, range_with_len}
+use Rattle.std.proofs.Common.{◌≡◌, ℕ, zero, suc, ◌+◌, ◌-◌, ◌≤◌, ◌<◌, true, false, List, map, length, arith, refl, sym, ap, ◌∙◌}
+use Rattle.std.specs.Prelude.{ℤ, pos, ◌+ℤ◌, ◌-ℤ◌, nat_lt}
+use Rattle.std.specs.List.{range_with_len}
 use Rattle.std.proofs.lemmas.Bool.Decides.{nat_tests}
 use Rattle.std.proofs.lemmas.Int.{ints}
 use Rattle.std.proofs.lemmas.List.Elements.{All-cons, All-nil}
-use Rattle.svc_base.specs.Calendar.{month_of, last_day}
+use Rattle.svc_base.specs.Calendar.{month_of}
 use Rattle.svc_base.specs.Sums.{total_by}
 use Rattle.svc_types.specs.declared.terms.Terms.{Terms}
 use Rattle.svc_types.specs.declared.terms.RemitType.{RemitType}
 use Rattle.svc_types.specs.declared.terms.RemitType.TheVariants.{AA, SA, SS}
 use Rattle.svc_types.specs.declared.books.Books.{Books}
 use Rattle.svc_types.specs.declared.requests.TypeChange.{TypeChange}
-use Rattle.svc_types.specs.Terms.{IsSound}
-use Rattle.svc_spec.specs.Books.{AreBooks, start}
-use Rattle.svc_spec.specs.Accounts.{Account, IsAccount, books_of}
+use Rattle.svc_spec.specs.Books.{start}
+use Rattle.svc_spec.specs.Accounts.{Account, IsAccount}
 use Rattle.svc_spec.specs.Months.{end_day, books_at_end, month_facts, AreFacts}
 use Rattle.svc_spec.proofs.AccountLemmas.{account_books}
 use Rattle.svc_spec.proofs.FloorLemmas.{account_parts}
 use Rattle.svc_spec.proofs.MonthLemmas.{boarded_some, before_boarded, from_boarded}
 use Rattle.svc_spec.proofs.RiseLemmas.{account_rose, month_within}
-use Rattle.remit_types.specs.declared.dues.MonthDue.{MonthDue}
 use Rattle.remit_types.specs.declared.dues.Carry.{Carry}
-use Rattle.remit_types.specs.Dues.{LoanMonth, loan_month, carried, carried_after, carried_first, passed_by, due_between}
+use Rattle.remit_types.specs.Dues.{LoanMonth, carried_after, carried_first, passed_by}
 use Rattle.remit_types.specs.Limits.{IsWithin, HasSums, AreWithin, AllWithin}
 use Rattle.remit_types.proofs.LimitLemmas.{carried-within, carried-scheduled_low, carried-scheduled_high}
-use Rattle.period_adjust.specs.Conditions.{IsAmount, IsSmallDue}
-use Rattle.svc_world.specs.Held.{Held, boarded_month}
-use Rattle.svc_world.specs.LoanDues.{month_of_loan, first_months, carried_to, carried_at, due_in, carry_of, due_of}
+use Rattle.period_adjust.specs.Conditions.{IsSmallDue}
+use Rattle.svc_world.specs.Held.{Held}
+use Rattle.svc_world.specs.LoanDues.{month_of_loan, first_months, carried_to, carried_at, carry_of, due_of}
 use Rattle.svc_world.specs.Custody.{due_sum}
 use Rattle.svc_world.specs.Worlds.{IsLimited}
 use Rattle.svc_world.proofs.SumsWithin.{IsUpTo}
-use Rattle.svc_world.proofs.HoldingLemmas.{AreHoldings, account_holdings}
+use Rattle.svc_world.proofs.HoldingLemmas.{account_holdings}
 
 -- ---- what was collected by the end of a month
 

@@ -1,24 +1,21 @@
 -- The balances of the custodial accounts are what they hold for all loans.
-use Rattle.std.proofs.Common.{◌≡◌, ℕ, zero, suc, ◌+◌, ◌≤◌, Bool, true, false, cond, List, [], ◌∷◌, ◌++◌, map, length, arith, refl, sym, ap, subst, ◌∙◌, append_assoc, append-nil}
-use Rattle.std.specs.Prelude.{◌==◌, nat_lt, ℤ, pos, ◌+ℤ◌, ◌-ℤ◌, Option, Some, None, if◌then◌else◌}
-use Rattle.std.specs.Int.{int_max}
+use Rattle.std.proofs.Common.{◌≡◌, ℕ, Bool, true, false, List, [], ◌∷◌, ◌++◌, arith, refl, sym, ap, ◌∙◌, append_assoc, append-nil}
+use Rattle.std.specs.Prelude.{nat_lt, ℤ, pos, ◌+ℤ◌, ◌-ℤ◌, Option, Some, None, if◌then◌else◌}
 use Rattle.std.specs.List.{All, AllPairs}
 use Rattle.std.proofs.lemmas.Int.{ints, clamps}
-use Rattle.std.proofs.lemmas.List.Elements.{All-head, All-tail}
 use Rattle.svc_base.specs.Sums.{total_by}
 use Rattle.svc_base.proofs.SumLemmas.{total_by-same}
-use Rattle.svc_spec.specs.Accounts.{Account, IsAccount}
+use Rattle.svc_spec.specs.Accounts.{IsAccount}
 use Rattle.svc_spec.proofs.TotalLemmas.{account_total}
 use Rattle.advance_book.specs.Positions.{pi_held, pi_advanced, pi_residual}
 use Rattle.custodial_book.specs.declared.part.Account.{Account as CashAccount}
 use Rattle.custodial_book.specs.declared.part.Account.TheVariants.{T, P}
 use Rattle.custodial_book.specs.declared.row.Row.{Row}
-use Rattle.custodial_book.specs.declared.row.Totals.{Totals}
-use Rattle.custodial_book.specs.Rows.{rows_of, balance_of, cash_of, balance_with}
+use Rattle.custodial_book.specs.Rows.{rows_of, balance_of, cash_of}
 use Rattle.custodial_book.proofs.CashLemmas.{balance_rows}
 use Rattle.svc_world.specs.Held.{Held, find_loan, with_loan, books_now}
 use Rattle.svc_world.specs.World.{World}
-use Rattle.svc_world.specs.Custody.{collected, remitted_for, is_settled, held_for, advanced_for, residual_of, totals_of, no_totals, totals_before, rows_between, rows_made, borrower_cash}
+use Rattle.svc_world.specs.Custody.{collected, remitted_for, is_settled, held_for, totals_of, no_totals, totals_before, rows_between, rows_made, borrower_cash}
 use Rattle.svc_world.specs.Laws.{IsHeldBack}
 use Rattle.svc_world.proofs.LoanListLemmas.{rises, IsFound, all_found, numbers_of}
 

@@ -1,27 +1,22 @@
 -- The adjustments of a command are those of the loan that it changed, from the changed month on.
-use Rattle.std.proofs.Common.{◌≡◌, ℕ, zero, suc, ◌+◌, ◌-◌, ◌≤◌, ◌<◌, Bool, true, false, cond, List, [], ◌∷◌, ◌++◌, map, length, get_or, arith, refl, sym, ap, subst, ◌∙◌, append-nil}
-use Rattle.std.specs.Prelude.{◌&&◌, ◌==◌, nat_lt, nat_le, ℤ, pos, ◌-ℤ◌, Option, Some, None, IfSome, if◌then◌else◌}
-use Rattle.std.specs.Ordering.{int_eq}
-use Rattle.std.specs.List.{All, AllPairs, range_with_len}
+use Rattle.std.proofs.Common.{◌≡◌, ℕ, zero, suc, ◌+◌, ◌-◌, ◌≤◌, ◌<◌, true, false, cond, List, [], ◌∷◌, ◌++◌, map, length, get_or, arith, refl, sym, ap, ◌∙◌, append-nil}
+use Rattle.std.specs.Prelude.{◌==◌, nat_lt, nat_le, ℤ, pos, ◌-ℤ◌, Option, Some, None, if◌then◌else◌}
+use Rattle.std.specs.List.{All, range_with_len}
 use Rattle.std.proofs.lemmas.Int.{ints}
 use Rattle.std.proofs.lemmas.List.{append_assoc}
 use Rattle.std.proofs.lemmas.List.Elements.{All-cons, All-head, All-tail, All-nil}
 use Rattle.std.proofs.lemmas.Bool.Decides.{Decides-int_eq, nat_tests}
-use Rattle.svc_types.specs.declared.terms.Terms.{Terms}
 use Rattle.remit_types.specs.declared.dues.MonthDue.{MonthDue}
-use Rattle.remit_types.specs.declared.dues.Carry.{Carry}
 use Rattle.remit_types.specs.Dues.{carried_first, due_between}
-use Rattle.period_adjust.specs.declared.adjustment.Adjustment.{Adjustment}
 use Rattle.period_adjust.specs.Sealed.{Sealed}
-use Rattle.period_adjust.specs.Changes.{is_unchanged, change_of, adjustment, adjustments_of}
-use Rattle.period_adjust.specs.Conditions.{first_month, last_month}
-use Rattle.period_adjust.specs.Kept.{AreConsecutive, month_after}
+use Rattle.period_adjust.specs.Changes.{is_unchanged, change_of, adjustments_of}
+use Rattle.period_adjust.specs.Kept.{AreConsecutive}
 use Rattle.svc_world.specs.Held.{Held, find_loan, with_loan, changed, boarded_month}
-use Rattle.svc_world.specs.LoanDues.{carried_to, carried_at, due_in, carry_of, due_of}
+use Rattle.svc_world.specs.LoanDues.{carried_to, carry_of, due_of}
 use Rattle.svc_world.specs.Reports.{nothing_due, months_of, dues_for, changes_of}
 use Rattle.svc_world.proofs.AgreeLemmas.{AgreeTo, same_due}
 use Rattle.svc_world.proofs.CarryLemmas.{carried_none}
-use Rattle.svc_world.proofs.LoanListLemmas.{rises, IsFound, KeepsNumber, find_changed, find_changed_other, find_mapped, found_id}
+use Rattle.svc_world.proofs.LoanListLemmas.{IsFound, KeepsNumber}
 
 -- ---- dues that did not change have no adjustment
 
@@ -39,7 +34,7 @@ pub record IsSameDue (b d : MonthDue) : Type 0 where
   pub interest : b.interest ≡ d.interest
   pub principal : b.principal ≡ d.principal
 
-equal_due : (b d : MonthDue) → d ≡ b → IsSameDue b d
+pub equal_due : (b d : MonthDue) → d ≡ b → IsSameDue b d
 equal_due b d e = record { interest = ap (λ (x : MonthDue). x.interest) (sym e); principal = ap (λ (x : MonthDue). x.principal) (sym e) }
 
 pub adjusts_none : (n id : ℕ) (f g : ℕ → MonthDue) (months : List ℕ) → All (λ p. IsSameDue (f p) (g p)) months → adjustments_of n id (map f months) (map g months) ≡ []
@@ -88,10 +83,12 @@ changes_from n id m l k f c h from le =
   where
     before : (a : ℕ) → f + a ≤ m → adjustments_of n id (map (due_of l) (range_with_len f a)) (map (due_of k) (range_with_len f a)) ≡ []
     before a early = adjusts_none n id (due_of l) (due_of k) (range_with_len f a) (range_all (λ p. IsSameDue (due_of l p) (due_of k p)) f a (λ p low high. equal_due (due_of l p) (due_of k p) (same_due m l k p h from (omega arith))))
+
     short : f + c ≤ m → adjustments_of n id (map (due_of l) (range_with_len f c)) (map (due_of k) (range_with_len f c)) ≡ adjustments_of n id (map (due_of l) (range_with_len m (f + c - m))) (map (due_of k) (range_with_len m (f + c - m)))
     short early =
         let none : f + c - m ≡ 0 = omega arith in
         before c early ∙ sym (ap (λ x. adjustments_of n id (map (due_of l) (range_with_len m x)) (map (due_of k) (range_with_len m x))) none)
+
     long : (a b : ℕ) → f + a ≡ m → c ≡ a + b → adjustments_of n id (map (due_of l) (range_with_len f c)) (map (due_of k) (range_with_len f c)) ≡ adjustments_of n id (map (due_of l) (range_with_len m b)) (map (due_of k) (range_with_len m b))
     long a b to whole =
         ap (λ x. adjustments_of n id (map (due_of l) (range_with_len f x)) (map (due_of k) (range_with_len f x))) whole
@@ -178,6 +175,7 @@ changes_boarded n months all ls l h none early = placed ls h
   where
     new : adjustments_of n l.id (dues_for months (find_loan l.id all)) (map (due_of l) months) ≡ []
     new = ap (λ o. adjustments_of n l.id (dues_for months o) (map (due_of l) months)) none ∙ adjusts_none n l.id nothing_due (due_of l) months (λ i d lt. due_before l (get_or months i d) (early i d lt))
+
     placed : (ks : List Held) → All (IsFound all) ks → changes_of n months all (with_loan l ks) ≡ []
     placed [] h = changes_cons n months all l [] ∙ ap (λ xs. xs ++ changes_of n months all []) new ∙ changes_nil n months all
     placed (k ∷ ks) h =

@@ -1,30 +1,27 @@
 -- A month may be closed with the lines of all loans, and reports and adjustments add up after it.
-use Rattle.std.proofs.Common.{◌≡◌, ℕ, zero, suc, ◌+◌, ◌-◌, ◌≤◌, ◌<◌, Bool, true, false, cond, List, [], ◌∷◌, ◌++◌, map, length, get_or, arith, refl, sym, ap, subst, ◌∙◌}
-use Rattle.std.specs.Prelude.{◌&&◌, ◌||◌, ◌==◌, not, nat_lt, nat_le, ℤ, pos, ◌+ℤ◌, Option, Some, None, IfSome, if◌then◌else◌}
-use Rattle.std.specs.Ordering.{int_eq}
-use Rattle.std.specs.List.{All, Any, AllPairs, filter, list_any}
+use Rattle.std.proofs.Common.{◌≡◌, ℕ, suc, ◌+◌, ◌-◌, ◌≤◌, ◌<◌, Bool, true, false, cond, List, [], ◌∷◌, map, length, get_or, arith, refl, sym, ap, subst, ◌∙◌}
+use Rattle.std.specs.Prelude.{◌&&◌, ◌||◌, ◌==◌, not, nat_le, ℤ, pos, Option, Some, None, IfSome, if◌then◌else◌}
+use Rattle.std.specs.List.{All, Any, AllPairs, filter}
 use Rattle.std.proofs.lemmas.Int.{ints}
 use Rattle.std.proofs.lemmas.Bool.Decides.{nat_tests, Decides-int_eq}
-use Rattle.std.proofs.lemmas.List.Elements.{All-cons, All-head, All-tail, All-nil, All-map, All-filter}
-use Rattle.std.proofs.lemmas.List.Kept.{AllPairs-cons, AllPairs-filter}
+use Rattle.std.proofs.lemmas.List.Elements.{All-cons, All-head, All-tail, All-nil}
+use Rattle.std.proofs.lemmas.List.Kept.{AllPairs-cons}
 use Rattle.std.proofs.lemmas.List.Folds.{list_any_at}
-use Rattle.svc_base.specs.Calendar.{IsMonth}
 use Rattle.svc_base.specs.Sums.{total_by}
 use Rattle.svc_types.proofs.OrderLemmas.{pairs_head, pairs_tail}
-use Rattle.remit_types.specs.declared.dues.MonthDue.{MonthDue}
 use Rattle.period_adjust.specs.declared.adjustment.Adjustment.{Adjustment}
 use Rattle.period_adjust.specs.declared.report_line.ReportLine.{ReportLine}
-use Rattle.period_adjust.specs.Sealed.{Sealed, Reporting, reporting}
+use Rattle.period_adjust.specs.Sealed.{Reporting}
 use Rattle.period_adjust.specs.Sums.{DuePart, Interest, Principal, report_of}
-use Rattle.period_adjust.specs.Totals.{total, part_of_due, part_of_line, lined, given, Change, Close, after}
-use Rattle.period_adjust.specs.Conditions.{IsAmount, IsSmallDue, IsSmallLine, HasNoSums, IsExpected, AreDues, MayClose, first_month, last_month}
-use Rattle.period_adjust.specs.Kept.{AreSealed, AreSealedTo, IsBefore, month_after}
-use Rattle.period_adjust.proofs.SealedLemmas.{call_adds_up, total_before, month_after-next}
+use Rattle.period_adjust.specs.Totals.{total, part_of_due, part_of_line, lined, Close, after}
+use Rattle.period_adjust.specs.Conditions.{IsSmallLine, HasNoSums, AreDues, MayClose, last_month}
+use Rattle.period_adjust.specs.Kept.{AreSealed, month_after}
+use Rattle.period_adjust.proofs.SealedLemmas.{call_adds_up, total_before}
 use Rattle.period_adjust.proofs.KeptLemmas.{last_month-push}
 use Rattle.svc_world.specs.Held.{Held, find_loan, boarded_month}
 use Rattle.svc_world.specs.LoanDues.{carry_of, due_of}
 use Rattle.svc_world.specs.Reports.{is_zero, is_adjusted, is_reported, line_of, lines_of, nothing_due}
-use Rattle.svc_world.specs.Worlds.{due_by, AddUp, IsThere, IsOwned}
+use Rattle.svc_world.specs.Worlds.{due_by, AddUp, IsOwned}
 use Rattle.svc_world.proofs.ChangesLemmas.{IsSameDue, due_before}
 use Rattle.svc_world.proofs.LoanListLemmas.{rises, found_id}
 

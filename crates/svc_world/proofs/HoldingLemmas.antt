@@ -1,8 +1,8 @@
 -- What the books of an account hold and have collected was received: the limits of every number that custody
 -- and reports are made of.
-use Rattle.std.proofs.Common.{◌≡◌, ℕ, ◌+◌, ◌*◌, ◌≤◌, List, length, arith, refl}
-use Rattle.std.specs.Prelude.{ℤ, pos, neg_ℤ, ◌+ℤ◌, ◌-ℤ◌, ◌≤ℤ◌}
-use Rattle.std.specs.List.{All, filter}
+use Rattle.std.proofs.Common.{ℕ, ◌*◌, ◌≤◌, length, arith}
+use Rattle.std.specs.Prelude.{ℤ, pos, ◌+ℤ◌, ◌≤ℤ◌}
+use Rattle.std.specs.List.{All}
 use Rattle.std.proofs.lemmas.Int.{ints}
 use Rattle.std.proofs.lemmas.List.Elements.{All-filter}
 use Rattle.svc_types.specs.declared.books.Books.{Books}
@@ -12,9 +12,8 @@ use Rattle.svc_types.specs.declared.account.Entry.{Entry}
 use Rattle.svc_types.specs.Live.{is_reversed}
 use Rattle.svc_types.proofs.OrderLemmas.{live_all}
 use Rattle.svc_spec.specs.Step.{brought}
-use Rattle.svc_spec.specs.Books.{AreBooks, total}
-use Rattle.svc_spec.specs.Accounts.{Account, IsAccount, live_of, books_of}
-use Rattle.svc_spec.specs.Totals.{sum_over, refunded_by, disbursed_by, reversed_of, received, returned, refunded, disbursed}
+use Rattle.svc_spec.specs.Accounts.{Account, live_of, books_of}
+use Rattle.svc_spec.specs.Totals.{refunded_by, disbursed_by, reversed_of, received, returned, refunded, disbursed}
 use Rattle.svc_spec.proofs.AccountLemmas.{account_books, live_few, filter_length}
 use Rattle.svc_spec.proofs.TotalLemmas.{account_total}
 use Rattle.svc_spec.proofs.FloorLemmas.{escrow_floor, account_parts}

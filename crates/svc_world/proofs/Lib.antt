@@ -10,3 +10,17 @@ pub mod CloseLemmas
 pub mod SentSumLemmas
 pub mod CashLemmas
 pub mod RemittedLemmas
+pub mod ChangedWorlds
+pub mod CaseLemmas
+pub mod NamedLoans
+pub mod QuietWorlds
+pub mod EntryWorlds
+pub mod LoanWorlds
+pub mod AnalysisLemmas
+pub mod AnalysedWorlds
+pub mod DayWorlds
+pub mod BoardWorlds
+pub mod ClosedWorlds
+pub mod HistoryLemmas
+pub mod LawLemmas
+pub mod OpeningLemmas

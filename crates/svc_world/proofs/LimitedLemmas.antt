@@ -1,30 +1,26 @@
 -- An account stays within the limits with one more entry, reversal or business day.
-use Rattle.std.proofs.Common.{◌≡◌, ℕ, ◌+◌, ◌≤◌, ◌<◌, true, false, List, [], ◌∷◌, ◌++◌, length, arith, refl, sym, ap, ◌∙◌}
-use Rattle.std.specs.Prelude.{ℤ, pos, ◌+ℤ◌, ◌-ℤ◌, ◌≤ℤ◌, int_lt, not, ◌==◌, is_some, if◌then◌else◌}
+use Rattle.std.proofs.Common.{◌≡◌, ℕ, ◌≤◌, ◌<◌, true, false, length, arith, ap}
+use Rattle.std.specs.Prelude.{ℤ, pos, ◌+ℤ◌, ◌≤ℤ◌, int_lt, not, ◌==◌, is_some, if◌then◌else◌}
 use Rattle.std.specs.Int.{int_max}
-use Rattle.std.specs.List.{All, filter}
+use Rattle.std.specs.List.{All}
 use Rattle.std.proofs.lemmas.Int.{ints, clamps}
-use Rattle.std.proofs.lemmas.List.Elements.{All-append, All-filter, All-push}
+use Rattle.std.proofs.lemmas.List.Elements.{All-push}
 use Rattle.svc_base.specs.Calendar.{IsDay}
-use Rattle.svc_base.specs.Sums.{total_by}
 use Rattle.svc_base.proofs.SumLemmas.{total_by-push}
 use Rattle.svc_types.specs.declared.terms.Terms.{Terms}
 use Rattle.svc_types.specs.declared.books.Books.{Books}
 use Rattle.svc_types.specs.Live.{live_entries}
-use Rattle.svc_types.specs.declared.account.Act.{Act}
-use Rattle.svc_types.specs.declared.account.Act.TheVariants.{Pay, Curtail, Payoff, Deposit, Disburse, Refund, Waive, Analyse}
 use Rattle.svc_types.specs.declared.account.Entry.{Entry}
 use Rattle.svc_types.proofs.OrderLemmas.{live_all}
 use Rattle.svc_spec.specs.Step.{brought}
 use Rattle.svc_spec.specs.Payoff.{available}
-use Rattle.svc_spec.specs.Books.{AreBooks, total}
 use Rattle.svc_spec.specs.Accounts.{Account, IsAccount, MayBegin, MayPost, live_of, books_of, entry_of, begun, posted, reversed_in, advanced_to}
-use Rattle.svc_spec.specs.Totals.{sum_over, refunded_by, disbursed_by, reversed_of, received, returned, refunded, disbursed}
+use Rattle.svc_spec.specs.Totals.{sum_over, refunded_by, received, refunded}
 use Rattle.svc_spec.proofs.AccountLemmas.{account_books, begun_account, posted_account, reversed_account, advanced_account, live_after_post, live_after_reversal}
 use Rattle.svc_spec.proofs.TotalLemmas.{account_total, sum_placed}
 use Rattle.svc_world.specs.Worlds.{IsNamedAct, IsLimited}
-use Rattle.svc_world.proofs.SumsWithin.{IsUpTo, total_of_some}
-use Rattle.svc_world.proofs.HoldingLemmas.{AreTakings, account_takings, refunded_named}
+use Rattle.svc_world.proofs.SumsWithin.{total_of_some}
+use Rattle.svc_world.proofs.HoldingLemmas.{account_takings, refunded_named}
 
 -- a loan that is taken on
 pub begun_limited : (t : Terms) (d : ℕ) → MayBegin t d → IsLimited (begun t d)

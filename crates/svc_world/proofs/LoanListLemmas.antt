@@ -1,12 +1,12 @@
 -- The loans by rising number: what is found there, and what a change of one, of all, or one loan more leaves.
-use Rattle.std.proofs.Common.{◌≡◌, ℕ, zero, suc, ◌+◌, ◌≤◌, ◌<◌, Bool, true, false, cond, List, [], ◌∷◌, map, length, get_or, arith, refl, sym, ap, subst, ◌∙◌}
-use Rattle.std.specs.Prelude.{◌==◌, nat_lt, Option, Some, None, IfSome, if◌then◌else◌}
-use Rattle.std.specs.List.{All, AllPairs, find}
+use Rattle.std.proofs.Common.{◌≡◌, ℕ, ◌+◌, ◌<◌, true, false, cond, List, [], ◌∷◌, map, length, get_or, arith, refl, sym, ap, subst, ◌∙◌}
+use Rattle.std.specs.Prelude.{◌==◌, nat_lt, Some, None, IfSome, if◌then◌else◌}
+use Rattle.std.specs.List.{All, AllPairs}
 use Rattle.std.proofs.lemmas.Bool.Decides.{nat_tests}
-use Rattle.std.proofs.lemmas.List.Elements.{All-cons, All-head, All-tail, All-nil}
+use Rattle.std.proofs.lemmas.List.Elements.{All-cons, All-head, All-tail}
 use Rattle.std.proofs.lemmas.List.Kept.{AllPairs-cons}
 use Rattle.svc_types.proofs.OrderLemmas.{pairs_head, pairs_tail}
-use Rattle.svc_world.specs.Held.{Held, has_number, find_loan, with_loan, changed}
+use Rattle.svc_world.specs.Held.{Held, find_loan, with_loan, changed}
 
 -- the numbers of loans rise
 abbrev pub rises : Held → Held → Type 0

@@ -1,30 +1,25 @@
 -- What was remitted for a loan lies within the limits, and so do a loan's totals and the balances.
-use Rattle.std.proofs.Common.{◌≡◌, ℕ, zero, suc, ◌+◌, ◌*◌, ◌≤◌, ◌<◌, Bool, true, false, cond, List, [], ◌∷◌, length, take, get_or, arith, refl, sym, ap, subst, ◌∙◌}
-use Rattle.std.specs.Prelude.{◌==◌, nat_le, ℤ, pos, neg_ℤ, ◌+ℤ◌, ◌-ℤ◌, ◌≤ℤ◌, Option, Some, None, IfSome, if◌then◌else◌}
-use Rattle.std.specs.Int.{int_max}
+use Rattle.std.proofs.Common.{◌≡◌, ℕ, suc, ◌+◌, ◌≤◌, ◌<◌, true, false, cond, List, [], ◌∷◌, length, take, get_or, arith, refl, sym, ap, ◌∙◌}
+use Rattle.std.specs.Prelude.{◌==◌, nat_le, pos, ◌+ℤ◌, Option, Some, None, if◌then◌else◌}
 use Rattle.std.specs.List.{All, filter}
 use Rattle.std.proofs.lemmas.Int.{ints, clamps}
 use Rattle.std.proofs.lemmas.Bool.Decides.{nat_tests}
-use Rattle.std.proofs.lemmas.List.Elements.{All-head, All-tail}
 use Rattle.svc_base.specs.Sums.{total_by}
 use Rattle.svc_base.proofs.SumLemmas.{total_by-both, total_by-same}
-use Rattle.svc_spec.specs.Accounts.{IsAccount}
 use Rattle.period_adjust.specs.declared.report_line.ReportLine.{ReportLine}
 use Rattle.period_adjust.specs.Sealed.{Sealed}
-use Rattle.period_adjust.specs.Sums.{DuePart, Interest, Principal}
-use Rattle.period_adjust.specs.Totals.{lined, summed, part_of_line, part_of_sums}
-use Rattle.period_adjust.specs.Conditions.{first_month}
+use Rattle.period_adjust.specs.Sums.{Interest, Principal}
+use Rattle.period_adjust.specs.Totals.{lined, summed}
 use Rattle.period_adjust.specs.Kept.{AreConsecutive}
 use Rattle.custodial_book.specs.declared.part.Account.{Account as CashAccount}
 use Rattle.custodial_book.specs.declared.part.Account.TheVariants.{T, P}
-use Rattle.custodial_book.specs.declared.part.Part.{Part}
 use Rattle.custodial_book.specs.declared.part.Part.TheVariants.{Received, Returned, Refunded, Disbursed, Collected, Fee, Late, PiAdvance, EscrowAdvance, Remitted, Residual}
-use Rattle.custodial_book.specs.Rows.{total_of, IsTotal, AreTotals, IsBalance}
+use Rattle.custodial_book.specs.Rows.{IsTotal, AreTotals, IsBalance}
 use Rattle.svc_world.specs.Held.{Held, books_now}
 use Rattle.svc_world.specs.World.{World}
 use Rattle.svc_world.specs.Custody.{sent_of_line, sent_for, remitted_reports, remitted_for, is_settled, totals_of, collected, advanced_for, residual_of}
 use Rattle.advance_book.specs.Positions.{pi_held, pi_advanced, pi_residual}
-use Rattle.svc_world.specs.Worlds.{IsLimited, IsPassed, sent_part, AreReports}
+use Rattle.svc_world.specs.Worlds.{IsLimited, sent_part, AreReports}
 use Rattle.svc_world.proofs.SumsWithin.{IsUpTo, total_up_to}
 use Rattle.svc_world.proofs.HoldingLemmas.{account_holdings, account_takings, refunded_low}
 use Rattle.svc_world.proofs.CashLemmas.{holds}

@@ -1,20 +1,17 @@
 -- What all reports say of a loan is what was passed for it by the last closed month.
-use Rattle.std.proofs.Common.{◌≡◌, ℕ, zero, suc, ◌+◌, ◌-◌, ◌≤◌, ◌<◌, Bool, true, false, List, [], ◌∷◌, map, length, get_or, arith, refl, sym, ap, subst, ◌∙◌}
-use Rattle.std.specs.Prelude.{◌==◌, ℤ, pos, ◌+ℤ◌, ◌-ℤ◌, Option, Some, None, if◌then◌else◌}
+use Rattle.std.proofs.Common.{◌≡◌, ℕ, zero, suc, ◌+◌, ◌-◌, ◌≤◌, ◌<◌, true, false, List, [], get_or, arith, refl, sym, ap, ◌∙◌}
+use Rattle.std.specs.Prelude.{◌==◌, ℤ, pos, ◌+ℤ◌, ◌-ℤ◌, Some, None, if◌then◌else◌}
 use Rattle.std.specs.List.{All}
 use Rattle.std.proofs.lemmas.Int.{ints}
 use Rattle.std.proofs.lemmas.Bool.Decides.{nat_tests}
-use Rattle.std.proofs.lemmas.List.Elements.{All-head, All-tail}
 use Rattle.svc_base.specs.Sums.{total_by}
 use Rattle.svc_base.proofs.SumLemmas.{total_by-both, total_by-zero, total_by-same}
-use Rattle.remit_types.specs.declared.dues.MonthDue.{MonthDue}
 use Rattle.remit_types.specs.declared.dues.Carry.{Carry}
 use Rattle.remit_types.specs.Dues.{carried_first}
 use Rattle.period_adjust.specs.declared.adjustment.Adjustment.{Adjustment}
-use Rattle.period_adjust.specs.declared.report_line.ReportLine.{ReportLine}
-use Rattle.period_adjust.specs.Sealed.{Sealed, Reporting, reporting}
-use Rattle.period_adjust.specs.Sums.{DuePart, Interest, Principal, share}
-use Rattle.period_adjust.specs.Totals.{total, part_of_due, lined, summed, adjusted, reported, SendsItsSums}
+use Rattle.period_adjust.specs.Sealed.{Sealed, Reporting}
+use Rattle.period_adjust.specs.Sums.{DuePart, Interest, Principal}
+use Rattle.period_adjust.specs.Totals.{total, part_of_due, lined, reported, SendsItsSums}
 use Rattle.period_adjust.specs.Conditions.{last_month}
 use Rattle.period_adjust.specs.Kept.{AreSealed, IsBefore, month_after}
 use Rattle.period_adjust.proofs.MonthsLemmas.{months_total, months_total-nil, months_total-all}
@@ -22,7 +19,6 @@ use Rattle.svc_world.specs.Held.{Held, find_loan, boarded_month}
 use Rattle.svc_world.specs.LoanDues.{carried_to, carry_of, due_of}
 use Rattle.svc_world.specs.Reports.{nothing_due}
 use Rattle.svc_world.specs.Worlds.{due_by, AddUp, IsLimited, IsPassed, sent_part}
-use Rattle.svc_world.proofs.SumsWithin.{IsUpTo}
 use Rattle.svc_world.proofs.CarryLemmas.{carried_none, carry_at_within}
 use Rattle.svc_world.proofs.LoanListLemmas.{found_all, found_id}
 

@@ -1,5 +1,5 @@
 -- Sums of amounts that lie within limits.
-use Rattle.std.proofs.Common.{◌≡◌, ℕ, zero, suc, ◌+◌, ◌*◌, ◌≤◌, Bool, true, false, cond, List, [], ◌∷◌, length, arith, refl}
+use Rattle.std.proofs.Common.{ℕ, ◌*◌, Bool, true, false, cond, List, [], ◌∷◌, length, arith}
 use Rattle.std.specs.Prelude.{ℤ, pos, ◌+ℤ◌, ◌≤ℤ◌}
 use Rattle.std.specs.List.{All, filter}
 use Rattle.std.proofs.Math.Nat.{mul-suc}

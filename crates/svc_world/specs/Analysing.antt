@@ -1,5 +1,5 @@
 -- The escrow analysis of a loan on the business day (12 CFR 1024.17(c)(3), (d)(2)(i) and (f)).
-use Rattle.std.specs.Prelude.{ℕ, ◌+◌, Bool, ℤ, pos, ◌-ℤ◌, List, [], ◌∷◌, map, fold, Option}
+use Rattle.std.specs.Prelude.{ℕ, ◌+◌, Bool, ℤ, pos, ◌-ℤ◌, List, map, fold, Option}
 use Rattle.std.specs.Int.{int_max}
 use Rattle.svc_base.specs.Calendar.{month_of}
 use Rattle.svc_types.specs.declared.escrow.Plan.{Plan}

@@ -1,5 +1,5 @@
 -- What is answered to a query.
-use Rattle.std.specs.Prelude.{ℕ, ◌==◌, Bool, List, [], ◌∷◌, Option, Some, None, ℤ, pos, ◌+ℤ◌}
+use Rattle.std.specs.Prelude.{ℕ, List, Option, Some, ℤ, pos, ◌+ℤ◌}
 use Rattle.std.specs.Option.{option_map, option_map_or}
 use Rattle.svc_base.specs.Calendar.{month_of}
 use Rattle.svc_types.specs.declared.books.Books.{Books}

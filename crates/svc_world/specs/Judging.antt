@@ -1,8 +1,8 @@
 -- How a command is judged over a history of accepted commands: a known key, a refusal, or a fresh command;
 -- and what its reply says.
-use Rattle.std.specs.Prelude.{◌≡◌, ℕ, zero, suc, ◌+◌, ◌==◌, Bool, List, [], ◌∷◌, ◌++◌, length, Option, Some, None, ℤ, pos, ◌+ℤ◌, if◌then◌else◌, nat_eq, slice_get}
+use Rattle.std.specs.Prelude.{◌≡◌, ℕ, zero, suc, ◌+◌, ◌==◌, Bool, List, [], ◌∷◌, ◌++◌, length, Option, Some, None, ℤ, ◌+ℤ◌, if◌then◌else◌, nat_eq, slice_get}
 use Rattle.std.specs.List.{All, find}
-use Rattle.std.specs.Option.{option_map, option_map_or}
+use Rattle.std.specs.Option.{option_map_or}
 use Rattle.std.specs.Cmp.Lexicographic.{pointwise}
 use Rattle.svc_base.specs.Sums.{total_by}
 use Rattle.svc_types.specs.declared.requests.Command.{Command}
@@ -17,7 +17,7 @@ use Rattle.svc_types.specs.Requests.{IsCommand}
 use Rattle.svc_types.specs.Same.{is_same}
 use Rattle.period_adjust.specs.declared.report_line.ReportLine.{ReportLine}
 use Rattle.period_adjust.specs.Sealed.{Sealed}
-use Rattle.svc_world.specs.Held.{Held, find_loan}
+use Rattle.svc_world.specs.Held.{find_loan}
 use Rattle.svc_world.specs.Analysing.{settled_figures}
 use Rattle.svc_world.specs.World.{World, Accepted, accepted, first_world, after, world}
 use Rattle.svc_world.specs.Custody.{sent_of_line}

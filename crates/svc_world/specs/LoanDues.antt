@@ -10,7 +10,7 @@ use Rattle.svc_spec.specs.Months.{month_facts}
 use Rattle.remit_types.specs.declared.dues.MonthDue.{MonthDue}
 use Rattle.remit_types.specs.declared.dues.Carry.{Carry}
 use Rattle.remit_types.specs.Dues.{LoanMonth, loan_month, carried, due_between}
-use Rattle.svc_world.specs.Held.{Held, boarded_month}
+use Rattle.svc_world.specs.Held.{Held}
 
 abbrev pub type_change : ℕ → RemitType → TypeChange
 type_change from kind = record { from = from; kind = kind }

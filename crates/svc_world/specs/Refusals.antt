@@ -1,12 +1,12 @@
 -- Why a request is refused: for each request the rules in their order, of which the first that holds is
 -- the answer.
-use Rattle.std.specs.Prelude.{ℕ, zero, suc, ◌+◌, ◌==◌, ◌&&◌, ◌||◌, not, nat_le, nat_lt, Bool, true, false, is_some, is_none, List, [], ◌∷◌, ◌++◌, length, ℤ, pos, int_lt, Option, Some, None, min}
+use Rattle.std.specs.Prelude.{ℕ, ◌+◌, ◌==◌, ◌&&◌, ◌||◌, not, nat_le, nat_lt, Bool, true, false, is_some, List, [], ◌∷◌, ◌++◌, length, ℤ, pos, int_lt, Option, Some, None, min}
 use Rattle.std.specs.List.{find, filter, list_any}
 use Rattle.std.specs.Option.{option_map, option_map_or}
 use Rattle.svc_base.specs.Calendar.{month_of, last_day}
 use Rattle.svc_types.specs.declared.terms.Terms.{Terms}
 use Rattle.svc_types.specs.declared.account.Act.{Act}
-use Rattle.svc_types.specs.declared.account.Act.TheVariants.{Pay, Curtail, Payoff, Deposit, Disburse, Refund, Waive, Analyse}
+use Rattle.svc_types.specs.declared.account.Act.TheVariants.{Analyse}
 use Rattle.svc_types.specs.declared.account.Entry.{Entry}
 use Rattle.svc_types.specs.declared.escrow.Plan.{Plan}
 use Rattle.svc_types.specs.declared.requests.Command.{Command}
@@ -22,7 +22,7 @@ use Rattle.svc_spec.specs.Payoff.{payoff_due, available}
 use Rattle.escrow_lines.specs.declared.line.Line.{Line}
 use Rattle.escrow_lines.specs.Bills.{line_fault}
 use Rattle.escrow_lines.specs.BillLists.{has_id}
-use Rattle.period_adjust.specs.Sealed.{Sealed, Reporting}
+use Rattle.period_adjust.specs.Sealed.{Sealed}
 use Rattle.period_adjust.specs.Conditions.{first_month, last_month, count_held}
 use Rattle.period_adjust.specs.Kept.{next_remit}
 use Rattle.svc_world.specs.Held.{Held, find_loan, boarded_month, books_now}

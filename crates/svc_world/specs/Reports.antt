@@ -1,6 +1,6 @@
 -- What is reported of all loans for a month, and what a command changes of months that were reported
 -- (Fannie Mae Servicing Guide, investor reporting).
-use Rattle.std.specs.Prelude.{ℕ, ◌==◌, ◌&&◌, ◌||◌, not, Bool, true, false, nat_le, ℤ, pos, List, [], ◌∷◌, ◌++◌, map, Option, Some, None, ◌-◌}
+use Rattle.std.specs.Prelude.{ℕ, ◌==◌, ◌&&◌, ◌||◌, not, Bool, nat_le, ℤ, pos, List, [], ◌∷◌, ◌++◌, map, Option, Some, None, ◌-◌}
 use Rattle.std.specs.Ordering.{int_eq}
 use Rattle.std.specs.List.{filter, list_any}
 use Rattle.remit_types.specs.declared.dues.MonthDue.{MonthDue}

@@ -1,15 +1,14 @@
 -- What a servicer holds, and what one accepted command makes of it: plain lists. A history of accepted
 -- commands is folded from the empty world, one command after another.
-use Rattle.std.specs.Prelude.{ℕ, zero, suc, ◌+◌, ◌*◌, List, [], ◌∷◌, ◌++◌, map, Option, Some, None}
+use Rattle.std.specs.Prelude.{ℕ, ◌+◌, ◌*◌, List, [], ◌∷◌, ◌++◌, map, Option, Some, None}
 use Rattle.svc_base.specs.Calendar.{first_day}
-use Rattle.svc_types.specs.declared.terms.Terms.{Terms}
 use Rattle.svc_types.specs.declared.account.Act.{Act}
 use Rattle.svc_types.specs.declared.account.Act.TheVariants as act
 use Rattle.svc_types.specs.declared.account.Entry.{Entry}
 use Rattle.svc_types.specs.declared.escrow.Plan.{Plan}
 use Rattle.svc_types.specs.declared.requests.Command.{Command}
 use Rattle.svc_types.specs.declared.requests.Command.TheVariants as command
-use Rattle.period_adjust.specs.Sealed.{Sealed, Reporting, reporting}
+use Rattle.period_adjust.specs.Sealed.{Reporting, reporting}
 use Rattle.period_adjust.specs.Totals as seals
 use Rattle.svc_world.specs.Held.{Held, boarded, with_entry, with_reversal, on_day, with_bill, without_bill, with_type, with_loan, changed}
 use Rattle.svc_world.specs.LoanDues.{type_change}

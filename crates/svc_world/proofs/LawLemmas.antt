@@ -1,0 +1,157 @@
+-- The laws of the books after every history: cash is what is held, reports only grow, and few commands have
+-- adjustments.
+use Rattle.std.proofs.Common.{◌≡◌, ℕ, ◌+◌, List, [], ◌∷◌, ◌++◌, length, arith, refl, sym, ap, ◌∙◌, append-nil, append_assoc}
+use Rattle.std.specs.Prelude.{◌≢◌, None, pos, ◌+ℤ◌, ◌-ℤ◌}
+use Rattle.std.specs.List.{All}
+use Rattle.std.proofs.lemmas.Int.{ints}
+use Rattle.svc_base.specs.Sums.{total_by}
+use Rattle.svc_base.proofs.SumLemmas.{total_by-same}
+use Rattle.svc_types.specs.declared.account.Act.TheVariants as act
+use Rattle.svc_types.specs.declared.requests.Command.{Command}
+use Rattle.svc_types.specs.declared.requests.Command.TheVariants as command
+use Rattle.svc_spec.specs.Accounts.{IsAccount}
+use Rattle.svc_spec.proofs.TotalLemmas.{account_total}
+use Rattle.custodial_book.specs.declared.row.Row.{Row}
+use Rattle.custodial_book.specs.declared.part.Account.{Account as CashAccount}
+use Rattle.custodial_book.specs.declared.part.Account.TheVariants.{T, P}
+use Rattle.custodial_book.specs.Rows.{balance_of}
+use Rattle.period_adjust.specs.Sums.{report_of}
+use Rattle.svc_world.specs.Held.{Held, find_loan, boarded, with_loan, with_entry, with_reversal, on_day, with_bill, without_bill, with_type}
+use Rattle.svc_world.specs.LoanDues.{type_change}
+use Rattle.svc_world.specs.Reports.{lines_of}
+use Rattle.svc_world.specs.World.{World, Accepted, first_world, entry, with_analysis, loans_after, seals_after, after, world_from, world}
+use Rattle.svc_world.specs.Refusals.{refusal_of}
+use Rattle.svc_world.specs.Judging.{Fresh, judged, IsHistory}
+use Rattle.svc_world.specs.Worlds.{IsWorld}
+use Rattle.svc_world.specs.Custody.{borrower_cash, held_for, rows_made, rows_from, rows_in}
+use Rattle.svc_world.specs.Laws.{AreLawful, ReportsGrow, CanAdjust, adjustments_by, IsLawfulStep}
+use Rattle.svc_world.proofs.LoanListLemmas.{numbers_of, changed_numbers, mapped_numbers}
+use Rattle.svc_world.proofs.CashLemmas.{is_held_back, holds, rows_are_cash, boarding_rows_are_cash}
+use Rattle.svc_world.proofs.QuietWorlds.{quiet_none}
+use Rattle.svc_world.proofs.EntryWorlds.{refund_quiet, waive_quiet}
+use Rattle.svc_world.proofs.LoanWorlds.{line_quiet, drop_quiet, retype_quiet}
+use Rattle.svc_world.proofs.AnalysedWorlds.{analyse_quiet}
+use Rattle.svc_world.proofs.DayWorlds.{day_none, kept_none}
+use Rattle.svc_world.proofs.BoardWorlds.{boarding, board_none}
+use Rattle.svc_world.proofs.HistoryLemmas.{accepted_keeps, first_is_world, AreAccepted, history_accepted, is_world, fresh_none}
+
+-- ---- the rows of a history
+
+accounts : (n : ℕ) (w : World) → IsWorld n w → All (λ (l : Held). IsAccount l.account) w.loans
+accounts n w h = λ k d lt. (h.held k d lt).limited.account
+
+-- what the rows of a command bring into an account is what it holds more than before
+IsMoved : CashAccount → ℕ → World → Command → List Row → Type 0
+IsMoved account n w c rows =
+    balance_of account (rows ++ rows_made (n + 1) w (after (n + 1) w c))
+    ≡ balance_of account rows +ℤ (total_by (holds account (after (n + 1) w c)) (after (n + 1) w c).loans -ℤ total_by (holds account w) w.loans)
+
+cash_kept : (account : CashAccount) (n : ℕ) (w : World) (c : Command) (rows : List Row) → IsWorld n w → IsWorld (n + 1) (after (n + 1) w c) → numbers_of (after (n + 1) w c).loans ≡ numbers_of w.loans → IsMoved account n w c rows
+unfolding IsMoved
+cash_kept account n w c rows h later same = rows_are_cash account (n + 1) w (after (n + 1) w c) rows h.rising same (accounts n w h) (accounts (n + 1) (after (n + 1) w c) later)
+
+cash_boarded : (account : CashAccount) (n : ℕ) (w : World) (c : Command) (rows : List Row) (l : Held) → IsWorld n w → IsWorld (n + 1) (after (n + 1) w c) → (after (n + 1) w c).loans ≡ with_loan l w.loans → find_loan l.id w.loans ≡ None → IsMoved account n w c rows
+unfolding IsMoved
+cash_boarded account n w c rows l h later more new = boarding_rows_are_cash account (n + 1) w (after (n + 1) w c) rows l h.rising more new (accounts n w h) (accounts (n + 1) (after (n + 1) w c) later)
+
+cash_moved : (account : CashAccount) (n : ℕ) (w : World) (c : Command) (rows : List Row) → IsWorld n w → IsWorld (n + 1) (after (n + 1) w c) → refusal_of n w c ≡ None → IsMoved account n w c rows
+unfolding after loans_after
+cash_moved account n w (command.Day d) rows h later e = cash_kept account n w (command.Day d) rows h later (mapped_numbers (on_day d) w.loans (λ k. refl))
+cash_moved account n w (command.Board id t) rows h later e = cash_boarded account n w (command.Board id t) rows (boarded id t w.today) h later refl (boarding n id t w e).new
+cash_moved account n w (command.Pay id d c over) rows h later e = cash_kept account n w (command.Pay id d c over) rows h later (changed_numbers id (with_entry (entry (n + 1) d (act.Pay c over))) w.loans (λ k. refl))
+cash_moved account n w (command.Curtail id d c) rows h later e = cash_kept account n w (command.Curtail id d c) rows h later (changed_numbers id (with_entry (entry (n + 1) d (act.Curtail c))) w.loans (λ k. refl))
+cash_moved account n w (command.Payoff id d c) rows h later e = cash_kept account n w (command.Payoff id d c) rows h later (changed_numbers id (with_entry (entry (n + 1) d (act.Payoff c))) w.loans (λ k. refl))
+cash_moved account n w (command.Deposit id d c) rows h later e = cash_kept account n w (command.Deposit id d c) rows h later (changed_numbers id (with_entry (entry (n + 1) d (act.Deposit c))) w.loans (λ k. refl))
+cash_moved account n w (command.Disburse id d c line) rows h later e = cash_kept account n w (command.Disburse id d c line) rows h later (changed_numbers id (with_entry (entry (n + 1) d (act.Disburse c line))) w.loans (λ k. refl))
+cash_moved account n w (command.Refund id c) rows h later e = cash_kept account n w (command.Refund id c) rows h later (changed_numbers id (with_entry (entry (n + 1) w.today (act.Refund c))) w.loans (λ k. refl))
+cash_moved account n w (command.Waive id c) rows h later e = cash_kept account n w (command.Waive id c) rows h later (changed_numbers id (with_entry (entry (n + 1) w.today (act.Waive c))) w.loans (λ k. refl))
+cash_moved account n w (command.Reverse id number) rows h later e = cash_kept account n w (command.Reverse id number) rows h later (changed_numbers id (with_reversal number (n + 1)) w.loans (λ k. refl))
+cash_moved account n w (command.Line id line kind month every c) rows h later e = cash_kept account n w (command.Line id line kind month every c) rows h later (changed_numbers id (with_bill (record { id = line; kind = kind; month = month; every = every; cents = c })) w.loans (λ k. refl))
+cash_moved account n w (command.Drop id line) rows h later e = cash_kept account n w (command.Drop id line) rows h later (changed_numbers id (without_bill line) w.loans (λ k. refl))
+cash_moved account n w (command.Analyse id plan) rows h later e = cash_kept account n w (command.Analyse id plan) rows h later (changed_numbers id (with_analysis (n + 1) w.today plan) w.loans (λ k. refl))
+cash_moved account n w (command.Close p) rows h later e = cash_kept account n w (command.Close p) rows h later refl
+cash_moved account n w (command.Remit p) rows h later e = cash_kept account n w (command.Remit p) rows h later refl
+cash_moved account n w (command.Retype id from kind) rows h later e = cash_kept account n w (command.Retype id from kind) rows h later (changed_numbers id (with_type (type_change from kind)) w.loans (λ k. refl))
+
+cash_from : (account : CashAccount) (n : ℕ) (w : World) (rows : List Row) (h : List Accepted) → IsWorld n w → AreAccepted n w h → balance_of account (rows ++ rows_from n w h) ≡ balance_of account rows +ℤ (total_by (holds account (world_from n w h)) (world_from n w h).loans -ℤ total_by (holds account w) w.loans)
+unfolding rows_from world_from IsMoved
+cash_from account n w rows [] is all =
+    let same = ap (balance_of account) (append-nil rows) in
+    omega (arith, ints, same)
+cash_from account n w rows (a ∷ more) is all =
+    let next = after (n + 1) w a.command in
+    let later = accepted_keeps n w a.command is all.0.0 all.0.1 in
+    let made = rows_made (n + 1) w next in
+    let split = ap (balance_of account) (sym (append_assoc rows made (rows_from (n + 1) next more))) in
+    let rest = cash_from account (n + 1) next (rows ++ made) more later all.1 in
+    let one = cash_moved account n w a.command rows is later all.0.1 in
+    omega (arith, ints, split, rest, one)
+
+no_balance : (account : CashAccount) → balance_of account [] ≡ pos 0
+unfolding balance_of
+no_balance T = refl
+no_balance P = refl
+
+-- the balance of an account is what it holds for all loans
+balance_held : (account : CashAccount) (h : List Accepted) → IsHistory h → balance_of account (rows_in h) ≡ total_by (holds account (world h)) (world h).loans
+balance_held account h is =
+    let moved = cash_from account 0 first_world [] h first_is_world (history_accepted h is) in
+    let none = no_balance account in
+    omega (arith, ints, moved, none)
+
+pub are_lawful : (h : List Accepted) → IsHistory h → AreLawful h
+are_lawful h is =
+    let w = is_world h is in
+    record {
+      add_up = w.add_up;
+      conserved = λ k d lt. account_total _ (w.held k d lt).limited.account;
+      held_back = λ k d lt. is_held_back (world h) _;
+      t = balance_held T h is ∙ total_by-same (holds T (world h)) borrower_cash (world h).loans (λ k d lt. refl);
+      p = balance_held P h is ∙ total_by-same (holds P (world h)) (held_for (world h)) (world h).loans (λ k d lt. refl);
+    }
+
+-- ---- one command more
+
+grows : (n : ℕ) (w : World) (c : Command) → ReportsGrow w (after n w c)
+unfolding after loans_after seals_after
+grows n w (command.Close p) = record { more = report_of p (lines_of w.seals.pending p w.loans) w.seals.pending ∷ []; grown = refl }
+grows n w (command.Day d) = record { more = []; grown = sym (append-nil w.seals.reports) }
+grows n w (command.Board id t) = record { more = []; grown = sym (append-nil w.seals.reports) }
+grows n w (command.Pay id d c over) = record { more = []; grown = sym (append-nil w.seals.reports) }
+grows n w (command.Curtail id d c) = record { more = []; grown = sym (append-nil w.seals.reports) }
+grows n w (command.Payoff id d c) = record { more = []; grown = sym (append-nil w.seals.reports) }
+grows n w (command.Deposit id d c) = record { more = []; grown = sym (append-nil w.seals.reports) }
+grows n w (command.Disburse id d c line) = record { more = []; grown = sym (append-nil w.seals.reports) }
+grows n w (command.Refund id c) = record { more = []; grown = sym (append-nil w.seals.reports) }
+grows n w (command.Waive id c) = record { more = []; grown = sym (append-nil w.seals.reports) }
+grows n w (command.Reverse id number) = record { more = []; grown = sym (append-nil w.seals.reports) }
+grows n w (command.Line id line kind month every c) = record { more = []; grown = sym (append-nil w.seals.reports) }
+grows n w (command.Drop id line) = record { more = []; grown = sym (append-nil w.seals.reports) }
+grows n w (command.Analyse id plan) = record { more = []; grown = sym (append-nil w.seals.reports) }
+grows n w (command.Remit p) = record { more = []; grown = sym (append-nil w.seals.reports) }
+grows n w (command.Retype id from kind) = record { more = []; grown = sym (append-nil w.seals.reports) }
+
+adjusts : (n : ℕ) (w : World) (c : Command) → IsWorld n w → refusal_of n w c ≡ None → adjustments_by (n + 1) w c ≢ [] → CanAdjust c
+unfolding loans_after
+adjusts n w (command.Day d) h e some = absurd (some (day_none n d w h e))
+adjusts n w (command.Board id t) h e some = absurd (some (board_none n id t w h (boarding n id t w e)))
+adjusts n w (command.Pay id d c over) h e some = tt
+adjusts n w (command.Curtail id d c) h e some = tt
+adjusts n w (command.Payoff id d c) h e some = tt
+adjusts n w (command.Deposit id d c) h e some = tt
+adjusts n w (command.Disburse id d c line) h e some = tt
+adjusts n w (command.Refund id c) h e some = absurd (some (quiet_none n id w (with_entry (entry (n + 1) w.today (act.Refund c))) h (refund_quiet n id w c h e)))
+adjusts n w (command.Waive id c) h e some = absurd (some (quiet_none n id w (with_entry (entry (n + 1) w.today (act.Waive c))) h (waive_quiet n id w c h e)))
+adjusts n w (command.Reverse id number) h e some = tt
+adjusts n w (command.Line id line kind month every c) h e some = absurd (some (quiet_none n id w (with_bill (record { id = line; kind = kind; month = month; every = every; cents = c })) h (line_quiet n id w (record { id = line; kind = kind; month = month; every = every; cents = c }) h e)))
+adjusts n w (command.Drop id line) h e some = absurd (some (quiet_none n id w (without_bill line) h (drop_quiet n id line w h e)))
+adjusts n w (command.Analyse id plan) h e some = absurd (some (quiet_none n id w (with_analysis (n + 1) w.today plan) h (analyse_quiet n id plan w h e)))
+adjusts n w (command.Close p) h e some = absurd (some (kept_none n w h))
+adjusts n w (command.Remit p) h e some = absurd (some (kept_none n w h))
+adjusts n w (command.Retype id from kind) h e some = absurd (some (quiet_none n id w (with_type (type_change from kind)) h (retype_quiet n id from kind w h e)))
+
+pub is_lawful_step : (h : List Accepted) (key : List ℕ) (c : Command) → IsHistory h → judged h key c ≡ Fresh → IsLawfulStep h c
+is_lawful_step h key c is fresh = record {
+  grow = grows (length h + 1) (world h) c;
+  adjusted = adjusts (length h) (world h) c (is_world h is) (fresh_none h key c fresh);
+}

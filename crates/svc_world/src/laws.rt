@@ -1,0 +1,26 @@
+//! The laws of the books over every history of accepted commands, as theorems: the functions have no code.
+
+ghost use Rattle.std.specs.Prelude.{◌≡◌, ℕ, List};
+ghost use Rattle.svc_types.specs.declared.requests.Command.{Command};
+ghost use Rattle.svc_world.specs.World.{Accepted, first_world};
+ghost use Rattle.svc_world.specs.Worlds.{AreWorlds};
+ghost use Rattle.svc_world.specs.Judging.{IsHistory, Fresh, judged};
+ghost use Rattle.svc_world.specs.Laws.{AreLawful, IsLawfulStep};
+
+/// What is held after each command of a history is sound: loans by rising number with accounts within
+/// their limits, closed months in a row, and reports that add up to the dues.
+pub fn worlds_are_sound()
+    ensures worlds { (h : List Accepted) → IsHistory h → AreWorlds 0 first_world h }
+{}
+
+/// After every history reports and adjustments add up to what is due, each loan's money is conserved, and
+/// the rows into each custodial account less those out of it are what it holds for all loans.
+pub fn histories_are_lawful()
+    ensures lawful { (h : List Accepted) → IsHistory h → AreLawful h }
+{}
+
+/// One accepted command more leaves the reports that were sent, and has adjustments only where it is a
+/// payment, a deposit, a disbursement or a reversal.
+pub fn steps_are_lawful()
+    ensures step { (h : List Accepted) (key : List ℕ) (c : Command) → IsHistory h → judged h key c ≡ Fresh → IsLawfulStep h c }
+{}
