@@ -178,8 +178,8 @@ months_past t d d' low le =
 live_since : (a : Account) (d m : ℕ) → IsAccount a → 1 ≤ m → last_day (m - 1) ≤ d → All (λ e. d < e.day → m ≤ month_of e.day) (live_of a)
 live_since a d m h low end =
     live_all (λ e. d < e.day → m ≤ month_of e.day) a.entries a.reversals (λ k x lt past.
-        let later = month_after (get_or a.entries k x).day (m - 1) (h.exist k x lt) (omega arith) in
-        omega arith)
+    let later = month_after (get_or a.entries k x).day (m - 1) (h.exist k x lt) (omega arith) in
+    omega arith)
 
 -- from the end of the month before, or later, a fold up to a day counts at most the cost of the month
 pub fold_within : (a : Account) (d d' m : ℕ) → IsAccount a → 1 ≤ m → a.terms.boarded ≤ d → d ≤ d' → d' ≤ a.today → last_day (m - 1) ≤ d → 1 ≤ (books_at_end a (m - 1)).next → (books_at_end a (m - 1)).next ≤ (books_of a d).next → counted a.terms (live_of a) d' ≤ counted a.terms (live_of a) d + cost_of_month a m

@@ -51,8 +51,8 @@ open_by t b by = min (t.term + 1 - b.next) (by + 1 - due_month t b.next)
 -- installment that may be satisfied, and 4
 unfoldable pub cost_of_month : Account → ℕ → ℕ
 cost_of_month a m =
-  length (entries_from a m) + 2 * months_from a m
-  + open_by a.terms (books_at_end a (m - 1)) (month_of a.today + 1) + 4
+    length (entries_from a m) + 2 * months_from a m
+    + open_by a.terms (books_at_end a (m - 1)) (month_of a.today + 1) + 4
 
 -- what the books at a day took to fold from boarding, and one more: an event is a step, and so is each
 -- installment that was satisfied, of which the open one is the next
