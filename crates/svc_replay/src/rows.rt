@@ -2,7 +2,7 @@
 //! computed apart by the definitions. The functions have no code; all amounts are cents.
 
 ghost use Rattle.std.specs.Prelude.{◌≡◌, [], ◌∷◌, pos};
-ghost use Rattle.svc_apply.specs.Rows.{day_at, month_at};
+ghost use Rattle.svc_types.specs.WorkedLoan.{day_at, month_at};
 ghost use Rattle.svc_spec.specs.Accounts.{books_of};
 ghost use Rattle.svc_spec.specs.Books.{total};
 ghost use Rattle.svc_spec.specs.Months.{cost_of_month};
