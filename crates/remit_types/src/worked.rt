@@ -4,7 +4,9 @@ ghost use Rattle.std.specs.Prelude.{◌≡◌, List, [], ◌∷◌, ◌-ℤ◌, 
 ghost use Rattle.svc_types.specs.declared.terms.RemitType.TheVariants as by;
 ghost use Rattle.remit_types.specs.Months.{due};
 ghost use Rattle.svc_types.specs.WorkedLoan.{loan_with};
-ghost use Rattle.remit_types.specs.Worked.{january, february, march, april, may, worked_loan, unpaid, boarding, first_paid, first_curtailed, first_satisfied, still_satisfied, second_paid, to_curtailed, to_february, to_second_paid, to_march, month_due};
+ghost use Rattle.remit_types.specs.Worked.{january, february, march, april, may, worked_loan, unpaid, month_due};
+ghost use Rattle.remit_types.specs.Worked.{boarding, first_paid, first_curtailed, first_satisfied, second_paid};
+ghost use Rattle.remit_types.specs.Worked.{still_satisfied, to_curtailed, to_february, to_second_paid, to_march};
 
 /// What is due of a loan of 200,000.00, whatever is paid, by its schedule: nothing before the
 /// first due month, then interest on the investor's balance.

@@ -29,7 +29,8 @@ pub fn worked_accounts()
         ≡ pos 19_960_080 }
     ensures reversed { total (books_of (paid_twice (day_at 2024 3 1) ((3, 14) ∷ [])) (day_at 2024 4 1))
         ≡ pos 119_910 }
-    ensures reversed_late { (books_of (paid_twice (day_at 2024 3 1) ((3, 14) ∷ [])) (day_at 2024 4 1)).late_owed ≡ pos 11_992 }
+    ensures reversed_late { (books_of (paid_twice (day_at 2024 3 1) ((3, 14) ∷ [])) (day_at 2024 4 1)).late_owed
+        ≡ pos 11_992 }
     ensures payoff { total (books_of paid_off (day_at 2024 4 1)) ≡ pos 20_149_950 }
     ensures escrow { total (books_of escrowed (day_at 2024 4 1)) ≡ pos 53_000 }
 {}
