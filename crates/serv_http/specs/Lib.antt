@@ -8,3 +8,4 @@ pub mod Responses
 pub mod Conns
 pub mod Stages
 pub mod Judging
+pub mod Counts

@@ -10,6 +10,7 @@ mod found;
 mod head_step;
 mod judging;
 mod laws;
+mod lines;
 mod plan;
 mod queries;
 mod response;
