@@ -1,8 +1,8 @@
 -- One byte more of a count of lines, and what it says of the line that is too many.
 use Rattle.std.proofs.Common.{◌≡◌, ◌≢◌, ℕ, zero, suc, ◌+◌, ◌-◌, ◌<◌, ◌≤◌, ◌↔◌, inl, inr, Bool, true, false, eqb, List, [], ◌∷◌, ◌++◌, length, take, drop, get_or, refl, sym, ap, ◌∙◌, subst, arith, append_assoc, append-nil, length-append, length-drop, Option, Some, None}
 use Rattle.std.specs.Prelude.{is_some, IsTrue}
-use Rattle.std.proofs.lemmas.Bool.{cases_Bool, cond-true, cond-false, both_ways, eq-eqb, eqb-true, ne_eqb, false≢true, ltb-true, lt-ltb, leb-true, le-leb}
-use Rattle.std.proofs.lemmas.List.{drop_more, drop_all, take_all, take_more, drop-append-le}
+use Rattle.std.proofs.lemmas.Bool.{cond-true, cond-false, eq-eqb, eqb-true, ne_eqb, false≢true, ltb-true, lt-ltb, leb-true, le-leb}
+use Rattle.std.proofs.lemmas.List.{drop_more, drop_all, take_all, drop-append-le}
 use Rattle.httparse.specs.Pieces.{is_newline}
 use Rattle.serv_http.specs.declared.lines.LineCount.{LineCount}
 use Rattle.serv_http.specs.declared.lines.LineCount.TheVariants.{Blank, Left, Full}

@@ -9,3 +9,4 @@ pub mod Conns
 pub mod Stages
 pub mod Judging
 pub mod Counts
+pub mod Paths

@@ -1,4 +1,4 @@
-use Rattle.std.proofs.Common.{sym, ◌∙◌, arith}
+use Rattle.std.proofs.Common.{sym, ◌∙◌}
 use Rattle.serv_http.proofs.ScanLemmas.{counted-newline, counted-begun, counted-other, counted-feed, counted-full, counted-on}
 use Rattle.serv_http.proofs.window.with_byte.Goals as goal
 
