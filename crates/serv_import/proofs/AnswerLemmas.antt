@@ -7,8 +7,13 @@ use Rattle.csv.specs.declared.parser.State.{State}
 use Rattle.csv.specs.declared.parser.State.TheVariants.{StartRecord}
 use Rattle.serv_import.specs.declared.row.RowRequest.{RowRequest}
 use Rattle.serv_import.specs.Rows.{header}
-use Rattle.serv_import.specs.Batches.{records_of, HasHeader, IsAnswer, AreAnswers, AreTaken, IsBatch}
+use Rattle.serv_import.specs.Batches.{records_of, HasHeader, IsAnswer, AreAnswers, IsBatch}
 use Rattle.serv_import.proofs.RecordLemmas.{first_row}
+
+-- what the rows so far are taken for: the first is the header
+abbrev pub AreTaken : List (List (List ℕ)) → List RowRequest → Type 0
+AreTaken [] answers = answers ≡ []
+AreTaken (first ∷ rows) answers = (first ≡ header) × AreAnswers 2 rows answers
 
 -- one row more
 answers_push : (n k : ℕ) (rows : List (List (List ℕ))) (answers : List RowRequest) (row : List (List ℕ)) (answer : RowRequest) → AreAnswers n rows answers

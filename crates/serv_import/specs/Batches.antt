@@ -22,11 +22,6 @@ AreAnswers number (row ∷ rows) (answer ∷ answers) =
     IsAnswer number row answer × AreAnswers (suc number) rows answers
 AreAnswers number rows answers = ⊥
 
--- what the rows so far are taken for: the first is the header
-abbrev pub AreTaken : List (List (List ℕ)) → List RowRequest → Type 0
-AreTaken [] answers = answers ≡ []
-AreTaken (first ∷ rows) answers = (first ≡ header) × AreAnswers 2 rows answers
-
 -- a file begins with the header
 pub record HasHeader (bytes : List ℕ) : Type 0 where
   pub rows : List (List (List ℕ))

@@ -57,7 +57,7 @@ fn targets(rt: HostRuntime) -> Result<(), Fail> {
 
 #[test]
 fn lengths(rt: HostRuntime) -> Result<(), Fail> {
-    let rows: [(&[u8], &str); 9] = [
+    let rows: [(&[u8], &str); 12] = [
         (b"POST /v1/commands HTTP/1.1\r\n\r\n", "411 true None\n"),
         (
             b"POST /v1/commands HTTP/1.1\r\nTransfer-Encoding: chunked\r\n\r\n0\r\n\r\n",
@@ -91,6 +91,18 @@ fn lengths(rt: HostRuntime) -> Result<(), Fail> {
             b"POST /v1/commands HTTP/1.1\r\nContent-Length:\r\n\r\n",
             "400 true None\n",
         ),
+        (
+            b"POST /v1/commands HTTP/1.1\r\nContent-Length: 2, 2\r\n\r\n{}",
+            "400 true None\n",
+        ),
+        (
+            b"POST /v1/commands HTTP/1.1\r\nContent-Length: +2\r\n\r\n{}",
+            "400 true None\n",
+        ),
+        (
+            b"POST /v1/commands HTTP/1.1\r\nContent-Length : 2\r\n\r\n{}",
+            "400 true None\n",
+        ),
     ];
     for (bytes, want) in rows.iter() {
         ends(&rt, bytes, want)?;
@@ -100,6 +112,37 @@ fn lengths(rt: HostRuntime) -> Result<(), Fail> {
         b"POST /v1/commands HTTP/1.1\r\nContent-Length: 000000002\r\n\r\n{}",
         "post 2 false\n",
     )
+}
+
+#[test]
+fn connections(rt: HostRuntime) -> Result<(), Fail> {
+    goes_on(
+        &rt,
+        b"GET /v1/custodial HTTP/1.1\r\nConnection: keep-alive, close\r\n\r\n",
+        "get Custodial false\n",
+    )?;
+    let rows: [(&[u8], &str); 4] = [
+        (
+            b"GET /v1/custodial HTTP/1.1\r\nConnection: keep-alive\r\nConnection: close\r\n\r\n",
+            "get Custodial true\n",
+        ),
+        (
+            b"GET /v1/nowhere HTTP/1.1\r\nConnection: \tCLOSE \r\n\r\n",
+            "404 true None\n",
+        ),
+        (
+            b"PUT /v1/commands HTTP/1.0\r\nConnection: keep-alive\r\nContent-Length: 3\r\n\r\nabc",
+            "405 true Some(Post)\n",
+        ),
+        (
+            b"POST /v1/commands HTTP/1.1\r\nConnection: close\r\nContent-Length: 0\r\n\r\n",
+            "post 0 true\n",
+        ),
+    ];
+    for (bytes, want) in rows.iter() {
+        ends(&rt, bytes, want)?;
+    }
+    Ok(())
 }
 
 #[test]
@@ -146,6 +189,27 @@ fn heads(rt: HostRuntime) -> Result<(), Fail> {
         asked(alloc, &both, both.len(), both.len())?.as_str(),
         "431 true None\n"
     );
+    Ok(())
+}
+
+// Blank lines before a head count toward its 8,192 bytes: with so many of them a head of 30 bytes is
+// whole, and with one more it is too long.
+#[test]
+fn blank_lines(rt: HostRuntime) -> Result<(), Fail> {
+    let alloc = rt.alloc();
+    let rows = [(8162, NEXT_ASKED), (8163, "431 true None\n")];
+    for (lines, want) in rows.iter() {
+        let mut bytes = Vec::new(alloc);
+        for _ in 0..*lines {
+            bytes.push(b'\n')?;
+        }
+        bytes.extend_from_slice(NEXT)?;
+        assert_eq!(rt; asked(alloc, &bytes, 1, 1)?.as_str(), *want);
+        assert_eq!(rt;
+            asked(alloc, &bytes, bytes.len(), bytes.len())?.as_str(),
+            *want
+        );
+    }
     Ok(())
 }
 

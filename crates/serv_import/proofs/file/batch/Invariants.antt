@@ -2,7 +2,7 @@ use Rattle.std.proofs.Common.{◌≡◌, ◌+◌, ◌<◌, ◌≤◌, ℕ, List,
 use Rattle.csv.specs.Reading.{Reached, Ready, default_config, source_of, strip_bom}
 use Rattle.csv.specs.declared.parser.State.TheVariants as st
 use Rattle.csv.specs.declared.reader.Trim.TheVariants as trim
-use Rattle.serv_import.specs.Batches.{AreTaken}
+use Rattle.serv_import.proofs.AnswerLemmas.{AreTaken}
 use Rattle.serv_import.proofs.file.batch.Given as goal
 
 abbrev pub invariant-loop-record : goal.invariant-loop-record
