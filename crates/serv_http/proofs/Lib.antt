@@ -14,3 +14,6 @@ pub mod JudgeLemmas
 pub mod StepLemmas
 pub mod FeedLemmas
 pub mod PushLemmas
+pub mod MatchLemmas
+pub mod TableLemmas
+pub mod RouteLemmas

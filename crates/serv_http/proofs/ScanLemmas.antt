@@ -1,9 +1,12 @@
--- One byte more of a scan for lines.
-use Rattle.std.proofs.Common.{◌≡◌, ◌≢◌, ℕ, zero, suc, ◌+◌, ◌-◌, ◌<◌, ◌≤◌, ◌↔◌, inl, inr, Bool, true, false, eqb, List, [], ◌∷◌, length, take, drop, get_or, refl, sym, ap, ◌∙◌, arith, length-drop, Option, Some, None}
+-- One byte more of a count of lines, and what it says of the line that is too many.
+use Rattle.std.proofs.Common.{◌≡◌, ◌≢◌, ℕ, zero, suc, ◌+◌, ◌-◌, ◌<◌, ◌≤◌, ◌↔◌, inl, inr, Bool, true, false, eqb, List, [], ◌∷◌, ◌++◌, length, take, drop, get_or, refl, sym, ap, ◌∙◌, subst, arith, append_assoc, append-nil, length-append, length-drop, Option, Some, None}
 use Rattle.std.specs.Prelude.{is_some, IsTrue}
-use Rattle.std.proofs.lemmas.Bool.{cond-true, cond-false, eq-eqb, eqb-true, ne_eqb, false≢true}
-use Rattle.std.proofs.lemmas.List.{drop_more, drop_all, take_all}
+use Rattle.std.proofs.lemmas.Bool.{cond-true, cond-false, eq-eqb, eqb-true, ne_eqb, false≢true, ltb-true, lt-ltb, leb-true, le-leb}
+use Rattle.std.proofs.lemmas.List.{drop_more, drop_all, take_all, drop-append-le}
 use Rattle.httparse.specs.Pieces.{is_newline}
+use Rattle.serv_http.specs.declared.lines.LineCount.{LineCount}
+use Rattle.serv_http.specs.declared.lines.LineCount.TheVariants.{Blank, Left, Full}
+use Rattle.serv_http.specs.Counts.{lines_over, lines_on, IsCounted}
 use Rattle.serv_http.specs.Heads.{head_limit, line_limit, from_request_line, after_lines, begun, line_after, line_too_many, few_lines, judged, IsClosed}
 use Rattle.serv_http.proofs.GrowthLemmas.{few_lines-none}
 
@@ -15,88 +18,140 @@ from-other : (b : ℕ) (s : List ℕ) → is_newline b ≡ false → from_reques
 unfolding from_request_line
 from-other b s e = cond-false (is_newline b) (from_request_line s) (b ∷ s) e
 
-from-nil : from_request_line [] ≡ []
-unfolding from_request_line
-from-nil = refl
-
-pub from-more : (buf : List ℕ) (at : ℕ) → at < length buf → is_newline (get_or buf at 0) ≡ true
-    → from_request_line (drop at buf) ≡ from_request_line (drop (at + 1) buf)
-from-more buf at l e =
-    ap from_request_line (drop_more buf at 0 l) ∙ from-newline (get_or buf at 0) (drop (at + 1) buf) e
-
-pub from-stop : (buf : List ℕ) (at : ℕ) → at < length buf → is_newline (get_or buf at 0) ≡ false
-    → from_request_line (drop at buf) ≡ drop at buf
-from-stop buf at l e =
-    ap from_request_line (drop_more buf at 0 l) ∙ from-other (get_or buf at 0) (drop (at + 1) buf) e
-    ∙ sym (drop_more buf at 0 l)
-
-pub from-end : (buf : List ℕ) (at : ℕ) → length buf ≤ at → from_request_line (drop at buf) ≡ drop at buf
-from-end buf at l = ap from_request_line (drop_all at buf l) ∙ from-nil ∙ sym (drop_all at buf l)
-
 -- a line feed, and another byte
-cons-feed : (n b : ℕ) (s : List ℕ) → eqb b 10 ≡ true → after_lines (suc n) (b ∷ s) ≡ after_lines n s
+cons-feed : (n b : ℕ) (s : List ℕ) → b ≡ 10 → after_lines (suc n) (b ∷ s) ≡ after_lines n s
 unfolding after_lines
-cons-feed n b s e = cond-true (eqb b 10) (after_lines n s) (after_lines (suc n) s) e
+cons-feed n b s e = cond-true (eqb b 10) (after_lines n s) (after_lines (suc n) s) (eq-eqb b 10 e)
 
-cons-other : (n b : ℕ) (s : List ℕ) → eqb b 10 ≡ false → after_lines (suc n) (b ∷ s) ≡ after_lines (suc n) s
+cons-other : (n b : ℕ) (s : List ℕ) → b ≢ 10 → after_lines (suc n) (b ∷ s) ≡ after_lines (suc n) s
 unfolding after_lines
-cons-other n b s e = cond-false (eqb b 10) (after_lines n s) (after_lines (suc n) s) e
+cons-other n b s e = cond-false (eqb b 10) (after_lines n s) (after_lines (suc n) s) (ne_eqb b 10 e)
 
 nil-lines : (n : ℕ) → after_lines (suc n) [] ≡ None
 unfolding after_lines
 nil-lines n = refl
 
-pub no-lines : (s : List ℕ) → after_lines 0 s ≡ Some s
+no-lines : (s : List ℕ) → after_lines 0 s ≡ Some s
 unfolding after_lines
 no-lines s = refl
 
-pub after-last : (n : ℕ) (buf : List ℕ) (at : ℕ) → 0 < n → length buf ≤ at → after_lines n (drop at buf) ≡ None
-after-last zero buf at l g = absurd (omega arith)
-after-last (suc n) buf at l g = ap (after_lines (suc n)) (drop_all at buf g) ∙ nil-lines n
+nothing-over : lines_over [] ≡ None
+unfolding from_request_line after_lines
+nothing-over = refl
 
-pub after-feed : (n : ℕ) (buf : List ℕ) (at : ℕ) → 0 < n → at < length buf → get_or buf at 0 ≡ 10
-    → after_lines n (drop at buf) ≡ after_lines (n - 1) (drop (at + 1) buf)
-after-feed zero buf at l h e = absurd (omega arith)
-after-feed (suc n) buf at l h e =
-    ap (after_lines (suc n)) (drop_more buf at 0 h)
-    ∙ cons-feed n (get_or buf at 0) (drop (at + 1) buf) (eq-eqb (get_or buf at 0) 10 e)
-    ∙ ap (λ (k : ℕ). after_lines k (drop (at + 1) buf)) (let q : n ≡ suc n - 1 = omega arith in q)
+no-feed : (b : ℕ) → is_newline b ≡ false → b ≢ 10
+no-feed b other e = false≢true (sym other ∙ ap is_newline e)
 
-pub after-other : (n : ℕ) (buf : List ℕ) (at : ℕ) → 0 < n → at < length buf → get_or buf at 0 ≢ 10
-    → after_lines n (drop at buf) ≡ after_lines n (drop (at + 1) buf)
-after-other zero buf at l h e = absurd (omega arith)
-after-other (suc n) buf at l h e =
-    ap (after_lines (suc n)) (drop_more buf at 0 h)
-    ∙ cons-other n (get_or buf at 0) (drop (at + 1) buf) (ne_eqb (get_or buf at 0) 10 e)
+-- nothing is counted of nothing
+pub counted-nothing : (head : List ℕ) → IsCounted (take 0 head) Blank
+counted-nothing head = record { within = refl; goes_on = λ more. refl }
 
-many-of : (buf : List ℕ) (start : ℕ) (o : Option (List ℕ)) → from_request_line buf ≡ drop start buf
-    → after_lines (line_limit + 1) (drop start buf) ≡ o → line_too_many buf ≡ begun o
+module _ (s : List ℕ) (b : ℕ) where
+  more-of : (lines : LineCount) → IsCounted s lines → (more : List ℕ) → lines_over ((s ++ b ∷ []) ++ more) ≡ lines_on lines s (b ∷ more)
+  more-of lines x more = ap lines_over (append_assoc s (b ∷ []) more) ∙ x.goes_on (b ∷ more)
+
+  pub counted-newline : (lines : LineCount) → lines ≡ Blank → is_newline b ≡ true → IsCounted s lines → IsCounted (s ++ b ∷ []) lines
+  counted-newline lines is e x =
+      subst (λ (l : LineCount). IsCounted (s ++ b ∷ []) l) (sym is)
+      (let y : IsCounted s Blank = subst (λ (l : LineCount). IsCounted s l) is x in
+      record { within = refl; goes_on = λ more. more-of Blank y more ∙ ap (after_lines (line_limit + 1)) (from-newline b more e) })
+
+  pub counted-begun : (lines : LineCount) → lines ≡ Blank → is_newline b ≡ false → IsCounted s lines → IsCounted (s ++ b ∷ []) (Left (line_limit + 1))
+  counted-begun lines is e x =
+      let y : IsCounted s Blank = subst (λ (l : LineCount). IsCounted s l) is x in
+      record {
+        within = lt-ltb 0 (line_limit + 1) (omega arith);
+        goes_on = λ more. more-of Blank y more ∙ ap (after_lines (line_limit + 1)) (from-other b more e)
+            ∙ cons-other line_limit b more (no-feed b e);
+      }
+
+  other-at : (n : ℕ) → b ≢ 10 → IsCounted s (Left n) → IsCounted (s ++ b ∷ []) (Left n)
+  other-at zero e x = absurd (let w = ltb-true 0 0 x.within in omega arith)
+  other-at (suc n) e x = record { within = x.within; goes_on = λ more. more-of (Left (suc n)) x more ∙ cons-other n b more e }
+
+  pub counted-other : (lines : LineCount) (n : ℕ) → lines ≡ Left n → b ≢ 10 → IsCounted s lines → IsCounted (s ++ b ∷ []) (Left n)
+  counted-other lines n is e x = other-at n e (subst (λ (l : LineCount). IsCounted s l) is x)
+
+  feed-at : (n : ℕ) → b ≡ 10 → 1 < n → IsCounted s (Left n) → IsCounted (s ++ b ∷ []) (Left (n - 1))
+  feed-at zero e l x = absurd (omega arith)
+  feed-at (suc n) e l x = record {
+    within = lt-ltb 0 (suc n - 1) (omega arith);
+    goes_on = λ more. more-of (Left (suc n)) x more ∙ cons-feed n b more e
+        ∙ ap (λ (k : ℕ). after_lines k more) (let q : n ≡ suc n - 1 = omega arith in q);
+  }
+
+  pub counted-feed : (lines : LineCount) (n : ℕ) → lines ≡ Left n → b ≡ 10 → 1 < n → IsCounted s lines → IsCounted (s ++ b ∷ []) (Left (n - 1))
+  counted-feed lines n is e l x = feed-at n e l (subst (λ (l : LineCount). IsCounted s l) is x)
+
+  full-at : (n place : ℕ) → b ≡ 10 → n ≤ 1 → length s + 1 ≡ place → IsCounted s (Left n) → IsCounted (s ++ b ∷ []) (Full place)
+  full-at zero place e l at x = absurd (let w = ltb-true 0 0 x.within in omega arith)
+  full-at (suc n) place e l at x =
+      let zero_left : n ≡ 0 = omega arith in
+      let size : length (s ++ b ∷ []) ≡ place = omega (arith, length-append s (b ∷ [])) in
+      record {
+        within = le-leb place (length (s ++ b ∷ [])) (omega arith);
+        goes_on = λ more. more-of (Left (suc n)) x more ∙ cons-feed n b more e
+            ∙ ap (λ (k : ℕ). after_lines k more) zero_left ∙ no-lines more
+            ∙ ap (λ (t : List ℕ). Some (t ++ more)) (sym (drop_all place (s ++ b ∷ []) (omega arith)));
+      }
+
+  pub counted-full : (lines : LineCount) (n place : ℕ) → lines ≡ Left n → b ≡ 10 → n ≤ 1 → length s + 1 ≡ place → IsCounted s lines
+      → IsCounted (s ++ b ∷ []) (Full place)
+  counted-full lines n place is e l at x = full-at n place e l at (subst (λ (l : LineCount). IsCounted s l) is x)
+
+  on-at : (at : ℕ) → IsCounted s (Full at) → IsCounted (s ++ b ∷ []) (Full at)
+  on-at at x =
+      let inside : at ≤ length s = leb-true at (length s) x.within in
+      record {
+        within = le-leb at (length (s ++ b ∷ [])) (omega (arith, length-append s (b ∷ [])));
+        goes_on = λ more. more-of (Full at) x more
+            ∙ ap Some (sym (append_assoc (drop at s) (b ∷ []) more))
+            ∙ ap (λ (t : List ℕ). Some (t ++ more)) (sym (drop-append-le at s (b ∷ []) inside));
+      }
+
+  pub counted-on : (lines : LineCount) (at : ℕ) → lines ≡ Full at → IsCounted s lines → IsCounted (s ++ b ∷ []) lines
+  counted-on lines at is x =
+      subst (λ (l : LineCount). IsCounted (s ++ b ∷ []) l) (sym is) (on-at at (subst (λ (l : LineCount). IsCounted s l) is x))
+
+-- the count says where the line that is too many begins
+lines-here : (buf : List ℕ) (lines : LineCount) → IsCounted buf lines → lines_over buf ≡ lines_on lines buf []
+lines-here buf lines x = ap lines_over (sym (append-nil buf)) ∙ x.goes_on []
+
+many-at : (buf : List ℕ) (o : Option (List ℕ)) → lines_over buf ≡ o → line_too_many buf ≡ begun o
 unfolding line_after
-many-of buf start o from lines = ap begun (ap (after_lines (line_limit + 1)) from ∙ lines)
+many-at buf o e = ap begun e
 
-pub many-none : (buf : List ℕ) (start : ℕ) → from_request_line buf ≡ drop start buf
-    → after_lines (line_limit + 1) (drop start buf) ≡ None → line_too_many buf ≡ None
-many-none buf start from lines = many-of buf start None from lines
+pub many-none : (buf : List ℕ) (lines : LineCount) → IsCounted buf lines → ((at : ℕ) → lines ≡ Full at → ⊥) → line_too_many buf ≡ None
+many-none buf Blank x other = many-at buf None (lines-here buf Blank x ∙ nothing-over)
+many-none buf (Left zero) x other = absurd (let w = ltb-true 0 0 x.within in omega arith)
+many-none buf (Left (suc n)) x other = many-at buf None (lines-here buf (Left (suc n)) x ∙ nil-lines n)
+many-none buf (Full at) x other = absurd (other at refl)
 
-pub many-end : (buf : List ℕ) (start at : ℕ) → from_request_line buf ≡ drop start buf
-    → after_lines (line_limit + 1) (drop start buf) ≡ Some (drop at buf) → length buf ≤ at → line_too_many buf ≡ None
-many-end buf start at from lines past =
-    many-of buf start (Some (drop at buf)) from lines ∙ ap (λ (x : List ℕ). begun (Some x)) (drop_all at buf past)
+full-here : (buf : List ℕ) (lines : LineCount) (at : ℕ) → lines ≡ Full at → IsCounted buf lines
+    → (at ≤ length buf) × (line_too_many buf ≡ begun (Some (drop at buf)))
+full-here buf lines at is x =
+    let y : IsCounted buf (Full at) = subst (λ (l : LineCount). IsCounted buf l) is x in
+    (leb-true at (length buf) y.within, many-at buf (Some (drop at buf)) (lines-here buf (Full at) y ∙ ap Some (append-nil (drop at buf))))
 
-pub many-newline : (buf : List ℕ) (start at : ℕ) → from_request_line buf ≡ drop start buf
-    → after_lines (line_limit + 1) (drop start buf) ≡ Some (drop at buf) → at < length buf
+pub many-end : (buf : List ℕ) (lines : LineCount) (at : ℕ) → lines ≡ Full at → IsCounted buf lines → at ≡ length buf → line_too_many buf ≡ None
+many-end buf lines at is x end =
+    (full-here buf lines at is x).1 ∙ ap (λ (t : List ℕ). begun (Some t)) (drop_all at buf (omega arith))
+
+pub many-newline : (buf : List ℕ) (lines : LineCount) (at : ℕ) → lines ≡ Full at → IsCounted buf lines → at < length buf
     → is_newline (get_or buf at 0) ≡ true → line_too_many buf ≡ None
-many-newline buf start at from lines inside is =
-    many-of buf start (Some (drop at buf)) from lines ∙ ap (λ (x : List ℕ). begun (Some x)) (drop_more buf at 0 inside)
-    ∙ cond-true (is_newline (get_or buf at 0)) None (Some (get_or buf at 0 ∷ drop (at + 1) buf)) is
+many-newline buf lines at is x inside newline =
+    (full-here buf lines at is x).1 ∙ ap (λ (t : List ℕ). begun (Some t)) (drop_more buf at 0 inside)
+    ∙ cond-true (is_newline (get_or buf at 0)) None (Some (get_or buf at 0 ∷ drop (at + 1) buf)) newline
 
-pub many-begun : (buf : List ℕ) (start at : ℕ) → from_request_line buf ≡ drop start buf
-    → after_lines (line_limit + 1) (drop start buf) ≡ Some (drop at buf) → at < length buf
+pub many-begun : (buf : List ℕ) (lines : LineCount) (at : ℕ) → lines ≡ Full at → IsCounted buf lines → at < length buf
     → is_newline (get_or buf at 0) ≡ false → line_too_many buf ≡ Some (drop at buf)
-many-begun buf start at from lines inside is =
-    many-of buf start (Some (drop at buf)) from lines ∙ ap (λ (x : List ℕ). begun (Some x)) (drop_more buf at 0 inside)
-    ∙ cond-false (is_newline (get_or buf at 0)) None (Some (get_or buf at 0 ∷ drop (at + 1) buf)) is
+many-begun buf lines at is x inside other =
+    (full-here buf lines at is x).1 ∙ ap (λ (t : List ℕ). begun (Some t)) (drop_more buf at 0 inside)
+    ∙ cond-false (is_newline (get_or buf at 0)) None (Some (get_or buf at 0 ∷ drop (at + 1) buf)) other
     ∙ ap Some (sym (drop_more buf at 0 inside))
+
+pub full-within : (buf : List ℕ) (lines : LineCount) (at : ℕ) → lines ≡ Full at → IsCounted buf lines → at ≤ length buf
+full-within buf lines at is x = (full-here buf lines at is x).0
 
 -- what is looked at, and whether no byte that follows is
 pub record IsWindow (buf : List ℕ) (count : ℕ) (closed : Bool) : Type 0 where

@@ -1,5 +1,5 @@
 -- What a step of a connection does with the bytes of a piece.
-use Rattle.std.proofs.Common.{◌≡◌, ℕ, ◌+◌, ◌-◌, ◌<◌, ◌≤◌, inl, inr, Bool, true, List, [], ◌∷◌, ◌++◌, length, take, drop, refl, sym, ap, ◌∙◌, subst, arith, append_assoc, length-append, length-take, length-drop, Option, Some, None}
+use Rattle.std.proofs.Common.{◌≡◌, ℕ, ◌+◌, ◌-◌, ◌<◌, ◌≤◌, inl, inr, Bool, true, false, List, [], ◌∷◌, ◌++◌, length, take, drop, refl, sym, ap, ◌∙◌, subst, arith, append_assoc, length-append, length-take, length-drop, Option, Some, None}
 use Rattle.std.specs.Prelude.{min, Result, Ok, Err, IfOk}
 use Rattle.std.proofs.lemmas.Bool.{cases_lt}
 use Rattle.std.proofs.lemmas.List.{take_at, take_all, drop_all, take-append-drop, take-take}
@@ -20,6 +20,7 @@ use Rattle.serv_http.specs.declared.head_step.HeadStep.{HeadStep}
 use Rattle.serv_http.specs.declared.head_step.HeadStep.TheVariants.{Asked, Waits}
 use Rattle.serv_http.specs.Heads.{head_limit, line_after, from_request_line, after_lines, judged, HasHead, IsClosed, IsOpen, IsRefused, IsTooLong}
 use Rattle.serv_http.specs.Judging.{IsWholeHead}
+use Rattle.serv_http.specs.Stages.{is_ended}
 use Rattle.serv_http.specs.Plans.{IsPlan}
 use Rattle.serv_http.specs.Streams.{ask_of, ends, after_head, IsFirst, IsAwaited}
 use Rattle.serv_http.specs.Conns.{IsHeading, IsPassing, IsKeeping, StandsAt, StandsFor, BegunAt, BegunFor, IsWhole, IsStep, IsHeadStep, stage_after}
@@ -49,6 +50,16 @@ stands-at-awaited c Over s x = absurd x
 
 pub stands-awaited : (c : Conn) (s : List ℕ) → StandsFor c s → IsAwaited s
 stands-awaited c s x = stands-at-awaited c c.stage s x
+
+going-at : (c : Conn) (g : Stage) (s : List ℕ) → StandsAt c g s → is_ended g ≡ false
+going-at c Heading s x = refl
+going-at c (Passing left due) s x = refl
+going-at c (Keeping have need last) s x = refl
+going-at c Over s x = absurd x
+
+-- a connection that stands for bytes has not ended
+pub stands-going : (c : Conn) (s : List ℕ) → StandsFor c s → is_ended c.stage ≡ false
+stands-going c s x = going-at c c.stage s x
 
 -- a body that is passed over
 pub pass-more : (left : ℕ) (due : Due) (s piece : List ℕ) → IsPassing left due s → length piece < left

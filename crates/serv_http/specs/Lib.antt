@@ -8,3 +8,5 @@ pub mod Responses
 pub mod Conns
 pub mod Stages
 pub mod Judging
+pub mod Counts
+pub mod Paths

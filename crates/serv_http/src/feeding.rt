@@ -9,6 +9,7 @@ ghost use Rattle.serv_http.specs.Stages.{stage_fits};
 use crate::ask::{Ask, Body, Due};
 use crate::conn::Conn;
 use crate::ending::has_ended;
+use crate::lines::LineCount;
 use crate::plan::BODY_LIMIT;
 use crate::room::Room;
 use crate::router::routes;
@@ -61,14 +62,16 @@ impl Conn {
             router: routes(alloc)?,
             head: Room::new(alloc, HEAD_LIMIT)?,
             filled: 0,
+            lines: LineCount::Blank,
             body: Room::new(alloc, BODY_LIMIT)?,
             stage: Stage::Heading,
         })
     }
 
-    /// Whether the connection has ended.
+    /// Whether the connection has ended. One that stands for bytes has not.
     pub fn is_over(&self) -> bool
-        ensures { result ≡ conns.is_over self.now }
+        ensures value { result ≡ conns.is_over self.now }
+        ensures stands { (s : List ℕ) → conns.StandsFor self.now s → result ≡ false }
     {
         has_ended(&self.stage)
     }

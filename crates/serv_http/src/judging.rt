@@ -1,11 +1,13 @@
 //! Whether the bytes so far begin with a head, and what it asks for.
 
 ghost use Rattle.std.specs.Prelude.{◌≡◌, ◌≤◌, length};
+ghost use Rattle.serv_http.specs.Counts.{IsCounted};
 ghost use Rattle.serv_http.specs.Heads.{head_limit};
 ghost use Rattle.serv_http.specs.Routes.{table};
 ghost use Rattle.serv_http.specs.Judging.{IsFound, OpenAnswer};
 
 use crate::found::Found;
+use crate::lines::LineCount;
 use crate::plan::plan_at;
 use crate::route::Route;
 use crate::target::ends_in_target;
@@ -22,12 +24,13 @@ fn unfinished(closed: bool) -> Found
 }
 
 /// What the bytes so far are, as a head.
-pub(crate) fn judge(router: &Router<Route>, buf: &[u8]) -> Found
+pub(crate) fn judge(router: &Router<Route>, buf: &[u8], lines: LineCount) -> Found
     requires length { length buf.now ≤ head_limit }
+    requires counted { IsCounted buf.now lines }
     requires table { router.now ≡ table }
     ensures { IsFound buf.now result }
 {
-    let (count, closed) = window(buf);
+    let (count, closed) = window(buf, lines);
     let few = &buf[..count];
     let mut headers = [EMPTY_HEADER_SPAN; LINE_LIMIT];
     match parse_request(few, &mut headers) {

@@ -1,9 +1,13 @@
 //! Laws of the requests of a stream, for callers that feed one piece after another.
 
-ghost use Rattle.std.specs.Prelude.{◌≡◌, ℕ, ◌≤◌, ◌++◌, List, length, Option, Some, None};
+ghost use Rattle.std.specs.Prelude.{◌≡◌, ℕ, ◌<◌, ◌≤◌, ◌==◌, ◌↔◌, ◌++◌, List, length, All, Option, Some, None, false};
+ghost use Rattle.std.specs.List.{list_any};
 ghost use Rattle.httparse.specs.Grammar.{RequestHead, print_request, ReadsRequest};
 ghost use Rattle.serv_http.specs.declared.ask.Ask.{Ask};
+ghost use Rattle.serv_http.specs.declared.route.Route.{Route};
 ghost use Rattle.serv_http.specs.Heads.{head_limit, line_limit, IsRefused, IsTooLong};
+ghost use Rattle.serv_http.specs.Paths.{IsPathOf};
+ghost use Rattle.serv_http.specs.Routes.{route_of};
 ghost use Rattle.serv_http.specs.Streams.{AsksTo};
 
 /// A stream has one list of requests, and one rest.
@@ -30,4 +34,11 @@ pub fn first_of()
 pub fn within_limits()
     ensures { (s more : List ℕ) (h : RequestHead) (rest : List ℕ) → ReadsRequest (s ++ more) h rest
         → length h.fields ≤ line_limit → length (print_request h) ≤ head_limit → (¬ (IsRefused s)) × (¬ (IsTooLong s)) }
+{}
+
+/// A target matches a route exactly where it has no `?` and is one of the route's paths: a part in
+/// braces stands for one or more bytes other than `/`.
+pub fn route_paths()
+    ensures { (route : Route) (target : List ℕ) → All (λ b. b < 256) target
+        → (route_of target ≡ Some route) ↔ ((list_any (λ b. b == 63) target ≡ false) × IsPathOf route target) }
 {}

@@ -10,6 +10,7 @@ mod found;
 mod head_step;
 mod judging;
 mod laws;
+mod lines;
 mod plan;
 mod queries;
 mod response;
@@ -24,7 +25,7 @@ mod window;
 
 pub use ask::{Allow, Ask, Body, Due, Plan};
 pub use conn::Conn;
-pub use laws::{any_cutting, first_of, one_list, within_limits};
+pub use laws::{any_cutting, first_of, one_list, route_paths, within_limits};
 pub use plan::BODY_LIMIT;
 pub use response::respond;
 pub use route::{ContentLength, Route};

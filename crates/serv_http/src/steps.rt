@@ -2,6 +2,7 @@
 
 ghost use Rattle.std.specs.Prelude.{◌≡◌, ℕ, ◌+◌, ◌≤◌, ◌<◌, ◌++◌, List, length, take, drop, min, ◌-◌, IfOk, OnErr, true, None};
 ghost use Rattle.serv_http.specs.Conns as conns;
+ghost use Rattle.serv_http.specs.Counts.{IsCounted};
 ghost use Rattle.serv_http.specs.Streams.{IsAwaited};
 ghost use Rattle.serv_http.specs.Plans.{PlanFits, IsPlan};
 ghost use Rattle.httparse.specs.Grammar.{RequestHead};
@@ -12,8 +13,9 @@ use crate::feeding::{after, asked, body_of, is_last};
 use crate::found::Found;
 use crate::head_step::HeadStep;
 use crate::judging::judge;
+use crate::lines::LineCount;
 use crate::stage::Stage;
-use crate::window::HEAD_LIMIT;
+use crate::window::{HEAD_LIMIT, count_on};
 use std::alloc::Global;
 use svc_base::OutOfMemory;
 
@@ -24,6 +26,7 @@ impl Conn {
         ensures filled { self.new.filled ≡ 0 }
     {
         self.filled = 0;
+        self.lines = LineCount::Blank;
         self.stage = after(last);
     }
 
@@ -97,6 +100,7 @@ impl Conn {
         ensures head { (s : List ℕ) → s ≡ take self.old.filled self.old.head
             → take (self.old.filled + result) self.new.head ≡ s ++ take result piece.now }
         ensures filled { self.new.filled ≡ self.old.filled }
+        ensures lines { self.new.lines ≡ self.old.lines }
         ensures stage { self.new.stage ≡ self.old.stage }
     {
         let count = piece.len().min(HEAD_LIMIT - self.filled);
@@ -111,6 +115,7 @@ impl Conn {
             → used ≤ length piece → conns.IsHeadStep s piece self.new result }
     {
         self.filled = 0;
+        self.lines = LineCount::Blank;
         match plan {
             Plan::Now(due) => {
                 self.finish(is_last(&due));
@@ -137,9 +142,10 @@ impl Conn {
         HeadStep::Asked(used, Ask::Fault(status, true, None))
     }
 
-    /// Counts bytes of a head that are there, as long as it may have more.
-    fn wait(&mut self, count: usize) -> HeadStep
-        requires { self.old.filled + count ≤ 8192 }
+    /// Counts bytes of a head that are there, and its lines, as long as it may have more.
+    fn wait(&mut self, count: usize, lines: LineCount) -> HeadStep
+        requires within { self.old.filled + count ≤ 8192 }
+        requires counted { IsCounted (take (self.old.filled + count) self.old.head) lines }
         ensures value { result ≡ HeadStep.Waits }
         ensures filled { self.old.filled + count < 8192 → self.new.filled ≡ self.old.filled + count }
         ensures head { self.new.head ≡ self.old.head }
@@ -147,6 +153,7 @@ impl Conn {
     {
         if self.filled + count < HEAD_LIMIT {
             self.filled += count;
+            self.lines = lines;
         }
         HeadStep::Waits
     }
@@ -157,10 +164,12 @@ impl Conn {
             → conns.IsHeadStep s piece.now self.new result }
     {
         let count = self.fill(piece);
-        match judge(&self.router, self.head.front(self.filled + count)) {
+        let front = self.head.front(self.filled + count);
+        let lines = count_on(self.lines, front, self.filled);
+        match judge(&self.router, front, lines) {
             Found::Refused => self.fault(count, 400),
             Found::TooLong => self.fault(count, 431),
-            Found::Waits => self.wait(count),
+            Found::Waits => self.wait(count, lines),
             Found::Whole(len, plan) => self.begin(len.saturating_sub(self.filled), plan),
         }
     }

@@ -1,5 +1,7 @@
 //! Requests whole, in pieces of one byte, and cut at each place.
 
+mod hostile;
+
 use super::*;
 use std::alloc::Global;
 use std::process::Abort;

@@ -1,7 +1,10 @@
 //! How much of a stream is looked at for a head: its bytes up to a 65th header line.
 
-ghost use Rattle.std.specs.Prelude.{◌≡◌, ℕ, ◌+◌, ◌≤◌, ◌==◌, ◌||◌, length, take, drop, MatchOption, IfSome, None, Some, IsTrue, ◌↔◌};
-ghost use Rattle.serv_http.specs.Heads.{head_limit, from_request_line, after_lines, line_too_many, judged, IsClosed};
+ghost use Rattle.std.specs.Prelude.{◌≡◌, ℕ, ◌+◌, ◌≤◌, ◌==◌, ◌||◌, List, [], ◌∷◌, ◌++◌, length, take, drop, MatchOption, None, Some, IsTrue, ◌↔◌};
+ghost use Rattle.serv_http.specs.Counts.{IsCounted};
+ghost use Rattle.serv_http.specs.Heads.{head_limit, line_too_many, judged, IsClosed};
+
+use crate::lines::LineCount;
 
 /// The most bytes of a head, the blank lines before it included.
 pub const HEAD_LIMIT: usize = 8192;
@@ -16,45 +19,47 @@ fn is_newline(b: u8) -> bool
     b == b'\r' || b == b'\n'
 }
 
-/// Where the first byte stands that is neither CR nor LF.
-fn line_start(buf: &[u8]) -> usize
-    ensures within { result ≤ length buf.now }
-    ensures value { from_request_line buf.now ≡ drop result buf.now }
+/// The count of lines with a byte more, where so many bytes are there with it.
+fn with_byte(lines: LineCount, b: u8, place: usize) -> LineCount
+    ensures { (s : List ℕ) → length s + 1 ≡ place → IsCounted s lines → IsCounted (s ++ b ∷ []) result }
 {
-    let mut at = 0;
-    while at < buf.len() {
-        if !is_newline(buf[at]) {
-            return at;
-        }
-        at += 1;
+    match lines {
+        LineCount::Blank => if is_newline(b) {
+            lines
+        } else {
+            LineCount::Left(LINE_LIMIT + 1)
+        },
+        LineCount::Left(left) => if b != b'\n' {
+            lines
+        } else if left > 1 {
+            LineCount::Left(left - 1)
+        } else {
+            LineCount::Full(place)
+        },
+        LineCount::Full(_) => lines,
     }
-    at
 }
 
-/// Where the line begins that comes after so many line feeds from a place on.
-fn after_feeds(buf: &[u8], start: usize, count: usize) -> Option<usize>
-    requires { start ≤ length buf.now }
-    ensures within { IfSome result (λ at. at ≤ length buf.now) }
-    ensures value { MatchOption result (after_lines count (drop start buf.now) ≡ None)
-        (λ at. after_lines count (drop start buf.now) ≡ Some (drop at buf.now)) }
+/// The count of lines of all bytes, from that of the first of them.
+pub(crate) fn count_on(lines: LineCount, buf: &[u8], from: usize) -> LineCount
+    requires within { from ≤ length buf.now }
+    requires counted { IsCounted (take from buf.now) lines }
+    ensures { IsCounted buf.now result }
 {
-    let mut left = count;
-    let mut at = start;
-    while left > 0 && at < buf.len() {
-        if buf[at] == b'\n' {
-            left -= 1;
-        }
-        at += 1;
+    let mut lines = lines;
+    for at in from..buf.len() {
+        lines = with_byte(lines, buf[at], at + 1);
     }
-    if left > 0 { None } else { Some(at) }
+    lines
 }
 
 /// Where the 65th header line begins, where it has begun.
-fn too_many(buf: &[u8]) -> Option<usize>
+fn too_many(buf: &[u8], lines: LineCount) -> Option<usize>
+    requires { IsCounted buf.now lines }
     ensures { MatchOption result (line_too_many buf.now ≡ None)
         (λ at. (at ≤ length buf.now) × (line_too_many buf.now ≡ Some (drop at buf.now))) }
 {
-    let Some(at) = after_feeds(buf, line_start(buf), LINE_LIMIT + 1) else {
+    let LineCount::Full(at) = lines else {
         return None;
     };
     if at == buf.len() {
@@ -64,13 +69,14 @@ fn too_many(buf: &[u8]) -> Option<usize>
 }
 
 /// How many bytes are looked at, and whether no byte that follows is.
-pub(crate) fn window(buf: &[u8]) -> (usize, bool)
-    requires { length buf.now ≤ head_limit }
+pub(crate) fn window(buf: &[u8], lines: LineCount) -> (usize, bool)
+    requires length { length buf.now ≤ head_limit }
+    requires counted { IsCounted buf.now lines }
     ensures within { result.0 ≤ length buf.now }
     ensures judged { take result.0 buf.now ≡ judged buf.now }
     ensures closed { IsTrue result.1 ↔ IsClosed buf.now }
 {
-    match too_many(buf) {
+    match too_many(buf, lines) {
         Some(at) => (at, true),
         None => (buf.len(), buf.len() == HEAD_LIMIT),
     }

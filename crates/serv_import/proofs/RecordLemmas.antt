@@ -1,11 +1,9 @@
 -- The records of a text: those that a reader reaches are all, and each takes a byte at least.
-use Rattle.std.proofs.Common.{◌≡◌, ◌≤◌, ◌<◌, ◌+◌, ℕ, zero, suc, Bool, true, false, List, [], ◌∷◌, Option, Some, None, length, map, refl, sym, subst, arith}
+use Rattle.std.proofs.Common.{◌≡◌, ◌≤◌, ◌<◌, ◌+◌, ℕ, zero, suc, Bool, true, false, List, [], ◌∷◌, Option, Some, None, length, refl, sym, ap, ◌∙◌, subst, arith}
 use Rattle.std.proofs.lemmas.Bool.{false≢true}
 use Rattle.std.specs.Prelude.{if◌then◌else◌, ◌==◌, ◌&&◌}
 use Rattle.csv.specs.Machine.{Read, next_record, step, in_field, start_field, start_record, ends_with, after_end, ends_at_end, is_end, is_byte, fields_after, field_after}
-use Rattle.std.proofs.lemmas.List.{length-map}
-use Rattle.csv.specs.Records.{Row, fields_of}
-use Rattle.csv.specs.Reading.{Reached, records, records_from, default_config, strip_bom, is_bom}
+use Rattle.csv.specs.Reading.{Reached, records, records_from, records_next, default_config, strip_bom, is_bom}
 use Rattle.csv.specs.declared.parser.Config.{Config}
 use Rattle.csv.specs.declared.parser.State.{State}
 use Rattle.csv.specs.declared.parser.Action.{Action}
@@ -128,17 +126,29 @@ without_bom (a ∷ b ∷ c ∷ rest) =
     elim (is_bom a b c) as (λ x. length (if x then rest else a ∷ b ∷ c ∷ rest) ≤ length (a ∷ b ∷ c ∷ rest)) [ true ↦ omega arith | false ↦ omega arith ]
 
 -- a file has no more records than bytes
-pub few_rows : (bytes ys : List ℕ) (rows : List Row) (s : State) → Reached default_config st.StartRecord (strip_bom bytes) (map fields_of rows) s ys
+pub few_rows : (bytes ys : List ℕ) (rows : List (List (List ℕ))) (s : State) → Reached default_config st.StartRecord (strip_bom bytes) rows s ys
     → length rows ≤ length bytes
 few_rows bytes ys rows s h =
-    let few = few_records default_config st.StartRecord s (strip_bom bytes) ys (map fields_of rows) refl h in
-    let same = length-map rows fields_of in
+    let few = few_records default_config st.StartRecord s (strip_bom bytes) ys rows refl h in
     let less = without_bom bytes in
     omega arith
 
 -- what was read of a file are its records, where no more can be read
-pub all_rows : (bytes ys : List ℕ) (rows : List Row) (s : State) → Reached default_config st.StartRecord (strip_bom bytes) (map fields_of rows) s ys
-    → next_record default_config s [] [] ys ≡ None → map fields_of rows ≡ records default_config (strip_bom bytes)
+pub all_rows : (bytes ys : List ℕ) (rows : List (List (List ℕ))) (s : State) → Reached default_config st.StartRecord (strip_bom bytes) rows s ys
+    → next_record default_config s [] [] ys ≡ None → rows ≡ records default_config (strip_bom bytes)
 all_rows bytes ys rows s h e =
-    let few = few_records default_config st.StartRecord s (strip_bom bytes) ys (map fields_of rows) refl h in
-    sym (all_records default_config _ st.StartRecord s (strip_bom bytes) ys (map fields_of rows) h e (omega arith))
+    let few = few_records default_config st.StartRecord s (strip_bom bytes) ys rows refl h in
+    sym (all_records default_config _ st.StartRecord s (strip_bom bytes) ys rows h e (omega arith))
+
+-- the first record that is read of a file is the first of its records
+pub first_row : (bytes ys : List ℕ) (row : List (List ℕ)) (s : State) → Reached default_config st.StartRecord (strip_bom bytes) (row ∷ []) s ys
+    → (rows : List (List (List ℕ))) × (records default_config (strip_bom bytes) ≡ row ∷ rows)
+unfolding Reached records_from
+first_row bytes ys row s h =
+    let text : List ℕ = strip_bom bytes in
+    let one : length text + 1 ≡ suc (length text) = omega arith in (
+      records_from default_config (length text) h.0.1 h.0.2,
+      ap (λ (n : ℕ). records_from default_config n st.StartRecord text) one
+          ∙ ap (records_next (records_from default_config (length text))) h.1
+          ∙ ap (λ (r : List (List ℕ)). r ∷ records_from default_config (length text) h.0.1 h.0.2) (sym h.2),
+    )

@@ -5,7 +5,6 @@
 mod commands;
 mod fault;
 mod file;
-mod records;
 mod row;
 
 pub use fault::ImportFault;

@@ -1,16 +1,15 @@
 //! The rows of a file: what each one asks.
 
-ghost use Rattle.std.specs.Prelude.{◌≡◌, ◌≢◌, ◌<◌, ◌^◌, ◌∷◌, ◌++◌, [], Some, IfOk, IfErr, IfSome, IfNone, OnOk, length, map};
+ghost use Rattle.std.specs.Prelude.{◌≡◌, ◌≢◌, ◌<◌, ◌∷◌, ◌++◌, [], Some, IfOk, IfErr, IfSome, IfNone, OnOk, length};
 ghost use Rattle.csv.specs.Records.{fields_of, field_at};
 ghost use Rattle.serv_import.specs.declared.row.RowRequest as requests;
 ghost use Rattle.serv_import.specs.Rows.{Asks};
 ghost use Rattle.serv_import.specs.Columns.{IsBadAt};
-ghost use Rattle.serv_import.specs.Batches.{IsAnswer, AreAnswers};
+ghost use Rattle.serv_import.specs.Batches.{IsAnswer};
 ghost use Rattle.serv_import.specs.Fields.{fields_in};
 
 use crate::commands::read_fields;
 use csv::ByteRecord;
-use std::alloc::Global;
 use svc_base::OutOfMemory;
 use svc_types::{Command, Key};
 
@@ -79,7 +78,7 @@ fn read_row(row: &ByteRecord) -> Result<(Key, Command), u32>
 }
 
 /// Appends what the row with that number asks.
-fn push_answer(
+pub(crate) fn push_answer(
     answers: &mut Vec<RowRequest>,
     number: u32,
     row: &ByteRecord,
@@ -92,18 +91,4 @@ fn push_answer(
         Err(column) => answers.push(RowRequest::Bad(number, column))?,
     }
     Ok(())
-}
-
-/// What the rows after the header ask.
-pub(crate) fn answers(alloc: Global, rows: &[ByteRecord]) -> Result<Vec<RowRequest>, OutOfMemory>
-    requires few { length rows.now < 2 ^ 26 }
-    ensures { IfOk result (λ v. AreAnswers 2 (map fields_of rows.now) v.items) }
-{
-    let mut answers = Vec::new(alloc);
-    let mut number = 2;
-    for row in rows {
-        push_answer(&mut answers, number, row)?;
-        number += 1;
-    }
-    Ok(answers)
 }

@@ -53,7 +53,7 @@ returns-then-is_over-clause-asks c = λ s x.
     subst (λ (l : List Ask). IsFed (s ++ c.args.piece.now) l c.step.new.self) (sym pushed)
     (so-far-over c.args.piece.now c.loop-count.at c.loop-count.count w.used c.loop-count.asks.items w.ask c.loop-count.self c.step.new.self s so
     (step-at so.left c.args.piece.now c.loop-count.at w.used c.step.new.self w.field-0-1 (Some w.ask) w.field-0-1-is (w.ensures.ok so.left so.stands))
-    (sym c.is_over.ensures ∙ c.if-is_over.true))
+    (sym c.is_over.ensures.value ∙ c.if-is_over.true))
 
 pub returns-then-is_over-clause-quiet : goal.returns-then-is_over-clause-quiet
 returns-then-is_over-clause-quiet c = λ s x awaited.
@@ -76,7 +76,7 @@ loop-count-preserved c =
           subst (λ (l : List Ask). IsSoFar c.args.piece.now (c.loop-count.at + w.used) (c.loop-count.count + 1) l c.step.new.self s) (sym pushed)
           (so-far-more c.args.piece.now c.loop-count.at c.loop-count.count w.used c.loop-count.asks.items w.ask c.loop-count.self c.step.new.self s so
           (step-at so.left c.args.piece.now c.loop-count.at w.used c.step.new.self w.field-0-1 (Some w.ask) w.field-0-1-is (w.ensures.ok so.left so.stands))
-          (sym c.is_over.ensures ∙ c.if-is_over.false));
+          (sym c.is_over.ensures.value ∙ c.if-is_over.false));
     }
 
 pub returns-clause-asks : goal.returns-clause-asks

@@ -10,6 +10,12 @@ returns-in-Asked-clause-ok c = λ s x.
     let same : c.in-Asked.used ≡ c.min.result = omega (arith, c.min.ensures, h.0) in
     subst (λ (n : ℕ). IsStep s c.args.piece.now c.read_head.new.self n (Some c.in-Asked.ask)) same h
 
+pub returns-in-Begun-clause-ok : goal.returns-in-Begun-clause-ok
+returns-in-Begun-clause-ok c =
+    ok-map c.read_rest.result
+    (λ r h s x. let b = c.in-Begun.ensures s (heading-stands c.args.self.now s c.in-Heading.is x) c.in-Heading.is in h s b.0 b.1)
+    c.read_rest.ensures.ok
+
 pub returns-in-Begun-clause-err : goal.returns-in-Begun-clause-err
 returns-in-Begun-clause-err c =
     OnErr-map c.read_rest.result
