@@ -3,3 +3,4 @@ pub mod FieldLemmas
 pub mod FaultLemmas
 pub mod LineLemmas
 pub mod TextLemmas
+pub mod KeepLemmas

@@ -1,3 +1,4 @@
+pub mod Pushed
 pub mod Lines
 pub mod LineFaults
 pub mod Replies

@@ -151,7 +151,10 @@ text_of_cause (refusal.WrongRemit m) = 32 ∷ text_of_month m
 text_of_cause (refusal.AdjustmentsFull n) = 32 ∷ text_of_number n
 text_of_cause (refusal.ClosedMonth m) = 32 ∷ text_of_month m
 
+-- the code and the name of a refusal
+abbrev pub text_of_named : Refusal → List ℕ
+text_of_named r = codes "no " ++ text_of_number (code_of r) ++ codes " " ++ name_of_refusal r
+
 -- the reply to a request that is refused
 unfoldable pub text_of_refusal : Refusal → List ℕ
-text_of_refusal r =
-    ended (codes "no " ++ text_of_number (code_of r) ++ codes " " ++ name_of_refusal r ++ text_of_cause r)
+text_of_refusal r = ended (text_of_named r ++ text_of_cause r)

@@ -10,9 +10,15 @@ mod values;
 mod words;
 mod writing;
 
+pub use pushing::{
+    push_amount, push_amount_field, push_balance, push_bytes, push_number, push_number_field,
+    push_signed_field, push_wide, undone,
+};
 pub use reading::{LONGEST_LINE, LineFault, read_line};
 pub use refusals::{push_refusal, write_refusal};
-pub use replies::{push_bad, push_full, push_reply, write_bad, write_full, write_reply};
+pub use replies::{
+    push_bad, push_found, push_full, push_parts, push_reply, write_bad, write_full, write_reply,
+};
 pub use writing::{push_line, write_line};
 
 #[cfg(test)]

@@ -1,10 +1,11 @@
 //! The texts of refusals.
 
-ghost use Rattle.std.specs.Prelude.{◌≡◌, ◌++◌, ◌∷◌, IfOk, OnOk};
+ghost use Rattle.std.specs.Prelude.{◌≡◌, ◌++◌, ◌∷◌, IfOk, OnErr, OnOk};
 ghost use Rattle.svc_base.specs.Text.{text_of_number, text_of_amount};
-ghost use Rattle.serv_line.specs.Refusals.{code_of, name_of_refusal, text_of_cause, text_of_closed, text_of_limit, text_of_line_why, text_of_plan_fault, text_of_plan_part, text_of_refusal, text_of_term_fault};
+ghost use Rattle.serv_line.specs.Pushed.{Keeps};
+ghost use Rattle.serv_line.specs.Refusals.{code_of, name_of_refusal, text_of_cause, text_of_closed, text_of_limit, text_of_line_why, text_of_named, text_of_plan_fault, text_of_plan_part, text_of_refusal, text_of_term_fault};
 
-use crate::pushing::{push_amount, push_bytes, push_number};
+use crate::pushing::{push_amount, push_bytes, push_number, undone};
 use std::alloc::Global;
 use svc_base::{Cents, Month, OutOfMemory, write_day, write_month};
 use svc_types::{Limit, LineWhy, PlanFault, PlanPart, Refusal, TermFault};
@@ -15,21 +16,41 @@ pub fn write_refusal(alloc: Global, refusal: &Refusal) -> Result<Vec<u8>, OutOfM
     ensures { IfOk result (λ text. text.items ≡ text_of_refusal refusal.now) }
 {
     let mut out = Vec::new(alloc);
-    push_refusal(&mut out, refusal)?;
+    append_refusal(&mut out, refusal)?;
     Ok(out)
 }
 
-/// Appends the reply to a request that is refused.
-#[tactic(auto, unfolding(crate::specs::Refusals::text_of_refusal))]
+/// Appends the reply to a request that is refused. Where memory is short `out` is as it was.
 pub fn push_refusal(out: &mut Vec<u8>, refusal: &Refusal) -> Result<(), OutOfMemory>
-    ensures { OnOk result (out.new.items ≡ out.old.items ++ text_of_refusal refusal.now) }
+    ensures pushed { OnOk result (out.new.items ≡ out.old.items ++ text_of_refusal refusal.now) }
+    ensures kept { OnErr result (out.new.items ≡ out.old.items) }
+{
+    let start = out.len();
+    let pushed = append_refusal(out, refusal);
+    undone(out, start, pushed)
+}
+
+/// Appends the reply to a request that is refused.
+#[tactic(auto, using(crate::proofs::KeepLemmas::keeps), unfolding(crate::specs::Refusals::text_of_refusal))]
+fn append_refusal(out: &mut Vec<u8>, refusal: &Refusal) -> Result<(), OutOfMemory>
+    ensures pushed { OnOk result (out.new.items ≡ out.old.items ++ text_of_refusal refusal.now) }
+    ensures kept { OnErr result (Keeps out.old.items out.new.items) }
+{
+    push_named(out, refusal)?;
+    push_cause(out, refusal)?;
+    push_bytes(out, b"\n")
+}
+
+/// Appends the code and the name of a refusal.
+#[tactic(auto, using(crate::proofs::KeepLemmas::keeps))]
+fn push_named(out: &mut Vec<u8>, refusal: &Refusal) -> Result<(), OutOfMemory>
+    ensures pushed { OnOk result (out.new.items ≡ out.old.items ++ text_of_named refusal.now) }
+    ensures kept { OnErr result (Keeps out.old.items out.new.items) }
 {
     push_bytes(out, b"no ")?;
     push_number(out, code(refusal))?;
     push_bytes(out, b" ")?;
-    push_bytes(out, name(refusal))?;
-    push_cause(out, refusal)?;
-    push_bytes(out, b"\n")
+    push_bytes(out, name(refusal))
 }
 
 /// The code of a refusal.
@@ -101,8 +122,10 @@ fn name(refusal: &Refusal) -> &'static [u8]
 }
 
 /// What stands after the name.
+#[tactic(auto, using(crate::proofs::KeepLemmas::keeps))]
 fn push_cause(out: &mut Vec<u8>, refusal: &Refusal) -> Result<(), OutOfMemory>
-    ensures { OnOk result (out.new.items ≡ out.old.items ++ text_of_cause refusal.now) }
+    ensures pushed { OnOk result (out.new.items ≡ out.old.items ++ text_of_cause refusal.now) }
+    ensures kept { OnErr result (Keeps out.old.items out.new.items) }
 {
     match refusal {
         Refusal::KeyReused(number)
@@ -135,32 +158,40 @@ fn push_cause(out: &mut Vec<u8>, refusal: &Refusal) -> Result<(), OutOfMemory>
 }
 
 /// Appends a space and a text.
+#[tactic(auto, using(crate::proofs::KeepLemmas::keeps))]
 fn push_spaced(out: &mut Vec<u8>, text: &[u8]) -> Result<(), OutOfMemory>
-    ensures { OnOk result (out.new.items ≡ out.old.items ++ (32 ∷ text.now)) }
+    ensures pushed { OnOk result (out.new.items ≡ out.old.items ++ (32 ∷ text.now)) }
+    ensures kept { OnErr result (Keeps out.old.items out.new.items) }
 {
     push_bytes(out, b" ")?;
     push_bytes(out, text)
 }
 
 /// Appends a space and a number.
+#[tactic(auto, using(crate::proofs::KeepLemmas::keeps))]
 fn push_spaced_number(out: &mut Vec<u8>, number: u32) -> Result<(), OutOfMemory>
-    ensures { OnOk result (out.new.items ≡ out.old.items ++ (32 ∷ text_of_number number)) }
+    ensures pushed { OnOk result (out.new.items ≡ out.old.items ++ (32 ∷ text_of_number number)) }
+    ensures kept { OnErr result (Keeps out.old.items out.new.items) }
 {
     push_bytes(out, b" ")?;
     push_number(out, number)
 }
 
 /// Appends a space and an amount.
+#[tactic(auto, using(crate::proofs::KeepLemmas::keeps))]
 fn push_spaced_amount(out: &mut Vec<u8>, amount: Cents) -> Result<(), OutOfMemory>
-    ensures { OnOk result (out.new.items ≡ out.old.items ++ (32 ∷ text_of_amount amount)) }
+    ensures pushed { OnOk result (out.new.items ≡ out.old.items ++ (32 ∷ text_of_amount amount)) }
+    ensures kept { OnErr result (Keeps out.old.items out.new.items) }
 {
     push_bytes(out, b" ")?;
     push_amount(out, amount)
 }
 
 /// Appends a space and the last closed month, where there is one.
+#[tactic(auto, using(crate::proofs::KeepLemmas::keeps))]
 fn push_closed(out: &mut Vec<u8>, closed: &Option<Month>) -> Result<(), OutOfMemory>
-    ensures { OnOk result (out.new.items ≡ out.old.items ++ (32 ∷ text_of_closed closed.now)) }
+    ensures pushed { OnOk result (out.new.items ≡ out.old.items ++ (32 ∷ text_of_closed closed.now)) }
+    ensures kept { OnErr result (Keeps out.old.items out.new.items) }
 {
     match closed {
         None => push_spaced(out, b"-"),
@@ -223,8 +254,10 @@ fn plan_part_text(part: PlanPart) -> &'static [u8]
 }
 
 /// Appends a space, and what is wrong with a plan, with its code.
+#[tactic(auto, using(crate::proofs::KeepLemmas::keeps))]
 fn push_plan_fault(out: &mut Vec<u8>, fault: &PlanFault) -> Result<(), OutOfMemory>
-    ensures { OnOk result (out.new.items ≡ out.old.items ++ (32 ∷ text_of_plan_fault fault.now)) }
+    ensures pushed { OnOk result (out.new.items ≡ out.old.items ++ (32 ∷ text_of_plan_fault fault.now)) }
+    ensures kept { OnErr result (Keeps out.old.items out.new.items) }
 {
     match fault {
         PlanFault::MustRefund => push_bytes(out, b" 1 MustRefund"),
@@ -238,16 +271,20 @@ fn push_plan_fault(out: &mut Vec<u8>, fault: &PlanFault) -> Result<(), OutOfMemo
 }
 
 /// Appends a name and a number of months.
+#[tactic(auto, using(crate::proofs::KeepLemmas::keeps))]
 fn push_months(out: &mut Vec<u8>, name: &[u8], months: u32) -> Result<(), OutOfMemory>
-    ensures { OnOk result (out.new.items ≡ out.old.items ++ (name.now ++ text_of_number months)) }
+    ensures pushed { OnOk result (out.new.items ≡ out.old.items ++ (name.now ++ text_of_number months)) }
+    ensures kept { OnErr result (Keeps out.old.items out.new.items) }
 {
     push_bytes(out, name)?;
     push_number(out, months)
 }
 
 /// Appends a name and a part of an analysis.
+#[tactic(auto, using(crate::proofs::KeepLemmas::keeps))]
 fn push_part(out: &mut Vec<u8>, name: &[u8], part: PlanPart) -> Result<(), OutOfMemory>
-    ensures { OnOk result (out.new.items ≡ out.old.items ++ (name.now ++ text_of_plan_part part)) }
+    ensures pushed { OnOk result (out.new.items ≡ out.old.items ++ (name.now ++ text_of_plan_part part)) }
+    ensures kept { OnErr result (Keeps out.old.items out.new.items) }
 {
     push_bytes(out, name)?;
     push_bytes(out, plan_part_text(part))

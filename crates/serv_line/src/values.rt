@@ -1,9 +1,10 @@
 //! Writing the values of fields.
 
-ghost use Rattle.std.specs.Prelude.{◌≡◌, ◌++◌, ◌∷◌, OnOk, codes};
+ghost use Rattle.std.specs.Prelude.{◌≡◌, ◌++◌, ◌∷◌, OnErr, OnOk, codes};
 ghost use Rattle.svc_base.specs.Text.{text_of_number};
 ghost use Rattle.svc_types.specs.Words.{text_of_designation, text_of_kind, text_of_part, text_of_surplus, text_of_type};
 ghost use Rattle.svc_forms.specs.Values.{text_of_value};
+ghost use Rattle.serv_line.specs.Pushed.{Keeps};
 ghost use Rattle.serv_line.specs.Lines.{text_of_values};
 
 use crate::pushing::{push_amount, push_bytes, push_number};
@@ -12,8 +13,10 @@ use svc_forms::Value;
 use svc_types::{Designation, LineKind, PartPlan, RemitType, SurplusPlan};
 
 /// Appends values, a space before each.
+#[tactic(auto, using(crate::proofs::KeepLemmas::keeps))]
 pub(crate) fn push_values(out: &mut Vec<u8>, values: &[Value]) -> Result<(), OutOfMemory>
-    ensures { OnOk result (out.new.items ≡ out.old.items ++ text_of_values values.now) }
+    ensures pushed { OnOk result (out.new.items ≡ out.old.items ++ text_of_values values.now) }
+    ensures kept { OnErr result (Keeps out.old.items out.new.items) }
 {
     for value in values {
         push_spaced_value(out, value)?;
@@ -22,16 +25,20 @@ pub(crate) fn push_values(out: &mut Vec<u8>, values: &[Value]) -> Result<(), Out
 }
 
 /// Appends a space and a value.
+#[tactic(auto, using(crate::proofs::KeepLemmas::keeps))]
 fn push_spaced_value(out: &mut Vec<u8>, value: &Value) -> Result<(), OutOfMemory>
-    ensures { OnOk result (out.new.items ≡ out.old.items ++ (32 ∷ text_of_value value.now)) }
+    ensures pushed { OnOk result (out.new.items ≡ out.old.items ++ (32 ∷ text_of_value value.now)) }
+    ensures kept { OnErr result (Keeps out.old.items out.new.items) }
 {
     push_bytes(out, b" ")?;
     push_value(out, value)
 }
 
 /// Appends a value.
+#[tactic(auto, using(crate::proofs::KeepLemmas::keeps))]
 fn push_value(out: &mut Vec<u8>, value: &Value) -> Result<(), OutOfMemory>
-    ensures { OnOk result (out.new.items ≡ out.old.items ++ text_of_value value.now) }
+    ensures pushed { OnOk result (out.new.items ≡ out.old.items ++ text_of_value value.now) }
+    ensures kept { OnErr result (Keeps out.old.items out.new.items) }
 {
     match value {
         Value::Number(number) => push_number(out, *number),
@@ -82,8 +89,10 @@ fn surplus_text(plan: SurplusPlan) -> &'static [u8]
 }
 
 /// Appends what is done with a shortage or a deficiency.
+#[tactic(auto, using(crate::proofs::KeepLemmas::keeps))]
 fn push_part(out: &mut Vec<u8>, plan: PartPlan) -> Result<(), OutOfMemory>
-    ensures { OnOk result (out.new.items ≡ out.old.items ++ text_of_part plan) }
+    ensures pushed { OnOk result (out.new.items ≡ out.old.items ++ text_of_part plan) }
+    ensures kept { OnErr result (Keeps out.old.items out.new.items) }
 {
     match plan {
         PartPlan::Unsaid => push_bytes(out, b"-"),
@@ -94,8 +103,10 @@ fn push_part(out: &mut Vec<u8>, plan: PartPlan) -> Result<(), OutOfMemory>
 }
 
 /// Appends that a part is spread over so many months.
+#[tactic(auto, using(crate::proofs::KeepLemmas::keeps))]
 fn push_spread(out: &mut Vec<u8>, months: u32) -> Result<(), OutOfMemory>
-    ensures { OnOk result (out.new.items ≡ out.old.items ++ (codes "spread:" ++ text_of_number months)) }
+    ensures pushed { OnOk result (out.new.items ≡ out.old.items ++ (codes "spread:" ++ text_of_number months)) }
+    ensures kept { OnErr result (Keeps out.old.items out.new.items) }
 {
     push_bytes(out, b"spread:")?;
     push_number(out, months)

@@ -1,11 +1,12 @@
 //! Writing the line of a request.
 
-ghost use Rattle.std.specs.Prelude.{◌≡◌, ◌++◌, ◌∷◌, IfOk, OnOk};
+ghost use Rattle.std.specs.Prelude.{◌≡◌, ◌++◌, ◌∷◌, IfOk, OnErr, OnOk};
 ghost use Rattle.svc_forms.specs.declared.value.Value.TheVariants as value;
 ghost use Rattle.svc_forms.specs.Forms.{values_of, values_of_designation, values_of_query, values_of_terms};
+ghost use Rattle.serv_line.specs.Pushed.{Keeps};
 ghost use Rattle.serv_line.specs.Lines.{line_of, text_of_values};
 
-use crate::pushing::push_bytes;
+use crate::pushing::{push_bytes, undone};
 use crate::values::push_values;
 use std::alloc::Global;
 use svc_base::{Cents, Day, OutOfMemory};
@@ -17,14 +18,25 @@ pub fn write_line(alloc: Global, request: &Request) -> Result<Vec<u8>, OutOfMemo
     ensures { IfOk result (λ line. line.items ≡ line_of request.now) }
 {
     let mut out = Vec::new(alloc);
-    push_line(&mut out, request)?;
+    append_line(&mut out, request)?;
     Ok(out)
 }
 
-/// Appends the line of a request, without a line feed.
-#[tactic(auto, using(crate::proofs::TextLemmas::joined_texts), unfolding(crate::specs::Lines::line_of))]
+/// Appends the line of a request, without a line feed. Where memory is short `out` is as it was.
 pub fn push_line(out: &mut Vec<u8>, request: &Request) -> Result<(), OutOfMemory>
-    ensures { OnOk result (out.new.items ≡ out.old.items ++ line_of request.now) }
+    ensures pushed { OnOk result (out.new.items ≡ out.old.items ++ line_of request.now) }
+    ensures kept { OnErr result (out.new.items ≡ out.old.items) }
+{
+    let start = out.len();
+    let pushed = append_line(out, request);
+    undone(out, start, pushed)
+}
+
+/// Appends the line of a request, without a line feed.
+#[tactic(auto, using(crate::proofs::KeepLemmas::keeps, crate::proofs::TextLemmas::joined_texts), unfolding(crate::specs::Lines::line_of))]
+fn append_line(out: &mut Vec<u8>, request: &Request) -> Result<(), OutOfMemory>
+    ensures pushed { OnOk result (out.new.items ≡ out.old.items ++ line_of request.now) }
+    ensures kept { OnErr result (Keeps out.old.items out.new.items) }
 {
     match request {
         Request::Do(key, command) => {
@@ -39,8 +51,10 @@ pub fn push_line(out: &mut Vec<u8>, request: &Request) -> Result<(), OutOfMemory
 }
 
 /// Appends what a line begins with, a space and its form's word.
+#[tactic(auto, using(crate::proofs::KeepLemmas::keeps))]
 fn push_opening(out: &mut Vec<u8>, first: &[u8], word: &[u8]) -> Result<(), OutOfMemory>
-    ensures { OnOk result (out.new.items ≡ out.old.items ++ (first.now ++ (32 ∷ word.now))) }
+    ensures pushed { OnOk result (out.new.items ≡ out.old.items ++ (first.now ++ (32 ∷ word.now))) }
+    ensures kept { OnErr result (Keeps out.old.items out.new.items) }
 {
     push_bytes(out, first)?;
     push_bytes(out, b" ")?;
@@ -48,8 +62,10 @@ fn push_opening(out: &mut Vec<u8>, first: &[u8], word: &[u8]) -> Result<(), OutO
 }
 
 /// Appends the values of a command.
+#[tactic(auto, using(crate::proofs::KeepLemmas::keeps))]
 fn push_command(out: &mut Vec<u8>, command: &Command) -> Result<(), OutOfMemory>
-    ensures { OnOk result (out.new.items ≡ out.old.items ++ text_of_values (values_of command.now)) }
+    ensures pushed { OnOk result (out.new.items ≡ out.old.items ++ text_of_values (values_of command.now)) }
+    ensures kept { OnErr result (Keeps out.old.items out.new.items) }
 {
     match command {
         Command::Day(day) => push_values(out, &[Value::Day(*day)]),
@@ -135,8 +151,10 @@ fn push_command(out: &mut Vec<u8>, command: &Command) -> Result<(), OutOfMemory>
 }
 
 /// Appends the values of a loan that is taken on.
+#[tactic(auto, using(crate::proofs::KeepLemmas::keeps))]
 fn push_terms(out: &mut Vec<u8>, loan: u32, terms: &Terms) -> Result<(), OutOfMemory>
-    ensures { OnOk result (out.new.items ≡ out.old.items ++ text_of_values (value.Number loan ∷ values_of_terms terms.now)) }
+    ensures pushed { OnOk result (out.new.items ≡ out.old.items ++ text_of_values (value.Number loan ∷ values_of_terms terms.now)) }
+    ensures kept { OnErr result (Keeps out.old.items out.new.items) }
 {
     let values = [
         Value::Number(loan),
@@ -157,6 +175,7 @@ fn push_terms(out: &mut Vec<u8>, loan: u32, terms: &Terms) -> Result<(), OutOfMe
 }
 
 /// Appends the values of a payment; a regular one says nothing of what is over.
+#[tactic(auto, using(crate::proofs::KeepLemmas::keeps))]
 fn push_payment(
     out: &mut Vec<u8>,
     loan: u32,
@@ -164,7 +183,8 @@ fn push_payment(
     amount: Cents,
     over: Designation,
 ) -> Result<(), OutOfMemory>
-    ensures { OnOk result (out.new.items ≡ out.old.items ++ text_of_values (value.Number loan ∷ value.Day day ∷ value.Amount amount ∷ values_of_designation over)) }
+    ensures pushed { OnOk result (out.new.items ≡ out.old.items ++ text_of_values (value.Number loan ∷ value.Day day ∷ value.Amount amount ∷ values_of_designation over)) }
+    ensures kept { OnErr result (Keeps out.old.items out.new.items) }
 {
     let (loan, day, amount) = (Value::Number(loan), Value::Day(day), Value::Amount(amount));
     match over {
@@ -174,8 +194,10 @@ fn push_payment(
 }
 
 /// Appends the values of a query.
+#[tactic(auto, using(crate::proofs::KeepLemmas::keeps))]
 fn push_query(out: &mut Vec<u8>, query: &Query) -> Result<(), OutOfMemory>
-    ensures { OnOk result (out.new.items ≡ out.old.items ++ text_of_values (values_of_query query.now)) }
+    ensures pushed { OnOk result (out.new.items ≡ out.old.items ++ text_of_values (values_of_query query.now)) }
+    ensures kept { OnErr result (Keeps out.old.items out.new.items) }
 {
     match query {
         Query::Books(loan) | Query::Escrow(loan) => push_values(out, &[Value::Number(*loan)]),

@@ -1,0 +1,5 @@
+pub mod Texts
+pub mod ReportTexts
+pub mod EscrowText
+pub mod AnswerTexts
+pub mod Columns

@@ -1,0 +1,18 @@
+//! The texts of the answers to queries.
+#![tactic(auto)]
+
+mod accounts;
+mod analyses;
+mod answers;
+mod books;
+mod reports;
+mod totals;
+mod words;
+
+pub use accounts::{custodial, push_custodial};
+pub use analyses::{escrow, push_escrow};
+pub use answers::{push_answer, write_answer};
+pub use reports::{activity, push_activity, push_trial, trial};
+
+#[cfg(test)]
+mod tests;

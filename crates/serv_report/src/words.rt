@@ -1,0 +1,83 @@
+//! What a line begins with, its words with a space before each, and the last line of a text.
+
+ghost use Rattle.std.specs.Prelude.{◌≡◌, ◌++◌, OnErr, OnOk};
+ghost use Rattle.svc_base.specs.Text.{text_of_amount, text_of_number, text_of_signed};
+ghost use Rattle.serv_line.specs.Pushed.{Keeps};
+ghost use Rattle.serv_line.specs.Replies.{number_field};
+ghost use Rattle.serv_report.specs.Texts.{end_line, numbered, spaced};
+
+use serv_line::{push_amount, push_balance, push_bytes, push_number, push_wide};
+use svc_base::{Cents, OutOfMemory};
+
+/// Appends a word.
+#[tactic(auto, using(serv_line::proofs::KeepLemmas::keeps))]
+pub(crate) fn push_word(out: &mut Vec<u8>, word: &[u8]) -> Result<(), OutOfMemory>
+    ensures pushed { OnOk result (out.new.items ≡ out.old.items ++ spaced word.now) }
+    ensures kept { OnErr result (Keeps out.old.items out.new.items) }
+{
+    push_bytes(out, b" ")?;
+    push_bytes(out, word)
+}
+
+/// Appends what a line begins with: its name and a number.
+#[tactic(auto, using(serv_line::proofs::KeepLemmas::keeps))]
+pub(crate) fn push_numbered(out: &mut Vec<u8>, name: &[u8], number: u32) -> Result<(), OutOfMemory>
+    ensures pushed { OnOk result (out.new.items ≡ out.old.items ++ numbered name.now number) }
+    ensures kept { OnErr result (Keeps out.old.items out.new.items) }
+{
+    push_bytes(out, name)?;
+    push_number(out, number)
+}
+
+/// Appends a number.
+#[tactic(auto, using(serv_line::proofs::KeepLemmas::keeps))]
+pub(crate) fn push_number_word(out: &mut Vec<u8>, number: u32) -> Result<(), OutOfMemory>
+    ensures pushed { OnOk result (out.new.items ≡ out.old.items ++ spaced (text_of_number number)) }
+    ensures kept { OnErr result (Keeps out.old.items out.new.items) }
+{
+    push_bytes(out, b" ")?;
+    push_number(out, number)
+}
+
+/// Appends an amount, which is not below zero.
+#[tactic(auto, using(serv_line::proofs::KeepLemmas::keeps))]
+pub(crate) fn push_amount_word(out: &mut Vec<u8>, amount: Cents) -> Result<(), OutOfMemory>
+    ensures pushed { OnOk result (out.new.items ≡ out.old.items ++ spaced (text_of_amount amount)) }
+    ensures kept { OnErr result (Keeps out.old.items out.new.items) }
+{
+    push_bytes(out, b" ")?;
+    push_amount(out, amount)
+}
+
+/// Appends an amount that may be below zero.
+#[tactic(auto, using(serv_line::proofs::KeepLemmas::keeps))]
+pub(crate) fn push_signed_word(out: &mut Vec<u8>, amount: Cents) -> Result<(), OutOfMemory>
+    ensures pushed { OnOk result (out.new.items ≡ out.old.items ++ spaced (text_of_signed amount)) }
+    ensures kept { OnErr result (Keeps out.old.items out.new.items) }
+{
+    push_bytes(out, b" ")?;
+    push_balance(out, amount)
+}
+
+/// Appends a name and a count.
+#[tactic(auto, using(serv_line::proofs::KeepLemmas::keeps), unfolding(serv_line::specs::Replies::number_field))]
+pub(crate) fn push_count_field(
+    out: &mut Vec<u8>,
+    name: &[u8],
+    count: usize,
+) -> Result<(), OutOfMemory>
+    ensures pushed { OnOk result (out.new.items ≡ out.old.items ++ number_field name.now count) }
+    ensures kept { OnErr result (Keeps out.old.items out.new.items) }
+{
+    push_word(out, name)?;
+    push_bytes(out, b" ")?;
+    push_wide(out, count as u64)
+}
+
+/// Appends the last line of a text.
+pub(crate) fn push_end(out: &mut Vec<u8>) -> Result<(), OutOfMemory>
+    ensures pushed { OnOk result (out.new.items ≡ out.old.items ++ end_line) }
+    ensures kept { OnErr result (out.new.items ≡ out.old.items) }
+{
+    push_bytes(out, b"end\n")
+}
