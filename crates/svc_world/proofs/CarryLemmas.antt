@@ -123,21 +123,21 @@ pub record IsCarryWithin (t : Terms) (c : Carry) : Type 0 where
   pub scheduled : IsUpTo 40_960_000_000_000 c.scheduled
   pub passed : IsUpTo 40_960_000_000_000 c.passed
 
-passed_within : (kind : RemitType) (x y : ℤ) → IsUpTo 40_960_000_000_000 x → IsUpTo 40_960_000_000_000 y → IsUpTo 40_960_000_000_000 (passed_by kind x y)
-passed_within AA x y h k = h
-passed_within SA x y h k = k
-passed_within SS x y h k = k
+passed_within : (m : ℕ) (kind : RemitType) (x y : ℤ) → IsUpTo m x → IsUpTo m y → IsUpTo m (passed_by kind x y)
+passed_within m AA x y h k = h
+passed_within m SA x y h k = k
+passed_within m SS x y h k = k
 
-carried_passed : (a : Account) (types : List TypeChange) (n : ℕ) → IsUpTo 40_960_000_000_000 (carried_to a types n).actual → IsUpTo 40_960_000_000_000 (carried_to a types n).scheduled → IsUpTo 40_960_000_000_000 (carried_to a types n).passed
-carried_passed a types zero h k = rw (carried_none a types) (record { low = omega (arith, ints); high = omega (arith, ints) })
-carried_passed a types (suc n) h k =
+carried_passed : (m : ℕ) (a : Account) (types : List TypeChange) (n : ℕ) → IsUpTo m (carried_to a types n).actual → IsUpTo m (carried_to a types n).scheduled → IsUpTo m (carried_to a types n).passed
+carried_passed m a types zero h k = rw (carried_none a types) (record { low = omega (arith, ints); high = omega (arith, ints) })
+carried_passed m a types (suc n) h k =
     let t = a.terms in
     let c = carried_to a types n in
-    let m = month_of_loan a types (month_of a.terms.boarded + n) in
+    let l = month_of_loan a types (month_of a.terms.boarded + n) in
     let more = carried_more a types n in
     let h' = rw more at h in
     let k' = rw more at k in
-    rw (more, passed_more t c m) (passed_within m.kind (carried_after t c m).actual (carried_after t c m).scheduled h' k')
+    rw (more, passed_more t c l) (passed_within m l.kind (carried_after t c l).actual (carried_after t c l).scheduled h' k')
 
 -- up to 2,000 months
 pub carry_within : (a : Account) (types : List TypeChange) (n : ℕ) → n ≤ 2_000 → IsLimited a → IsCarryWithin a.terms (carried_to a types n)
@@ -155,7 +155,7 @@ carry_within a types n few h =
     let s2 = carried-scheduled_high t months h.account.terms all in
     let actual : IsUpTo 40_960_000_000_000 (carried_to a types n).actual = record { low = omega (arith, ints, kept', l1); high = omega (arith, ints, kept', l2) } in
     let scheduled : IsUpTo 40_960_000_000_000 (carried_to a types n).scheduled = record { low = s1; high = omega (arith, ints, s2, count) } in
-    record { within = within; actual = actual; scheduled = scheduled; passed = carried_passed a types n actual scheduled }
+    record { within = within; actual = actual; scheduled = scheduled; passed = carried_passed 40_960_000_000_000 a types n actual scheduled }
 
 -- so the three sums lie within those that a month's due asks
 pub carry_sums : (t : Terms) (c : Carry) → IsCarryWithin t c → HasSums c
@@ -164,6 +164,53 @@ carry_sums t c h =
     let s1 = h.scheduled.low in let s2 = h.scheduled.high in
     let p1 = h.passed.low in let p2 = h.passed.high in
     record { actual_low = omega (arith, ints, a1); actual_high = omega (arith, ints, a2); scheduled_low = omega (arith, ints, s1); scheduled_high = omega (arith, ints, s2); passed_low = omega (arith, ints, p1); passed_high = omega (arith, ints, p2) }
+
+-- of any account interest less fee lies within the limits of its books
+kept_account : (a : Account) (p : ℕ) → IsAccount a → IsUpTo 1_000_000_000_000_000_000 (kept (books_at_end a p))
+kept_account a p h =
+    elim (nat_lt p (month_of a.terms.boarded)) as (λ v. nat_lt p (month_of a.terms.boarded) ≡ v → IsUpTo 1_000_000_000_000_000_000 (kept (books_at_end a p))) [
+      | true ↦ λ e.
+          let first = before_boarded a p (grind (arith, nat_tests)) in
+          let none = kept_start a.terms in
+          rw first (record { low = omega (arith, ints, none); high = omega (arith, ints, none) })
+      | false ↦ λ e.
+          let last = from_boarded a p (grind (arith, nat_tests)) in
+          let d = end_day a p in
+          let parts = (account_parts a d h).fee in
+          let books = account_books a d h in
+          let fee = books.signs.fee in
+          let most = books.within.interest in
+          rw last (record { low = omega (arith, ints, parts); high = omega (arith, ints, most, fee) })
+    ] refl
+
+-- what is carried of any account lies within what a month's due asks
+pub record IsCarryOf (a : Account) (c : Carry) : Type 0 where
+  pub within : IsWithin a.terms c
+  pub sums : HasSums c
+
+pub account_carry : (a : Account) (types : List TypeChange) (n : ℕ) → n ≤ 2_000 → IsAccount a → IsCarryOf a (carried_to a types n)
+unfolding carried_to
+account_carry a types n few h =
+    let t = a.terms in
+    let months = first_months a types n in
+    let all = months_within a types n h in
+    let count = months_count a types n in
+    let within = carried-within t months h.terms all in
+    let kept' = carried_kept a types n h in
+    let limit = kept_account a (month_of t.boarded + n - 1) h in
+    let l1 = limit.low in let l2 = limit.high in
+    let s1 = carried-scheduled_low t months h.terms in
+    let s2 = carried-scheduled_high t months h.terms all in
+    let actual : IsUpTo 1_000_000_000_000_000_000 (carried_to a types n).actual = record { low = omega (arith, ints, kept', l1); high = omega (arith, ints, kept', l2) } in
+    let scheduled : IsUpTo 1_000_000_000_000_000_000 (carried_to a types n).scheduled = record { low = s1; high = omega (arith, ints, s2, count) } in
+    let passed = carried_passed 1_000_000_000_000_000_000 a types n actual scheduled in
+    let a1 = actual.low in let a2 = actual.high in
+    let p1 = passed.low in let p2 = passed.high in
+    let c1 = scheduled.low in let c2 = scheduled.high in
+    record {
+      within = within;
+      sums = record { actual_low = omega (arith, ints, a1); actual_high = omega (arith, ints, a2); scheduled_low = omega (arith, ints, c1); scheduled_high = omega (arith, ints, c2); passed_low = omega (arith, ints, p1); passed_high = omega (arith, ints, p2) };
+    }
 
 -- at the end of a month that the calendar has
 pub carry_at_within : (a : Account) (types : List TypeChange) (p : ℕ) → p < 25_692 → IsLimited a → IsCarryWithin a.terms (carried_at a types p)

@@ -31,10 +31,10 @@ begun_limited t d h = record {
   covered = omega (arith, ints);
 }
 
-received_posted : (a : Account) (e : Entry) → received (posted e a) ≡ received a +ℤ brought e.act
+pub received_posted : (a : Account) (e : Entry) → received (posted e a) ≡ received a +ℤ brought e.act
 received_posted a e = total_by-push (λ (x : Entry). brought x.act) a.entries e
 
-refunded_posted : (a : Account) (e : Entry) → IsAccount a → MayPost a e → refunded (posted e a) ≡ refunded a +ℤ refunded_by e.act
+pub refunded_posted : (a : Account) (e : Entry) → IsAccount a → MayPost a e → refunded (posted e a) ≡ refunded a +ℤ refunded_by e.act
 refunded_posted a e h may =
     let moved = ap (sum_over refunded_by) (live_after_post a e h may) in
     omega (arith, ints, moved, sum_placed refunded_by e (live_of a))

@@ -1,0 +1,3 @@
+pub mod MovedLemmas
+pub mod ClosedLemmas
+pub mod LoanLemmas

@@ -1,0 +1,40 @@
+-- All loans that are kept, by rising number.
+use Rattle.std.specs.Prelude.{◌≡◌, ℕ, ◌<◌, ◌==◌, nat_lt, Bool, List, [], ◌∷◌, map, Option, if◌then◌else◌, MatchOption, ℤ}
+use Rattle.std.specs.List.{AllPairs, find}
+use Rattle.svc_world.specs.Held.{Held}
+use Rattle.svc_loan.specs.Kept.{KeptLoan}
+
+-- loans, and for how many more there is room
+pub record KeptLoans : Type 0 where
+  pub loans : List KeptLoan
+  pub room : ℕ
+
+-- what is held of each, how many months of each are closed, and what was remitted for each
+abbrev pub held_in : List KeptLoan → List Held
+held_in ks = map (λ (k : KeptLoan). k.held) ks
+
+abbrev pub closed_in : List KeptLoan → List ℕ
+closed_in ks = map (λ (k : KeptLoan). k.closed) ks
+
+abbrev pub remitted_in : List KeptLoan → List ℤ
+remitted_in ks = map (λ (k : KeptLoan). k.remitted) ks
+
+-- the numbers of loans rise
+abbrev pub Rise : List KeptLoan → Type 0
+Rise ks = AllPairs (λ (j k : KeptLoan). j.held.id < k.held.id) ks
+
+abbrev pub is_numbered : ℕ → KeptLoan → Bool
+is_numbered id k = k.held.id == id
+
+-- the loan with a number
+abbrev pub find_kept : ℕ → List KeptLoan → Option KeptLoan
+find_kept id ks = find (is_numbered id) ks
+
+-- the loan with a number is there, and something holds of it
+abbrev pub OfLoan : ℕ → List KeptLoan → (KeptLoan → Type 0) → Type 0
+OfLoan id ks P = MatchOption (find_kept id ks) ⊥ P
+
+-- loans by rising number, with one more
+abbrev pub with_kept : KeptLoan → List KeptLoan → List KeptLoan
+with_kept k [] = k ∷ []
+with_kept k (j ∷ js) = if nat_lt k.held.id j.held.id then k ∷ j ∷ js else j ∷ with_kept k js
