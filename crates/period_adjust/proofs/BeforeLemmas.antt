@@ -1,21 +1,15 @@
 -- Lists that rise, and dues before a change, by recursion.
-use Rattle.std.proofs.Common.{◌≡◌, ℕ, suc, ◌<◌, List, [], ◌∷◌, map, arith}
+use Rattle.std.proofs.Common.{◌≡◌, ℕ, ◌<◌, List, [], ◌∷◌, map}
 use Rattle.std.specs.Prelude.{⊤}
 use Rattle.std.specs.List.{All, AllPairs}
 use Rattle.std.proofs.lemmas.List.Elements.{All-head, All-tail}
+use Rattle.svc_types.proofs.OrderLemmas.{pairs_head, pairs_tail}
 use Rattle.remit_types.specs.declared.dues.MonthDue.{MonthDue}
 use Rattle.period_adjust.specs.declared.report_line.ReportLine.{ReportLine}
 use Rattle.period_adjust.specs.Sealed.{Reporting}
 use Rattle.period_adjust.specs.Sums.{Interest, Principal}
 use Rattle.period_adjust.specs.Totals.{total}
 use Rattle.period_adjust.specs.Conditions.{IsDueSoFar}
-
--- what holds between the first and each other
-pub pairs_head : {A : Type 0} (R : A → A → Type 0) (x : A) (xs : List A) → AllPairs R (x ∷ xs) → All (R x) xs
-pairs_head R x xs h = λ k d l. h 0 (suc k) d (omega arith) (omega arith)
-
-pub pairs_tail : {A : Type 0} (R : A → A → Type 0) (x : A) (xs : List A) → AllPairs R (x ∷ xs) → AllPairs R xs
-pairs_tail R x xs h = λ i j d l m. h (suc i) (suc j) d (omega arith) (omega arith)
 
 -- the months rise, and are above that one
 abbrev pub IsRising : ℕ → List MonthDue → Type 0

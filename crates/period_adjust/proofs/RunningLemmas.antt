@@ -17,7 +17,7 @@ use Rattle.period_adjust.specs.declared.loan_sums.LoanSums.{LoanSums}
 use Rattle.period_adjust.specs.Sums.{DuePart, Interest, Principal, part_of_adjustment, share}
 use Rattle.period_adjust.specs.Pending.{part_of_running, running, IsRisingByLoan, AreRunning, SumsFit}
 use Rattle.period_adjust.specs.Places.{IsPlaceOf, IsPlaceFor, IsSumWith}
-use Rattle.period_adjust.proofs.BeforeLemmas.{pairs_head, pairs_tail}
+use Rattle.svc_types.proofs.OrderLemmas.{pairs_head, pairs_tail}
 
 -- each one's loan is above that of the one before
 abbrev pub sums_by_loan : LoanSums → LoanSums → Type 0

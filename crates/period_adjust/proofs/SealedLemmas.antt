@@ -20,7 +20,8 @@ use Rattle.period_adjust.specs.Conditions.{IsAmount, IsSmallDue, IsSmallLine, Is
 use Rattle.period_adjust.specs.Kept.{month_after, IsBefore, AreSealedTo, AreSealed}
 use Rattle.svc_base.proofs.SumLemmas.{total_by-zero}
 use Rattle.period_adjust.proofs.AmountLemmas.{amount_same, amounts-cons, amounts-append}
-use Rattle.period_adjust.proofs.BeforeLemmas.{pairs_head, pairs_tail, AreBefore, by_month, by_loan, Rises-from_pairs, AreBefore-from_all}
+use Rattle.svc_types.proofs.OrderLemmas.{pairs_head, pairs_tail}
+use Rattle.period_adjust.proofs.BeforeLemmas.{AreBefore, by_month, by_loan, Rises-from_pairs, AreBefore-from_all}
 use Rattle.period_adjust.proofs.AddsUp.{change_adds_up, close_adds_up, before_is}
 use Rattle.period_adjust.proofs.MonthsLemmas.{adjusted_other, months_total, months_total-all, months_total-bound, IsDifference, IsWithinMonths, IsWithinMonths-fits}
 use Rattle.period_adjust.proofs.KeptLemmas.{last_month-push, consecutive-push}

@@ -12,7 +12,8 @@ use Rattle.period_adjust.specs.Sealed.{Reporting}
 use Rattle.period_adjust.specs.Sums.{DuePart, Interest, Principal, part_of_adjustment, share, line_with, report_of}
 use Rattle.period_adjust.specs.Totals.{summed, SendsItsSums, Call, Change, Close, after, after_all}
 use Rattle.period_adjust.specs.Conditions.{AreDues, MayCall, MayCallAll}
-use Rattle.period_adjust.proofs.BeforeLemmas.{pairs_head, pairs_tail, by_loan}
+use Rattle.svc_types.proofs.OrderLemmas.{pairs_head, pairs_tail}
+use Rattle.period_adjust.proofs.BeforeLemmas.{by_loan}
 
 other_sums : (p : DuePart) (loan : ℕ) (ps : List Adjustment) (l : ReportLine) → (l.loan == loan) ≡ false → summed p loan (line_with ps l) ≡ pos 0
 other_sums p loan ps l h = rw h refl

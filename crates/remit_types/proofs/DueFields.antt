@@ -6,7 +6,8 @@ use Rattle.svc_types.specs.declared.terms.Terms.{Terms}
 use Rattle.svc_types.specs.declared.terms.RemitType.{RemitType}
 use Rattle.svc_types.specs.declared.terms.RemitType.TheVariants.{AA, SA, SS}
 use Rattle.svc_types.specs.declared.books.MonthFacts.{MonthFacts}
-use Rattle.remit_types.specs.Schedule.{level_principal, scheduled_principal}
+use Rattle.svc_types.specs.LevelPayment.{level_principal}
+use Rattle.remit_types.specs.Schedule.{scheduled_principal}
 use Rattle.remit_types.specs.Dues.{LoanMonth, scheduled_balance, balance_after, actual_after, scheduled_after, passed_by, carried_after}
 use Rattle.remit_types.specs.declared.dues.MonthDue.{MonthDue}
 use Rattle.remit_types.specs.declared.dues.Carry.{Carry}

@@ -9,7 +9,8 @@ use Rattle.svc_types.specs.declared.terms.RemitType.TheVariants.{AA, SA, SS}
 use Rattle.svc_types.specs.declared.books.MonthFacts.{MonthFacts}
 use Rattle.svc_types.specs.Terms.{IsSound}
 use Rattle.remit_types.specs.declared.dues.Carry.{Carry}
-use Rattle.remit_types.specs.Schedule.{level_principal, scheduled_principal, scheduled_interest}
+use Rattle.svc_types.specs.LevelPayment.{level_principal}
+use Rattle.remit_types.specs.Schedule.{scheduled_principal, scheduled_interest}
 use Rattle.remit_types.specs.Dues.{LoanMonth, scheduled_balance, balance_by, carried, carried_after}
 use Rattle.remit_types.specs.Limits.{IsWithin, AreWithin, AllWithin}
 use Rattle.remit_types.proofs.Interest.{month_interest-low, month_interest-rises, month_interest-rises_with_rate}

@@ -1,12 +1,8 @@
 -- What a loan's schedule asks of the investor's balance in a month, whatever is paid.
 use Rattle.std.specs.Prelude.{ℕ, ◌+◌, nat_lt, nat_le, if◌then◌else◌, ℤ, pos, ◌-ℤ◌}
-use Rattle.std.specs.Int.{int_min}
 use Rattle.svc_base.specs.Money.{month_interest}
 use Rattle.svc_types.specs.declared.terms.Terms.{Terms}
-
--- the part of the level payment that is principal, at most the balance
-unfoldable pub level_principal : Terms → ℤ → ℤ
-level_principal t balance = int_min balance (t.pi -ℤ month_interest balance t.rate)
+use Rattle.svc_types.specs.LevelPayment.{level_principal}
 
 -- the principal that the schedule asks of a balance: nothing before the first due month, all of it
 -- from the last installment on

@@ -3,6 +3,7 @@
 use Rattle.std.specs.Prelude.{ℕ, ◌+◌, ◌*◌, Bool, false, true, List, [], ◌∷◌, ℤ, pos}
 use Rattle.svc_types.specs.declared.terms.Terms.{Terms}
 use Rattle.svc_types.specs.declared.terms.RemitType.{RemitType}
+use Rattle.svc_types.specs.WorkedLoan.{loan_with}
 use Rattle.svc_types.specs.declared.books.MonthFacts.{MonthFacts}
 use Rattle.remit_types.specs.declared.dues.MonthDue.{MonthDue}
 use Rattle.remit_types.specs.Dues.{LoanMonth, loan_month}
@@ -24,24 +25,6 @@ april = 12 * 2024 + 3
 
 abbrev pub may : ℕ
 may = 12 * 2024 + 4
-
--- the loan with another fee or term
-abbrev pub loan_with : RemitType → ℕ → ℕ → Terms
-loan_with kind fee term =
-    record {
-      boarded = 31 * (12 * 2023 + 11) + 14;
-      principal = pos 20_000_000;
-      rate = 6_000;
-      fee = fee;
-      pi = pos 119_910;
-      term = term;
-      first = 12 * 2024 + 1;
-      grace = 15;
-      late = 500;
-      cushion = 2;
-      escrow = pos 0;
-      kind = kind;
-    }
 
 -- the loan as it stands above
 abbrev pub worked_loan : RemitType → Terms

@@ -3,6 +3,7 @@
 ghost use Rattle.std.specs.Prelude.{◌≡◌, ◌⊎◌, pos, neg_ℤ, ◌≤ℤ◌};
 ghost use Rattle.svc_base.specs.Money as interest;
 ghost use Rattle.svc_types.specs.Terms.{IsSound};
+ghost use Rattle.svc_types.specs.LevelPayment as payment;
 ghost use Rattle.remit_types.specs.Dues as dues;
 ghost use Rattle.remit_types.specs.Schedule as schedule;
 ghost use Rattle.remit_types.specs.Limits.{IsWithin, HasSums, AreWithin};
@@ -154,12 +155,12 @@ fn scheduled_principal(terms: &Terms, month: Month, before: Cents) -> Cents
 }
 
 /// The part of the level payment that is principal, at most the balance.
-#[tactic(auto, using(std::proofs::lemmas::Int::ints, std::proofs::lemmas::Int::clamps), unfolding(crate::specs::Schedule::level_principal))]
+#[tactic(auto, using(std::proofs::lemmas::Int::ints, std::proofs::lemmas::Int::clamps), unfolding(svc_types::specs::LevelPayment::level_principal))]
 fn level_principal(terms: &Terms, before: Cents) -> Cents
     requires terms { IsSound terms.now }
     requires low { pos 0 ≤ℤ before }
     requires high { before ≤ℤ terms.now.principal }
-    ensures value { result ≡ schedule.level_principal terms.now before }
+    ensures value { result ≡ payment.level_principal terms.now before }
     ensures low { pos 0 ≤ℤ result }
     ensures high { result ≤ℤ before }
 {

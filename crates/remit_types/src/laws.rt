@@ -6,7 +6,8 @@ ghost use Rattle.svc_types.specs.declared.terms.RemitType.{RemitType as Kind};
 ghost use Rattle.svc_types.specs.Terms.{IsSound};
 ghost use Rattle.remit_types.specs.Dues.{LoanMonth, carried, due_between};
 ghost use Rattle.remit_types.specs.Limits.{IsWithin, AllWithin};
-ghost use Rattle.remit_types.specs.Months.{loan_balance, investor_balance, actual_interest, interest_schedule, interest_passed, due, interest_by, AreOfType};
+ghost use Rattle.remit_types.specs.Months.{loan_balance, investor_balance, actual_interest, interest_schedule};
+ghost use Rattle.remit_types.specs.Months.{interest_passed, due, interest_by, AreOfType};
 
 /// Calls of `due` for one month after another from the boarded month on, each with what the one
 /// before it carried, give the dues that are defined over all the months. It does nothing.

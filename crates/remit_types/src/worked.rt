@@ -3,11 +3,14 @@
 ghost use Rattle.std.specs.Prelude.{◌≡◌, List, [], ◌∷◌, ◌-ℤ◌, pos, neg_ℤ};
 ghost use Rattle.svc_types.specs.declared.terms.RemitType.TheVariants as by;
 ghost use Rattle.remit_types.specs.Months.{due};
-ghost use Rattle.remit_types.specs.Worked.{january, february, march, april, may, loan_with, worked_loan, unpaid, boarding, first_paid, first_curtailed, first_satisfied, still_satisfied, second_paid, to_curtailed, to_february, to_second_paid, to_march, month_due};
+ghost use Rattle.svc_types.specs.WorkedLoan.{loan_with};
+ghost use Rattle.remit_types.specs.Worked.{january, february, march, april, may, worked_loan, unpaid, month_due};
+ghost use Rattle.remit_types.specs.Worked.{boarding, first_paid, first_curtailed, first_satisfied, second_paid};
+ghost use Rattle.remit_types.specs.Worked.{still_satisfied, to_curtailed, to_february, to_second_paid, to_march};
 
 /// What is due of a loan of 200,000.00, whatever is paid, by its schedule: nothing before the
 /// first due month, then interest on the investor's balance.
-#[tactic(auto, unfolding(svc_base::specs::Money::month_interest, crate::specs::Schedule::level_principal, crate::specs::Schedule::scheduled_principal, crate::specs::Schedule::scheduled_interest, crate::specs::Dues::scheduled_balance))]
+#[tactic(auto, unfolding(svc_base::specs::Money::month_interest, svc_types::specs::LevelPayment::level_principal, crate::specs::Schedule::scheduled_principal, crate::specs::Schedule::scheduled_interest, crate::specs::Dues::scheduled_balance))]
 pub fn worked_scheduled_dues()
     ensures before_first_due { due (worked_loan by.SS) (unpaid by.SS january (pos 20_000_000)) []
         ≡ month_due january (pos 0) (pos 0) (pos 20_000_000) }
@@ -43,7 +46,7 @@ pub fn worked_actual_dues()
 /// The same loan's dues where its type changes: two months' interest in the first month of
 /// Scheduled/Actual, less of it once the month before was paid late, all that was not collected
 /// taken back on the way to Actual/Actual, and what a satisfied loan was paid beyond its schedule.
-#[tactic(auto, unfolding(svc_base::specs::Money::month_interest, crate::specs::Schedule::level_principal, crate::specs::Schedule::scheduled_principal, crate::specs::Schedule::scheduled_interest, crate::specs::Dues::scheduled_balance))]
+#[tactic(auto, unfolding(svc_base::specs::Money::month_interest, svc_types::specs::LevelPayment::level_principal, crate::specs::Schedule::scheduled_principal, crate::specs::Schedule::scheduled_interest, crate::specs::Dues::scheduled_balance))]
 pub fn worked_changes_of_type()
     ensures to_scheduled { due (worked_loan by.AA) (unpaid by.SA april (pos 19_980_090)) (to_march by.AA)
         ≡ month_due april (pos 191_474) (pos 0) (pos 19_980_090) }

@@ -1,21 +1,21 @@
 -- A file is read, or is damaged at one place, or is no journal; and what is read of a file that is good for some lines.
-use Rattle.std.proofs.Common.{◌≡◌, ◌≢◌, ◌⊎◌, ℕ, ◌+◌, ◌*◌, ◌<◌, ◌≤◌, List, [], ◌∷◌, ◌++◌, Option, Some, None, length, take, drop, refl, sym, ap, subst, ◌∙◌, inl, inr, ⊎_elim, arith, append_assoc, length-append}
+use Rattle.std.proofs.Common.{◌≡◌, ◌≢◌, ◌⊎◌, ℕ, ◌+◌, ◌*◌, ◌<◌, ◌≤◌, List, [], ◌∷◌, ◌++◌, Option, Some, None, length, drop, refl, sym, ap, subst, ◌∙◌, inl, inr, ⊎_elim, arith, append_assoc, length-append}
 use Rattle.std.proofs.lemmas.List.{drop_at, append-nil}
-use Rattle.serv_disk.specs.Disks.{TornAt, Only, Each, After}
+use Rattle.serv_disk.specs.Disks.{TornAt, Only, After}
 use Rattle.serv_journal.specs.declared.format.Version.{Version}
 use Rattle.serv_journal.specs.declared.format.Version.TheVariants.{One, Two}
 use Rattle.serv_journal.specs.Bytes.{Starts, Between}
 use Rattle.serv_journal.specs.Format.{Form, IsForm, IsFront, IsLine, AreLines, base, body, records, header, two_bytes, four_bytes, head_size}
-use Rattle.serv_journal.specs.States.{JournalState, StandsFor}
+use Rattle.serv_journal.specs.States.{JournalState}
 use Rattle.serv_journal.specs.Disks.{IsWholeIn, IsTornIn, IsWhole, IsGood, IsDurableFor}
-use Rattle.serv_journal.specs.Reading.{lines_in, placed, IsMark, IsRead, IsDamaged, IsBadEnd, IsBadRecord, IsBadLine, HasBadLength, IsNoJournal, IsOpened}
+use Rattle.serv_journal.specs.Reading.{lines_in, IsMark, IsRead, IsDamaged, IsBadEnd, IsBadRecord, IsBadLine, IsNoJournal, IsOpened}
 use Rattle.serv_journal.specs.Finds.{IsFound, HasForm, IsFindFault}
 use Rattle.serv_journal.specs.Outcomes.{IsPassing}
 use Rattle.serv_journal.specs.declared.faults.JournalFault.{JournalFault}
 use Rattle.serv_journal.specs.declared.faults.JournalFault.TheVariants.{NotJournal, Damaged}
 use Rattle.serv_journal.proofs.ByteLemmas.{torn_byte, first_starts, starts_fits}
-use Rattle.serv_journal.proofs.FormatLemmas.{between_good, lines_push, closed_starts, length_of_body}
-use Rattle.serv_journal.proofs.UniqueLemmas.{NoRecord, NoMark, Same, same_found, closed_no_record, not_header, two_same, four_same}
+use Rattle.serv_journal.proofs.FormatLemmas.{between_good, lines_push, closed_starts}
+use Rattle.serv_journal.proofs.UniqueLemmas.{NoRecord, NoMark, Same, same_found, closed_no_record, not_header, two_same}
 use Rattle.serv_journal.proofs.ScanLemmas.{length_lines_in, records_least}
 
 two_long : (bytes : List ℕ) (n : ℕ) (t : List ℕ) → bytes ≡ two_bytes n ++ t → length bytes ≡ 2 + length t

@@ -1,11 +1,11 @@
 -- What a scan says of the whole file.
-use Rattle.std.proofs.Common.{◌≡◌, ◌≢◌, ◌⊎◌, ℕ, ◌+◌, ◌*◌, ◌<◌, ◌≤◌, List, [], ◌∷◌, ◌++◌, length, take, drop, refl, sym, ap, subst, ◌∙◌, inl, inr, arith, append_assoc, length-append, take-add, Bool, true, false, IsTrue}
-use Rattle.std.proofs.lemmas.List.{take-append-drop, length-take-le, drop-drop}
+use Rattle.std.proofs.Common.{◌≡◌, ℕ, ◌+◌, ◌≤◌, List, ◌∷◌, ◌++◌, length, take, drop, refl, sym, ap, subst, ◌∙◌, inl, inr, arith, length-append, take-add, Bool, true, false, IsTrue}
+use Rattle.std.proofs.lemmas.List.{take-append-drop, length-take-le}
 use Rattle.serv_journal.specs.declared.format.Version.{Version}
 use Rattle.serv_journal.specs.declared.format.Version.TheVariants.{One, Two}
 use Rattle.serv_journal.specs.Bytes.{Starts}
-use Rattle.serv_journal.specs.Format.{Form, IsForm, IsFront, IsUpgraded, AreLines, base, records, header}
-use Rattle.serv_journal.specs.Reading.{lines_in, placed, IsRead, IsDamaged, IsBadEnd, IsNoJournal}
+use Rattle.serv_journal.specs.Format.{IsFront, base, records, header}
+use Rattle.serv_journal.specs.Reading.{lines_in, placed, IsDamaged, IsBadEnd}
 use Rattle.serv_journal.specs.Steps.{IsClosedEnd, IsMarkedEnd}
 use Rattle.serv_journal.specs.Scans.{IsPlaced, IsScanned}
 use Rattle.serv_journal.specs.Finds.{IsFound, HasForm}

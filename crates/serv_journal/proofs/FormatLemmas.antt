@@ -1,12 +1,12 @@
 -- The records of a journal, and one more.
-use Rattle.std.proofs.Common.{◌≡◌, ◌≢◌, ◌⊎◌, ℕ, ◌+◌, ◌*◌, ◌<◌, ◌≤◌, List, [], ◌∷◌, ◌++◌, length, zero, suc, refl, sym, ap, subst, ◌∙◌, inl, inr, ⊎_elim, arith, append_assoc, length-append}
+use Rattle.std.proofs.Common.{◌≡◌, ◌≢◌, ◌⊎◌, ℕ, ◌+◌, List, [], ◌∷◌, ◌++◌, length, zero, suc, refl, sym, ap, subst, ◌∙◌, inl, inr, ⊎_elim, arith, append_assoc, length-append}
 use Rattle.std.proofs.lemmas.List.{append-nil}
 use Rattle.serv_journal.specs.declared.format.Version.{Version}
 use Rattle.serv_journal.specs.declared.format.Version.TheVariants.{One, Two}
 use Rattle.serv_journal.specs.Bytes.{Starts, Between, IsOpening}
-use Rattle.serv_journal.specs.Format.{Form, IsLine, AreLines, body, records, base, header, two_bytes, four_bytes, head_size, version_number, IsForm}
+use Rattle.serv_journal.specs.Format.{Form, IsLine, AreLines, body, records, base, two_bytes, four_bytes, head_size, version_number}
 use Rattle.serv_journal.specs.States.{JournalState, StandsFor}
-use Rattle.serv_journal.specs.Disks.{IsWholeIn, IsTornIn, IsGoodIn}
+use Rattle.serv_journal.specs.Disks.{IsWholeIn, IsGoodIn}
 use Rattle.serv_journal.proofs.ByteLemmas.{first_starts}
 
 pub records_push : (version : Version) (number : ℕ) (lines : List (List ℕ)) (line : List ℕ)

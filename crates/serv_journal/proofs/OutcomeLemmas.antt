@@ -1,6 +1,6 @@
 -- Results, and what a disk tells.
-use Rattle.std.proofs.Common.{◌≡◌, ℕ, ◌+◌, ◌≤◌, List, Option, Some, None, length, refl, subst, sym, arith}
-use Rattle.serv_disk.specs.Disks.{Told, Each}
+use Rattle.std.proofs.Common.{◌≡◌, ℕ, List, Option, Some, None, refl, subst}
+use Rattle.serv_disk.specs.Disks.{Told}
 
 pub told_from : (old new : Option (List ℕ)) (step : List ℕ → List ℕ → Type 0) (s : List ℕ) → old ≡ Some s → Told old new step → (t : List ℕ) × (new ≡ Some t) × step s t
 told_from None new step s is told = absurd (cc)

@@ -1,5 +1,5 @@
 -- Runs of reads through a window, and what the bytes that were read say of the file.
-use Rattle.std.proofs.Common.{◌≡◌, ◌⊎◌, ℕ, ◌+◌, ◌*◌, ◌/◌, ◌%◌, ◌<◌, ◌≤◌, List, [], ◌∷◌, ◌++◌, Option, Some, None, MatchOption, ◌≢◌, append_assoc, length, take, drop, get_or, map, refl, sym, ap, subst, ◌∙◌, inl, inr, ⊎_elim, arith, min, set}
+use Rattle.std.proofs.Common.{◌≡◌, ℕ, ◌+◌, ◌*◌, ◌/◌, ◌%◌, ◌<◌, ◌≤◌, List, [], ◌∷◌, ◌++◌, Option, Some, None, MatchOption, ◌≢◌, append_assoc, length, take, drop, get_or, map, refl, sym, ap, subst, ◌∙◌, inl, inr, ⊎_elim, arith, set}
 use Rattle.std.proofs.lemmas.List.{take_at, take-take, take_all, length-take, get_or-map, length-map, take_more, take_more_set, get_or-drop, length-drop, drop_at, drop-drop}
 use Rattle.std.proofs.lemmas.Bool.{cases_lt}
 use Rattle.std.specs.declared.vec.Vec.{Vec}
@@ -12,8 +12,7 @@ use Rattle.serv_journal.specs.Bytes.{Starts}
 use Rattle.serv_journal.specs.Format.{two_bytes, four_bytes, body}
 use Rattle.serv_journal.specs.Reading.{lines_in, places_in, IsBadLine, IsBadRecord}
 use Rattle.serv_journal.specs.Outcomes.{IsPassing}
-use Rattle.serv_journal.specs.Stays.{Stays}
-use Rattle.serv_journal.specs.Windows.{WindowState, Shows, ShowsTold, IsReading}
+use Rattle.serv_journal.specs.Windows.{WindowState, ShowsTold, IsReading}
 use Rattle.serv_journal.proofs.ByteLemmas.{taken_starts, starts_fits}
 use Rattle.serv_journal.proofs.UniqueLemmas.{four_same}
 use Rattle.serv_journal.proofs.StaysLemmas.{stays_here, stays_on}

@@ -1,12 +1,10 @@
 -- Records read one after the other.
-use Rattle.std.proofs.Common.{◌≡◌, ◌≢◌, ◌⊎◌, ℕ, ◌+◌, ◌*◌, ◌<◌, ◌≤◌, List, [], ◌∷◌, ◌++◌, length, get_or, take, drop, map, refl, sym, ap, subst, ◌∙◌, inl, inr, arith, append_assoc, length-append, take-add}
-use Rattle.std.proofs.lemmas.List.{append-nil, map_push, length-map, length-drop, take-append-drop, length-take-le}
+use Rattle.std.proofs.Common.{◌≡◌, ℕ, ◌+◌, ◌*◌, ◌≤◌, List, [], ◌∷◌, ◌++◌, length, take, drop, refl, sym, ap, subst, ◌∙◌, arith, append_assoc, length-append, take-add}
+use Rattle.std.proofs.lemmas.List.{append-nil, map_push, length-map, length-drop}
 use Rattle.serv_journal.specs.declared.format.Version.{Version}
-use Rattle.serv_journal.specs.declared.format.Version.TheVariants.{One, Two}
 use Rattle.serv_journal.specs.Bytes.{Starts}
-use Rattle.serv_journal.specs.Format.{Form, IsForm, IsFront, IsUpgraded, IsLine, AreLines, base, body, records, header, head_size}
-use Rattle.serv_journal.specs.Reading.{lines_in, placed, IsRead, IsDamaged, IsBadEnd}
-use Rattle.serv_journal.specs.Steps.{IsClosedEnd, IsMarkedEnd}
+use Rattle.serv_journal.specs.Format.{IsLine, AreLines, body, records, head_size}
+use Rattle.serv_journal.specs.Reading.{lines_in, placed}
 use Rattle.serv_journal.specs.Scans.{IsPlaced, IsScanned}
 use Rattle.serv_journal.proofs.ByteLemmas.{starts_take, starts_fits}
 use Rattle.serv_journal.proofs.FormatLemmas.{records_push, lines_push, length_of_body}

@@ -1,5 +1,5 @@
 -- Runs of calls that leave a disk as it was.
-use Rattle.std.proofs.Common.{◌≡◌, ℕ, ◌≤◌, List, Option, ◌∙◌, refl}
+use Rattle.std.proofs.Common.{◌≡◌, ℕ, List, Option, ◌∙◌, refl}
 use Rattle.serv_disk.specs.Disks.{Each, Elapses, LeavesOnly}
 use Rattle.serv_disk.proofs.Moments.{started, goes_on, weaker, joined}
 use Rattle.serv_journal.specs.Stays.{Stays}

@@ -1,11 +1,9 @@
 -- A file holds one list of lines.
-use Rattle.std.proofs.Common.{◌≡◌, ◌≢◌, ◌⊎◌, ℕ, ◌+◌, ◌*◌, ◌/◌, ◌%◌, ◌<◌, ◌≤◌, List, [], ◌∷◌, ◌++◌, length, get_or, take, drop, refl, sym, ap, subst, ◌∙◌, inl, inr, ⊎_elim, arith, append_assoc, length-append}
+use Rattle.std.proofs.Common.{◌≡◌, ◌≢◌, ℕ, ◌+◌, ◌/◌, ◌%◌, List, [], ◌∷◌, ◌++◌, length, take, drop, refl, sym, ap, subst, ◌∙◌, ⊎_elim, arith, append_assoc}
 use Rattle.std.proofs.lemmas.List.{take_at, drop_at, append_cancel_left}
 use Rattle.serv_journal.specs.declared.format.Version.{Version}
 use Rattle.serv_journal.specs.declared.format.Version.TheVariants.{One, Two}
-use Rattle.serv_journal.specs.Bytes.{Starts}
 use Rattle.serv_journal.specs.Format.{Form, IsForm, IsFront, IsUpgraded, IsLine, AreLines, base, body, records, header, two_bytes, four_bytes}
-use Rattle.serv_journal.specs.Reading.{IsMark}
 
 cons_rest : (a b : ℕ) (r t : List ℕ) → a ∷ r ≡ b ∷ t → r ≡ t
 cons_rest a b r t is = cc

@@ -1,18 +1,17 @@
 -- Records of version 2, written after a part of version 1.
-use Rattle.std.proofs.Common.{◌≡◌, ◌≢◌, ◌⊎◌, ℕ, ◌+◌, ◌*◌, ◌<◌, ◌≤◌, List, [], ◌∷◌, ◌++◌, Option, Some, None, length, get_or, take, drop, refl, sym, ap, subst, ◌∙◌, inl, inr, ⊎_elim, arith, append_assoc, length-append, cond, ltb, zero, suc}
+use Rattle.std.proofs.Common.{◌≡◌, ◌≢◌, ◌⊎◌, ℕ, ◌+◌, ◌<◌, ◌≤◌, List, [], ◌∷◌, ◌++◌, Option, Some, None, length, get_or, take, drop, refl, sym, ap, subst, ◌∙◌, inl, inr, ⊎_elim, arith, append_assoc, length-append, zero, suc}
 use Rattle.std.proofs.lemmas.Bool.Decides.{nat_tests}
-use Rattle.std.proofs.lemmas.List.{append-nil, take_all, take_more, length-take-le, take-append-drop}
+use Rattle.std.proofs.lemmas.List.{append-nil, take_all, take_more, length-take-le}
 use Rattle.serv_disk.specs.Disks.{Holds, Told, Each, LeavesOnly}
 use Rattle.serv_disk.proofs.Moments.{joined}
 use Rattle.serv_journal.specs.declared.format.Version.{Version}
 use Rattle.serv_journal.specs.declared.format.Version.TheVariants.{One, Two}
-use Rattle.serv_journal.specs.Bytes.{Starts, Between, IsOpening}
-use Rattle.serv_journal.specs.Format.{Form, IsForm, IsFront, IsLine, AreLines, base, body, records, header, commit_at, laid, rewritten, upgraded_form, head_size}
+use Rattle.serv_journal.specs.Bytes.{Starts, IsOpening}
+use Rattle.serv_journal.specs.Format.{Form, IsForm, IsFront, IsLine, AreLines, base, body, records, header, commit_at, laid, rewritten, upgraded_form}
 use Rattle.serv_journal.specs.States.{JournalState, StandsFor}
 use Rattle.serv_journal.specs.Disks.{IsWholeIn, IsWhole}
-use Rattle.serv_journal.proofs.ByteLemmas.{holds_after, starts_fits}
+use Rattle.serv_journal.proofs.ByteLemmas.{holds_after}
 use Rattle.serv_journal.proofs.FormatLemmas.{records_push, closed_starts, length_of_body}
-use Rattle.serv_journal.proofs.ScanLemmas.{records_least}
 
 pub line_is : (lines : List (List ℕ)) (i : ℕ) → i < length lines → AreLines lines → IsLine (get_or lines i [])
 line_is [] i less fit = absurd (omega (arith, less))

@@ -1,5 +1,5 @@
 -- Which contents of a disk keep which lines.
-use Rattle.std.specs.Prelude.{◌≡◌, ◌≢◌, ◌⊎◌, ℕ, ◌+◌, List, [], ◌∷◌, ◌++◌, length}
+use Rattle.std.specs.Prelude.{◌≢◌, ◌⊎◌, ℕ, ◌+◌, List, [], ◌∷◌, ◌++◌, length}
 use Rattle.serv_disk.specs.Disks.{Each}
 use Rattle.serv_journal.specs.Bytes.{Starts}
 use Rattle.serv_journal.specs.Format.{Form, IsForm, base, body}

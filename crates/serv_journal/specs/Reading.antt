@@ -1,6 +1,5 @@
 -- What opening finds in a file.
 use Rattle.std.specs.Prelude.{◌≡◌, ◌≢◌, ◌⊎◌, ℕ, ◌+◌, ◌<◌, List, [], ◌∷◌, ◌++◌, length, drop, map, Option, Some}
-use Rattle.serv_disk.specs.Disks.{Only}
 use Rattle.serv_journal.specs.declared.format.Version.{Version}
 use Rattle.serv_journal.specs.declared.format.Version.TheVariants.{One, Two}
 use Rattle.serv_journal.specs.Bytes.{Starts}

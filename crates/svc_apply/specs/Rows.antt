@@ -2,6 +2,7 @@
 use Rattle.std.specs.Prelude.{ℕ, ◌+◌, ◌-◌, ◌*◌, List, [], ◌∷◌, ◌++◌, ℤ, pos, ◌+ℤ◌}
 use Rattle.svc_types.specs.declared.terms.Terms.{Terms}
 use Rattle.svc_types.specs.declared.terms.RemitType.TheVariants as remit
+use Rattle.svc_types.specs.WorkedLoan.{month_at, day_at, loan_with}
 use Rattle.svc_types.specs.declared.books.Books.{Books}
 use Rattle.svc_types.specs.declared.account.Designation.TheVariants as designation
 use Rattle.svc_types.specs.declared.account.Act.{Act}
@@ -13,29 +14,9 @@ use Rattle.svc_types.specs.declared.account.What.TheVariants as what
 use Rattle.svc_spec.specs.Books.{start}
 use Rattle.svc_spec.specs.Events.{folded}
 
--- a month and a day by their numbers in the calendar
-abbrev pub month_at : ℕ → ℕ → ℕ
-month_at y m = 12 * y + (m - 1)
-
-abbrev pub day_at : ℕ → ℕ → ℕ → ℕ
-day_at y m d = 31 * month_at y m + (d - 1)
-
 -- 200,000.00 at 6% over 30 years, boarded in December 2023 and first due in February 2024
 abbrev pub worked_loan : Terms
-worked_loan = record {
-  boarded = day_at 2023 12 15;
-  principal = pos 20_000_000;
-  rate = 6_000;
-  fee = 250;
-  pi = pos 119_910;
-  term = 360;
-  first = month_at 2024 2;
-  grace = 15;
-  late = 500;
-  cushion = 2;
-  escrow = pos 0;
-  kind = remit.SS;
-}
+worked_loan = loan_with remit.SS 250 360
 
 abbrev pub on : ℕ → Act → Event
 on d a = record { day = d; what = what.Act a }

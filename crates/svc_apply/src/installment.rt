@@ -3,6 +3,7 @@
 ghost use Rattle.std.specs.Prelude.{◌≡◌, ◌+◌, ◌≤◌, pos, ◌<ℤ◌};
 ghost use Rattle.svc_base.specs.Calendar.{IsReadDay};
 ghost use Rattle.svc_base.specs.Money.{IsAmount};
+ghost use Rattle.svc_types.specs.LevelPayment as payment;
 ghost use Rattle.svc_types.specs.Terms.{IsSound};
 ghost use Rattle.svc_spec.specs.Books.{AreBooks, HaveSigns, IsPlan, IsEntryAmount};
 ghost use Rattle.svc_spec.specs.Installments as rule;
@@ -71,11 +72,11 @@ fn principal_part(terms: &Terms, upb: Cents, k: u32) -> Cents
 }
 
 /// The principal that the level payment leaves.
-#[tactic(auto, using(svc_base::proofs::CentsRules::cents, svc_base::proofs::MoneyLemmas::month_interest_low), unfolding(svc_spec::specs::Installments::level_principal))]
+#[tactic(auto, using(svc_base::proofs::CentsRules::cents, svc_base::proofs::MoneyLemmas::month_interest_low), unfolding(svc_types::specs::LevelPayment::level_principal))]
 fn level_principal(terms: &Terms, upb: Cents) -> Cents
     requires terms { IsSound terms.now }
     requires amount { IsAmount upb }
-    ensures { result ≡ rule.level_principal terms.now upb }
+    ensures { result ≡ payment.level_principal terms.now upb }
 {
     let interest = month_interest(upb, terms.rate);
     upb.min(terms.pi - interest)

@@ -1,5 +1,5 @@
 -- How `day_after` goes through months.
-use Rattle.std.proofs.Common.{◌≡◌, ℕ, zero, suc, ◌+◌, ◌*◌, ◌-◌, ◌/◌, ◌<◌, ◌≤◌, true, false, nat_lt, arith, refl, ap, ◌∙◌}
+use Rattle.std.proofs.Common.{◌≡◌, ℕ, zero, suc, ◌+◌, ◌*◌, ◌-◌, ◌/◌, ◌<◌, ◌≤◌, true, false, nat_lt, arith, refl, ap, ◌∙◌, ◌⊎◌, inl, inr}
 use Rattle.svc_base.specs.Calendar.{month_length, day_in_month, month_of, first_day, next_day, day_after, IsDay}
 use Rattle.svc_base.specs.DayLemmas.{month_length_most, month_length_least}
 
@@ -50,6 +50,30 @@ day_after_beyond d (suc n) is h =
           let steps : day_after (next_day d) n ≡ day_after (first_day (month_of d + 1)) n = ap (λ x. day_after x n) (next_beyond d past) in
           let left : n ≡ day_in_month d + suc n - month_length (month_of d) - 1 = omega arith in
           steps ∙ ap (day_after (first_day (month_of d + 1))) left
+    ] refl
+
+-- so many days of a month after its first day: in it, or in the next one
+pub after_first : (m n : ℕ) → n ≤ 29 → ((n < month_length m) × (day_after (first_day m) n ≡ first_day m + n)) ⊎ ((month_length m ≤ n) × (day_after (first_day m) n ≡ first_day (m + 1) + (n - month_length m)))
+after_first m n few =
+    let least = month_length_least m in
+    let least' = month_length_least (m + 1) in
+    let month : month_of (first_day m) ≡ m = omega arith in
+    let place : day_in_month (first_day m) ≡ 1 = omega arith in
+    elim (nat_lt n (month_length m)) as (λ v. nat_lt n (month_length m) ≡ v → ((n < month_length m) × (day_after (first_day m) n ≡ first_day m + n)) ⊎ ((month_length m ≤ n) × (day_after (first_day m) n ≡ first_day (m + 1) + (n - month_length m)))) [
+      | true ↦ λ e.
+          let fits : n < month_length m = grind arith in
+          inl (fits, day_after_within (first_day m) n (rw (month, place) (omega arith)))
+      | false ↦ λ e.
+          let past : month_length m ≤ n = grind arith in
+          let is : IsDay (first_day m) = rw (month, place) (omega arith) in
+          let beyond = day_after_beyond (first_day m) n is (rw (month, place) (omega arith)) in
+          let left : day_in_month (first_day m) + n - month_length (month_of (first_day m)) - 1 ≡ n - month_length m = rw (month, place) (omega arith) in
+          let later : first_day (month_of (first_day m) + 1) ≡ first_day (m + 1) = ap (λ x. first_day (x + 1)) month in
+          let steps = beyond ∙ ap (λ x. day_after x (day_in_month (first_day m) + n - month_length (month_of (first_day m)) - 1)) later ∙ ap (day_after (first_day (m + 1))) left in
+          let month' : month_of (first_day (m + 1)) ≡ m + 1 = omega arith in
+          let place' : day_in_month (first_day (m + 1)) ≡ 1 = omega arith in
+          let near = day_after_within (first_day (m + 1)) (n - month_length m) (rw (month', place') (omega arith)) in
+          inr (past, steps ∙ near)
     ] refl
 
 next_day_later : (d : ℕ) → d + 1 ≤ next_day d

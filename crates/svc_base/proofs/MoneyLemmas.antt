@@ -64,3 +64,6 @@ share_bp_most c bp amount k =
     let product = mul-le-mul (abs_rises c (pos 10_000_000_000) amount.0 amount.1) k in
     let rises = half_up_rises (unsigned_abs c * bp) (10_000_000_000 * 10_000) 10_000 (lit< tt) product in
     omega (arith, ints)
+
+-- the most that each can be, and what holds of whole numbers
+pub ruleset limits = (ints, month_interest_most, day_interest_most, share_bp_most)

@@ -51,6 +51,8 @@ pub parsed_none : (r : Option ℕ) (ds : List ℕ) → SomeIff r (IsNumeral 10 d
 parsed_none None ds h = λ n small e. h ((spelled_numeral n ds small e).0, (let v = (spelled_numeral n ds small e).1 in omega arith))
 parsed_none (Some x) ds h = tt
 
+pub ruleset reading = (not_plain, parsed_read, parsed_none)
+
 -- where two texts end in as many bytes, their fronts and their ends are the same
 pub same_ends : (v w xs ys : List ℕ) → length xs ≡ length ys → v ++ xs ≡ w ++ ys → (v ≡ w) × (xs ≡ ys)
 same_ends v w xs ys n e =

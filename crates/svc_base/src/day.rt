@@ -1,10 +1,11 @@
 //! A day of the calendar.
 
 ghost use Rattle.std.specs.Prelude.{◌≡◌, ℕ, ◌+◌, ◌*◌, ◌<◌, ◌≤◌, ◌-◌};
-ghost use Rattle.svc_base.specs.Calendar.{year_of_month, number_in_year, month_of, day_in_month, month_length, IsDay};
+ghost use Rattle.svc_base.specs.Calendar.{year_of_month, number_in_year, month_of, day_in_month};
+ghost use Rattle.svc_base.specs.Calendar.{month_length, IsDay};
 ghost use Rattle.std.specs.Prelude.{◌==◌};
 ghost use Rattle.std.proofs.Common.{rules};
-ghost use Rattle.std.specs.Cmp.{partial_order_from_own_ties};
+ghost use Rattle.std.specs.Cmp.{partial_order_from_own_ties as own_order};
 ghost use Rattle.std.specs.Cmp.Rules.{comparing};
 ghost use Rattle.std.specs.Ordering.{nat_cmp, on, as_partial_cmp};
 
@@ -119,7 +120,7 @@ impl Ord for Day {
 impl PartialOrd for Day {
     ghost partial_cmp = { as_partial_cmp nat_cmp };
 
-    ghost laws = { partial_order_from_own_ties (Prim.search (comparing, rules)) (Prim.search (comparing, rules)) };
+    ghost laws = { own_order (Prim.search (comparing, rules)) (Prim.search (comparing, rules)) };
 
     fn partial_cmp(&self, other: &Day) -> Option<Ordering> {
         Some(self.cmp(other))

@@ -10,7 +10,7 @@ pub type Cents = i64;
 pub type Rate = u32;
 
 /// One month's interest on a balance, in cents, half a cent rounded up.
-#[tactic(auto, using(std::proofs::lemmas::Int::ints, crate::proofs::MoneyLemmas::month_interest_most), unfolding(crate::specs::Money::month_interest))]
+#[tactic(auto, using(crate::proofs::MoneyLemmas::limits), unfolding(crate::specs::Money::month_interest))]
 pub fn month_interest(upb: Cents, rate: Rate) -> Cents
     requires amount { money.IsAmount upb }
     requires rate { rate ≤ 25_000 }
@@ -22,7 +22,7 @@ pub fn month_interest(upb: Cents, rate: Rate) -> Cents
 }
 
 /// The interest of some days of a year of 360, in cents, half a cent rounded up.
-#[tactic(auto, using(std::proofs::lemmas::Int::ints, crate::proofs::MoneyLemmas::day_interest_most), unfolding(crate::specs::Money::day_interest))]
+#[tactic(auto, using(crate::proofs::MoneyLemmas::limits), unfolding(crate::specs::Money::day_interest))]
 pub fn day_interest(upb: Cents, rate: Rate, days: u32) -> Cents
     requires amount { money.IsAmount upb }
     requires rate { rate ≤ 25_000 }
@@ -38,7 +38,7 @@ pub fn day_interest(upb: Cents, rate: Rate, days: u32) -> Cents
 }
 
 /// So many hundredths of a percent of an amount, in cents, half a cent rounded up.
-#[tactic(auto, using(std::proofs::lemmas::Int::ints, crate::proofs::MoneyLemmas::share_bp_most), unfolding(crate::specs::Money::share_bp))]
+#[tactic(auto, using(crate::proofs::MoneyLemmas::limits), unfolding(crate::specs::Money::share_bp))]
 pub fn share_bp(cents: Cents, bp: u32) -> Cents
     requires amount { money.IsAmount cents }
     requires bp { bp ≤ 10_000 }

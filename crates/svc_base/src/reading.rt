@@ -1,10 +1,13 @@
 //! Reading numbers, amounts, days and months: a text is read exactly where it is the spelling of a
 //! value in range.
 
-ghost use Rattle.std.specs.Prelude.{◌≡◌, ◌≢◌, ℕ, ◌+◌, ◌*◌, ◌<◌, ◌≤◌, ◌^◌, ◌∷◌, ◌++◌, [], List, ◌↔◌, ◌⊎◌, ℤ, IfSome, IfNone, IfOk, IfErr, OnErr, IsTrue, SomeIff, slice_index, length};
+ghost use Rattle.std.specs.Prelude.{◌≡◌, ◌≢◌, ℕ, ◌+◌, ◌*◌, ◌<◌, ◌≤◌, ◌^◌, ◌∷◌, ◌++◌, [], List, ◌↔◌, ◌⊎◌, ℤ};
+ghost use Rattle.std.specs.Prelude.{IfSome, IfNone, IfOk, IfErr, OnErr, IsTrue, SomeIff, slice_index, length};
 ghost use Rattle.std.specs.Str.Parse.{IsNumeral, digits_value};
 ghost use Rattle.svc_base.specs.Calendar.{month_length, IsReadDay};
-ghost use Rattle.svc_base.specs.Text.{text_of_number, text_of_amount, text_of_cents, two_digits, IsReadAmount, four_digits, text_of_month, text_of_day, IsCivilMonth, IsCivilDay, IsReadMonth, IsMonthFault, IsDayFault, IsOtherYear};
+ghost use Rattle.svc_base.specs.Text.{text_of_number, text_of_amount, text_of_month, text_of_day};
+ghost use Rattle.svc_base.specs.Text.{two_digits, four_digits, text_of_cents, IsReadAmount, IsCivilMonth};
+ghost use Rattle.svc_base.specs.Text.{IsCivilDay, IsReadMonth, IsMonthFault, IsDayFault, IsOtherYear};
 
 use crate::day::Day;
 use crate::day_fault::DayFault;
@@ -16,7 +19,8 @@ use jiff::civil::Date;
 fn begins_plain(text: &[u8]) -> bool
     ensures sign { IsTrue result → slice_index text.now 0 ≢ 43 }
     ensures zero { IsTrue result → slice_index text.now 0 ≡ 48 → length text.now ≡ 1 }
-    ensures other { IsTrue result ⊎ (slice_index text.now 0 ≡ 43) ⊎ ((slice_index text.now 0 ≡ 48) × (1 < length text.now)) }
+    ensures other { IsTrue result ⊎ (slice_index text.now 0 ≡ 43) ⊎
+        ((slice_index text.now 0 ≡ 48) × (1 < length text.now)) }
 {
     match text {
         [b'+', ..] => false,
@@ -29,13 +33,14 @@ fn begins_plain(text: &[u8]) -> bool
 #[tactic(auto, using(crate::proofs::TextLemmas::numeral_utf8))]
 fn parse_digits(text: &[u8]) -> Option<u64>
     requires { slice_index text.now 0 ≢ 43 }
-    ensures { SomeIff result (IsNumeral 10 text.now × (digits_value 10 text.now < 2 ^ 64)) (digits_value 10 text.now) }
+    ensures { SomeIff result (IsNumeral 10 text.now × (digits_value 10 text.now < 2 ^ 64))
+        (digits_value 10 text.now) }
 {
     std::str::from_utf8(text).ok()?.parse().ok()
 }
 
 /// The number below 2^64 that a text spells in decimal digits without a leading zero.
-#[tactic(auto, using(crate::proofs::TextLemmas::not_plain, crate::proofs::TextLemmas::parsed_read, crate::proofs::TextLemmas::parsed_none))]
+#[tactic(auto, using(crate::proofs::TextLemmas::reading))]
 fn read_digits(text: &[u8]) -> Option<u64>
     ensures read { IfSome result (λ n. text.now ≡ text_of_number n) }
     ensures none { IfNone result ((n : ℕ) → n < 2 ^ 64 → text.now ≢ text_of_number n) }
@@ -69,7 +74,8 @@ fn read_pair(tens: u8, ones: u8) -> Option<u32>
 /// What stands before a mark and two digits at a text's end, and the number that they spell.
 fn split_pair(text: &[u8], mark: u8) -> Option<(&[u8], u32)>
     ensures read { IfSome result (λ p. (p.1 < 100) × (text.now ≡ p.0.now ++ (mark ∷ two_digits p.1))) }
-    ensures none { IfNone result ((whole : List ℕ) (n : ℕ) → n < 100 → text.now ≢ whole ++ (mark ∷ two_digits n)) }
+    ensures none { IfNone result ((whole : List ℕ) (n : ℕ) → n < 100 →
+        text.now ≢ whole ++ (mark ∷ two_digits n)) }
 {
     let (whole, [byte, tens, ones]) = text.split_last_chunk::<3>()?;
     if *byte != mark {

@@ -1,7 +1,7 @@
 -- The books at the ends of months, and what folds between them count.
-use Rattle.std.proofs.Common.{◌≡◌, ℕ, zero, suc, ◌+◌, ◌-◌, ◌≤◌, ◌<◌, ◌≢◌, Bool, true, false, cond, List, [], ◌∷◌, ◌++◌, length, get_or, set, get_or-set_same, get_or-set_other, arith, refl, sym, ap, subst, ◌∙◌}
+use Rattle.std.proofs.Common.{◌≡◌, ℕ, suc, ◌+◌, ◌-◌, ◌≤◌, ◌<◌, ◌≢◌, Bool, true, false, cond, List, [], ◌∷◌, ◌++◌, length, get_or, set, get_or-set_same, get_or-set_other, arith, refl, sym, ap, subst, ◌∙◌}
 use Rattle.std.specs.List.{All, find}
-use Rattle.std.specs.Prelude.{◌==◌, nat_le, nat_lt, Option, Some, None, MatchOption, IfSome, if◌then◌else◌}
+use Rattle.std.specs.Prelude.{◌==◌, nat_lt, Option, Some, None, MatchOption, IfSome}
 use Rattle.std.proofs.Math.Seq.{get_or-append_seam}
 use Rattle.std.proofs.lemmas.List.{get_or_append_left}
 use Rattle.std.proofs.lemmas.Option.{same_Some}
@@ -11,14 +11,14 @@ use Rattle.svc_base.specs.DayLemmas.{month_length_most, month_length_least}
 use Rattle.svc_types.specs.declared.terms.Terms.{Terms}
 use Rattle.svc_types.specs.declared.books.Books.{Books}
 use Rattle.svc_types.specs.declared.account.Entry.{Entry}
-use Rattle.svc_spec.specs.Books.{AreBooks, start}
+use Rattle.svc_spec.specs.Books.{AreBooks}
 use Rattle.svc_spec.specs.Entries.{AreEntries}
 use Rattle.svc_spec.specs.Events.{books_at}
 use Rattle.svc_spec.specs.Accounts.{Account, posted, reversed_in, advanced_to, live_of, books_of, entry_of, IsAccount, MayPost}
 use Rattle.svc_spec.specs.Months.{counted, cost_of_month, books_at_end}
 use Rattle.svc_spec.proofs.SettlingLemmas.{nat_le-true, nat_le-false}
 use Rattle.svc_spec.proofs.AccountLemmas.{live_few, live_entries_fold, account_books, advanced_account}
-use Rattle.svc_spec.proofs.MonthLemmas.{boarded_some, day_by_end, end_before_next, before_boarded, from_boarded, past_month}
+use Rattle.svc_spec.proofs.MonthLemmas.{day_by_end, end_before_next, from_boarded}
 use Rattle.svc_spec.proofs.CostLemmas.{refold_within}
 use Rattle.svc_spec.proofs.SameLemmas.{posted_same, reversed_same}
 use Rattle.svc_spec.proofs.StepsLemmas.{counted_from_end, counted_on, day_within}

@@ -3,7 +3,8 @@ use Rattle.std.specs.Prelude.{ℕ, zero, suc, ◌+◌, List, [], ◌∷◌, ◌+
 use Rattle.svc_types.specs.declared.terms.Terms.{Terms}
 use Rattle.svc_types.specs.declared.account.Act.TheVariants as act
 use Rattle.svc_types.specs.declared.account.Entry.{Entry}
-use Rattle.svc_apply.specs.Rows.{day_at, month_at, worked_loan, regular}
+use Rattle.svc_types.specs.WorkedLoan.{day_at, month_at}
+use Rattle.svc_apply.specs.Rows.{worked_loan, regular}
 use Rattle.svc_spec.specs.Accounts.{Account}
 
 -- the worked loan, boarded in January 2010 and first due in March

@@ -1,7 +1,7 @@
 //! A worked bound as a theorem. The function has no code.
 
 ghost use Rattle.std.specs.Prelude.{◌≡◌};
-ghost use Rattle.svc_apply.specs.Rows.{month_at};
+ghost use Rattle.svc_types.specs.WorkedLoan.{month_at};
 ghost use Rattle.svc_spec.specs.Months.{cost_of_month};
 ghost use Rattle.svc_checkpoint.specs.WorkedLoans.{old_account};
 

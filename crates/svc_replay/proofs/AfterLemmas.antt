@@ -1,17 +1,16 @@
 -- A place after all events up to a day: what is left there is what is past the day.
-use Rattle.std.proofs.Common.{◌≡◌, ℕ, zero, suc, ◌+◌, ◌-◌, ◌≤◌, ◌<◌, true, false, List, [], ◌∷◌, ◌++◌, length, map, take, drop, get_or, arith, refl, sym, ap, ◌∙◌}
+use Rattle.std.proofs.Common.{◌≡◌, ℕ, zero, suc, ◌+◌, ◌-◌, ◌≤◌, ◌<◌, true, false, List, [], ◌∷◌, ◌++◌, length, map, take, drop, get_or, arith, refl, ap, ◌∙◌}
 use Rattle.std.specs.Prelude.{nat_le, nat_lt}
 use Rattle.std.specs.List.{All, AllPairs}
 use Rattle.std.specs.List.Sorted.{IsPartitionedBy, IsPartitionPoint}
-use Rattle.std.proofs.lemmas.List.Elements.{All-cons, All-tail}
+use Rattle.std.proofs.lemmas.List.Elements.{All-cons}
 use Rattle.std.proofs.lemmas.Bool.Decides.{nat_tests}
-use Rattle.svc_base.specs.Calendar.{month_of, last_day}
+use Rattle.svc_base.specs.Calendar.{month_of}
 use Rattle.svc_types.specs.declared.terms.Terms.{Terms}
 use Rattle.svc_types.specs.declared.account.Entry.{Entry}
-use Rattle.svc_types.specs.declared.account.Event.{Event}
 use Rattle.svc_types.specs.Terms.{IsSound}
-use Rattle.svc_spec.specs.Events.{month_marks_from, month_marks, late_day, late_marks_from, late_marks, up_to, event_of, entry_events, by_day, events_to}
-use Rattle.svc_spec.proofs.SettlingLemmas.{nat_le-true, nat_le-false, from_nat_le, from_not_nat_le}
+use Rattle.svc_spec.specs.Events.{month_marks_from, month_marks, late_marks_from, late_marks, up_to, event_of, entry_events, by_day, events_to}
+use Rattle.svc_spec.proofs.SettlingLemmas.{nat_le-true, from_nat_le, from_not_nat_le}
 use Rattle.svc_spec.proofs.TimeLemmas.{past}
 use Rattle.svc_spec.proofs.PastLemmas.{past_append, past_up_to, past_by_day, past_months, past_lates, past_entries}
 use Rattle.svc_replay.specs.Left.{months_left, lates_left, entries_left, left, IsAfter}

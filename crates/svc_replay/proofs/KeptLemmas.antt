@@ -1,22 +1,19 @@
 -- What the fields of an account keep.
-use Rattle.std.proofs.Common.{◌≡◌, ℕ, zero, suc, ◌+◌, ◌≤◌, ◌<◌, Bool, true, false, cond, List, [], ◌∷◌, ◌++◌, length, map, get_or, set, arith, refl, sym, ap, subst, ◌∙◌}
-use Rattle.std.specs.Prelude.{◌==◌, ◌||◌, ◌≢◌, not, is_some, nat_lt, Option, Some, None}
+use Rattle.std.proofs.Common.{◌≡◌, ℕ, zero, suc, ◌+◌, ◌≤◌, ◌<◌, true, false, cond, List, [], ◌∷◌, ◌++◌, length, map, get_or, set, arith, refl, sym, ap, subst, ◌∙◌}
+use Rattle.std.specs.Prelude.{◌==◌, ◌||◌, ◌≢◌, not, is_some, Option, Some, None}
 use Rattle.std.specs.List.{All, AllPairs, filter, find}
 use Rattle.std.specs.Option.{option_map}
-use Rattle.std.specs.List.Sorted.{IsPartitionPoint}
 use Rattle.std.proofs.lemmas.Bool.Decides.{nat_tests}
 use Rattle.svc_base.specs.Calendar.{month_of, IsDay}
 use Rattle.svc_types.specs.declared.terms.Terms.{Terms}
-use Rattle.svc_types.specs.declared.books.Books.{Books}
 use Rattle.svc_types.specs.declared.account.Entry.{Entry}
 use Rattle.svc_types.specs.Live.{placed, live_entries, is_reversed}
 use Rattle.svc_types.proofs.OrderLemmas.{follows, live_order, pairs_tail, pairs_head}
 use Rattle.svc_spec.specs.Entries.{AreEntries}
-use Rattle.svc_spec.specs.Events.{events_to, books_at}
-use Rattle.svc_spec.specs.Accounts.{Account, live_of, books_of, entry_of, reverser_of, IsAccount, MayBegin, MayPost}
+use Rattle.svc_spec.specs.Accounts.{Account, live_of, entry_of, reverser_of, IsAccount, MayBegin, MayPost}
 use Rattle.svc_spec.specs.Months.{cost_of_month, counted}
 use Rattle.svc_spec.proofs.AccountLemmas.{live_after_post, live_after_reversal, live_few, live_entries_fold, begun_account, posted_account, reversed_account, not_yet_reversed}
-use Rattle.svc_spec.proofs.FindLemmas.{find_there, find_absent}
+use Rattle.svc_spec.proofs.FindLemmas.{find_there}
 use Rattle.svc_spec.proofs.CostLemmas.{refold_within}
 use Rattle.svc_replay.specs.Kept.{IsKept, IsPlaceOf, reversers_of}
 

@@ -9,6 +9,7 @@ use Rattle.svc_types.specs.declared.account.Entry.{Entry}
 use Rattle.svc_types.specs.declared.account.Event.{Event}
 use Rattle.svc_types.specs.declared.account.What.TheVariants as what
 use Rattle.svc_types.specs.Terms.{IsSound}
+use Rattle.svc_types.proofs.OrderLemmas.{pairs_head, pairs_tail}
 use Rattle.svc_spec.specs.Events.{late_day, late_mark, late_marks_from, up_to, event_of, by_day, events_to}
 use Rattle.svc_spec.proofs.SettlingLemmas.{from_nat_le, from_not_nat_le}
 use Rattle.svc_spec.proofs.EventLemmas.{by_day_first, months_since, lates_since, late_day_rises, up_to_none, up_to_more}
@@ -42,17 +43,11 @@ late_some t k d x s h e low =
 
 -- ---- entries
 
-pairs_tail : (x : Entry) (xs : List Entry) → AllPairs (λ a b. a.day ≤ b.day) (x ∷ xs) → AllPairs (λ a b. a.day ≤ b.day) xs
-pairs_tail x xs h i j d lt within = h (suc i) (suc j) d (omega arith) (omega arith)
-
-from_first : (e : Entry) (xs : List Entry) → AllPairs (λ a b. a.day ≤ b.day) (e ∷ xs) → All (λ y. e.day ≤ y.day) xs
-from_first e xs h k d lt = h 0 (suc k) d (omega arith) (omega arith)
-
 -- no entry from one on is earlier than it
 ordered_from : (live : List Entry) (i : ℕ) (e : Entry) → AllPairs (λ a b. a.day ≤ b.day) live → i < length live → e ≡ get_or live i e → All (λ y. e.day ≤ y.day) (drop i live)
 ordered_from [] i e h lt is = absurd (omega arith)
-ordered_from (x ∷ xs) zero e h lt is = rw is (All-cons (λ y. x.day ≤ y.day) x xs (omega arith) (from_first x xs h))
-ordered_from (x ∷ xs) (suc i) e h lt is = ordered_from xs i e (pairs_tail x xs h) (omega arith) is
+ordered_from (x ∷ xs) zero e h lt is = rw is (All-cons (λ y. x.day ≤ y.day) x xs (omega arith) (pairs_head (λ a b. a.day ≤ b.day) x xs h))
+ordered_from (x ∷ xs) (suc i) e h lt is = ordered_from xs i e (pairs_tail (λ a b. a.day ≤ b.day) x xs h) (omega arith) is
 
 drop_first : (live : List Entry) (i : ℕ) (e : Entry) → i < length live → e ≡ get_or live i e → drop i live ≡ e ∷ drop (i + 1) live
 drop_first live i e lt is =

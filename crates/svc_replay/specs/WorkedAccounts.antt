@@ -4,7 +4,8 @@ use Rattle.svc_types.specs.declared.account.Act.{Act}
 use Rattle.svc_types.specs.declared.account.Act.TheVariants as act
 use Rattle.svc_types.specs.declared.account.Entry.{Entry}
 use Rattle.svc_types.specs.declared.escrow.Settled.{Settled}
-use Rattle.svc_apply.specs.Rows.{day_at, month_at, worked_loan, analysis_from, regular}
+use Rattle.svc_types.specs.WorkedLoan.{day_at, month_at}
+use Rattle.svc_apply.specs.Rows.{worked_loan, analysis_from, regular}
 use Rattle.svc_spec.specs.Accounts.{Account}
 
 abbrev pub entry_on : ℕ → ℕ → Act → Entry

@@ -56,7 +56,12 @@ impl Model for LoanAccount {
     } };
 
     ghost invariant = { λ a. IsKept
-        (record { terms = a.terms; entries = a.entries.items; reversals = a.reversals.items; today = a.today })
+        (record {
+          terms = a.terms;
+          entries = a.entries.items;
+          reversals = a.reversals.items;
+          today = a.today;
+        })
         a.live.items a.reversers.items };
 }
 

@@ -2,7 +2,7 @@
 //! computed apart by the definitions. The functions have no code; all amounts are cents.
 
 ghost use Rattle.std.specs.Prelude.{◌≡◌, [], ◌∷◌, pos};
-ghost use Rattle.svc_apply.specs.Rows.{day_at, month_at};
+ghost use Rattle.svc_types.specs.WorkedLoan.{day_at, month_at};
 ghost use Rattle.svc_spec.specs.Accounts.{books_of};
 ghost use Rattle.svc_spec.specs.Books.{total};
 ghost use Rattle.svc_spec.specs.Months.{cost_of_month};
@@ -29,7 +29,8 @@ pub fn worked_accounts()
         ≡ pos 19_960_080 }
     ensures reversed { total (books_of (paid_twice (day_at 2024 3 1) ((3, 14) ∷ [])) (day_at 2024 4 1))
         ≡ pos 119_910 }
-    ensures reversed_late { (books_of (paid_twice (day_at 2024 3 1) ((3, 14) ∷ [])) (day_at 2024 4 1)).late_owed ≡ pos 11_992 }
+    ensures reversed_late { (books_of (paid_twice (day_at 2024 3 1) ((3, 14) ∷ [])) (day_at 2024 4 1)).late_owed
+        ≡ pos 11_992 }
     ensures payoff { total (books_of paid_off (day_at 2024 4 1)) ≡ pos 20_149_950 }
     ensures escrow { total (books_of escrowed (day_at 2024 4 1)) ≡ pos 53_000 }
 {}

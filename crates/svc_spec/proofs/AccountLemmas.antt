@@ -16,7 +16,7 @@ use Rattle.svc_spec.specs.Entries.{AreEntries}
 use Rattle.svc_spec.specs.Events.{events_to, folded, books_at}
 use Rattle.svc_spec.specs.Accounts.{Account, begun, posted, reversed_in, advanced_to, live_of, books_of, entry_of, IsAccount, MayBegin, MayPost}
 use Rattle.svc_spec.proofs.WholeStep.{books_on}
-use Rattle.svc_spec.proofs.EventLemmas.{can_fold_events}
+use Rattle.svc_spec.proofs.EventLemmas.{CanFold, can_fold_start, can_fold_part}
 
 -- ---- what is found
 
@@ -87,15 +87,23 @@ live_entries_fold a h = record {
   order = order_days (live_of a) (live_order a.entries a.reversals);
 }
 
+pub account_few : (a : Account) → IsAccount a → length (live_of a) ≤ 4_096
+account_few a h = let few = h.few in omega (arith, live_few a)
+
+-- its events up to a day can be folded
+pub account_folds : (a : Account) (d : ℕ) → IsAccount a → CanFold a.terms (start a.terms) (events_to a.terms (live_of a) d)
+account_folds a d h = can_fold_start a.terms (live_of a) d h.terms (live_entries_fold a h) (account_few a h)
+
+pub account_folded : (a : Account) (d : ℕ) → IsAccount a → CanFold a.terms (folded a.terms (start a.terms) (events_to a.terms (live_of a) d)) []
+account_folded a d h =
+    let all = events_to a.terms (live_of a) d in
+    can_fold_part a.terms (start a.terms) all [] h.terms (subst (CanFold a.terms (start a.terms)) (sym (append-nil all)) (account_folds a d h))
+
 -- the books of an account are books of its terms: each sum is within the limits
 pub account_books : (a : Account) (d : ℕ) → IsAccount a → AreBooks a.terms (books_of a d)
 unfolding books_at
 account_books a d h =
-    let all = events_to a.terms (live_of a) d in
-    let few = h.few in
-    let count : length (live_of a) ≤ 4_096 = omega (arith, live_few a) in
-    let can = can_fold_events a.terms (live_of a) d all [] h.terms (live_entries_fold a h) count (sym (append-nil all)) in
-    books_on a.terms d (folded a.terms (start a.terms) all) can.books
+    books_on a.terms d (folded a.terms (start a.terms) (events_to a.terms (live_of a) d)) (account_folded a d h).books
 
 -- ---- what keeps an account
 

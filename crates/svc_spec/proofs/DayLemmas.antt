@@ -1,5 +1,5 @@
 -- A step sets the day of the books, and does not look at it.
-use Rattle.std.proofs.Common.{◌≡◌, ℕ, zero, suc, ◌+◌, Bool, true, false, List, [], ◌∷◌, refl, ap, ◌∙◌}
+use Rattle.std.proofs.Common.{◌≡◌, ℕ, zero, suc, ◌+◌, true, false, List, [], ◌∷◌, refl, ap, ◌∙◌}
 use Rattle.std.specs.Prelude.{ℤ, pos, ◌+ℤ◌, ◌&&◌, not, int_lt, int_le, nat_le, is_none, Some, if◌then◌else◌}
 use Rattle.std.specs.Int.{int_min}
 use Rattle.svc_base.specs.Calendar.{month_of}
@@ -14,7 +14,7 @@ use Rattle.svc_types.specs.declared.account.What.{What}
 use Rattle.svc_types.specs.declared.account.What.TheVariants as what
 use Rattle.svc_spec.specs.Settling.{moves, moved_one, moved, late_paid, late_taken, is_overdue, marked, settled_by, settled, due_settled}
 use Rattle.svc_spec.specs.Payoff.{payoff_sum, payoff_principal}
-use Rattle.svc_spec.specs.Step.{paid_in, charged, to_principal, to_escrow, applied, rest_applied, paid, paid_off, payoff_tried, deposited, from_suspense, refunded, waived, analysed, happened, step}
+use Rattle.svc_spec.specs.Step.{paid_in, charged, to_principal, to_escrow, applied, rest_applied, paid, paid_off, payoff_tried, deposited, from_suspense, refunded, analysed, happened, step}
 use Rattle.svc_spec.specs.Events.{folded}
 
 -- books that stand for another day

@@ -1,22 +1,20 @@
 -- The order of a loan's events, and that each of them can be folded in its turn.
-use Rattle.std.proofs.Common.{◌≡◌, ℕ, zero, suc, ◌+◌, ◌*◌, ◌-◌, ◌≤◌, ◌<◌, Bool, true, false, cond, List, [], ◌∷◌, ◌++◌, length, map, arith, refl, sym, ap, subst, ◌∙◌, length-append}
-use Rattle.std.specs.Prelude.{pos, ◌+ℤ◌, ◌≤ℤ◌, nat_le, if◌then◌else◌}
-use Rattle.std.specs.List.{All, AllPairs, filter, sum_by}
+use Rattle.std.proofs.Common.{◌≡◌, ℕ, zero, suc, ◌+◌, ◌-◌, ◌≤◌, ◌<◌, true, false, cond, List, [], ◌∷◌, ◌++◌, length, map, arith, refl, inl, inr, subst}
+use Rattle.std.specs.Prelude.{nat_le, if◌then◌else◌}
+use Rattle.std.specs.List.{All}
 use Rattle.std.proofs.lemmas.List.Elements.{All-cons, All-head, All-tail, All-append, All-map, All-filter}
 use Rattle.std.proofs.lemmas.Int.{ints}
-use Rattle.svc_base.specs.Calendar.{month_of, first_day, day_after, day_in_month, month_length, IsDay}
-use Rattle.svc_base.specs.DayLemmas.{month_length_most, month_length_least}
-use Rattle.svc_base.proofs.CalendarLemmas.{day_after_within, day_after_beyond, day_after_least}
+use Rattle.svc_base.specs.Calendar.{month_of, first_day, day_after}
+use Rattle.svc_base.specs.DayLemmas.{month_length_least}
+use Rattle.svc_base.proofs.CalendarLemmas.{after_first, day_after_least}
 use Rattle.svc_types.specs.declared.terms.Terms.{Terms}
 use Rattle.svc_types.specs.declared.books.Books.{Books}
 use Rattle.svc_types.specs.declared.account.Entry.{Entry}
 use Rattle.svc_types.specs.declared.account.Event.{Event}
-use Rattle.svc_types.specs.declared.account.What.{What}
-use Rattle.svc_types.specs.declared.account.What.TheVariants as what
 use Rattle.svc_types.specs.Terms.{IsSound}
 use Rattle.svc_spec.specs.Installments.{due_month, due_day}
 use Rattle.svc_spec.specs.Step.{step}
-use Rattle.svc_spec.specs.Books.{HaveSigns, AreWithin, AreBooks, IsAct, IsWhat, start}
+use Rattle.svc_spec.specs.Books.{AreWithin, AreBooks, IsWhat, start}
 use Rattle.svc_spec.specs.Entries.{AreEntries}
 use Rattle.svc_spec.specs.Events.{month_mark, month_marks_from, month_marks, late_day, late_mark, late_marks_from, late_marks, up_to, event_of, entry_events, insert_event, by_day, events_to, folded}
 use Rattle.svc_spec.proofs.SettlingLemmas.{nat_le-true, nat_le-false, from_nat_le, from_not_nat_le}
@@ -128,27 +126,12 @@ months_since m (suc n) x h = All-cons (λ e. x ≤ e.day) (month_mark m) (month_
 -- up to 29 days after the first day of a month are not past the like of the next month
 late_step : (m n : ℕ) → n ≤ 29 → day_after (first_day m) n ≤ day_after (first_day (m + 1)) n
 late_step m n few =
-    let least = month_length_least m in
     let least' = month_length_least (m + 1) in
-    let month : month_of (first_day m) ≡ m = omega arith in
-    let place : day_in_month (first_day m) ≡ 1 = omega arith in
     let next = day_after_least (first_day (m + 1)) n in
-    elim (nat_le (1 + n) (month_length m)) as (λ v. nat_le (1 + n) (month_length m) ≡ v → day_after (first_day m) n ≤ day_after (first_day (m + 1)) n) [
-      | true ↦ λ e.
-          let fits = from_nat_le (1 + n) (month_length m) e in
-          omega (arith, day_after_within (first_day m) n (rw (month, place) fits))
-      | false ↦ λ e.
-          let past = from_not_nat_le (1 + n) (month_length m) e in
-          let is : IsDay (first_day m) = rw (month, place) (omega arith) in
-          let beyond = day_after_beyond (first_day m) n is (rw (month, place) past) in
-          let left : day_in_month (first_day m) + n - month_length (month_of (first_day m)) - 1 ≡ n - month_length m = rw (month, place) (omega arith) in
-          let later : first_day (month_of (first_day m) + 1) ≡ first_day (m + 1) = ap (λ x. first_day (x + 1)) month in
-          let steps = beyond ∙ ap (λ x. day_after x (day_in_month (first_day m) + n - month_length (month_of (first_day m)) - 1)) later ∙ ap (day_after (first_day (m + 1))) left in
-          let month' : month_of (first_day (m + 1)) ≡ m + 1 = omega arith in
-          let place' : day_in_month (first_day (m + 1)) ≡ 1 = omega arith in
-          let near = day_after_within (first_day (m + 1)) (n - month_length m) (rw (month', place') (omega arith)) in
-          omega arith
-    ] refl
+    elim (after_first m n few) as (λ either. day_after (first_day m) n ≤ day_after (first_day (m + 1)) n) [
+      | inl h ↦ omega (arith, h.0, h.1)
+      | inr h ↦ omega (arith, h.0, h.1)
+    ]
 
 pub late_day_rises : (t : Terms) (k : ℕ) → IsSound t → 1 ≤ k → late_day t k ≤ late_day t (k + 1)
 late_day_rises t k s low =

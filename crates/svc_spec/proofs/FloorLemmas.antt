@@ -1,13 +1,12 @@
 -- An escrow balance falls by what is paid out alone, so what a loan's books hold and have collected was
 -- received: the limits of every number that custody and reports are made of.
-use Rattle.std.proofs.Common.{◌≡◌, ℕ, ◌+◌, ◌≤◌, ◌*◌, true, false, List, [], ◌∷◌, length, arith, refl, sym, append-nil}
-use Rattle.std.specs.Prelude.{ℤ, pos, ◌+ℤ◌, ◌-ℤ◌, ◌≤ℤ◌, ◌&&◌, int_lt, int_le, nat_le, is_none, Some, if◌then◌else◌}
-use Rattle.std.specs.List.{All, filter}
+use Rattle.std.proofs.Common.{◌≡◌, ℕ, ◌+◌, ◌≤◌, true, false, List, [], ◌∷◌, arith, refl}
+use Rattle.std.specs.Prelude.{ℤ, pos, ◌+ℤ◌, ◌≤ℤ◌, ◌&&◌, int_lt, int_le, nat_le, is_none, Some, if◌then◌else◌}
+use Rattle.std.specs.List.{All}
 use Rattle.std.proofs.lemmas.Int.{ints, clamps}
-use Rattle.std.proofs.lemmas.List.Elements.{All-head, All-tail}
+use Rattle.std.proofs.lemmas.List.Elements.{All-head}
 use Rattle.svc_base.specs.Calendar.{month_of}
 use Rattle.svc_base.specs.Money.{share_bp}
-use Rattle.svc_base.specs.Sums.{total_by}
 use Rattle.svc_types.specs.declared.terms.Terms.{Terms}
 use Rattle.svc_types.specs.declared.books.Books.{Books}
 use Rattle.svc_types.specs.declared.account.Designation.{Designation}
@@ -19,10 +18,10 @@ use Rattle.svc_types.specs.declared.account.What.TheVariants as what
 use Rattle.svc_types.specs.Terms.{IsSound}
 use Rattle.svc_types.proofs.OrderLemmas.{live_all}
 use Rattle.svc_spec.specs.Installments.{due_month}
-use Rattle.svc_spec.specs.Payoff.{payoff_sum, escrow_advanced}
-use Rattle.svc_spec.specs.Settling.{moved_one, late_paid, late_taken, is_overdue, marked, settled_by, settled, due_settled}
-use Rattle.svc_spec.specs.Step.{paid_in, charged, to_principal, to_escrow, applied, paid, curtailed, paid_off, payoff_tried, deposited, from_suspense, refunded, analysed, happened, step, paid_out, paid_out_by}
-use Rattle.svc_spec.specs.Books.{IsEntryAmount, HaveSigns, AreBooks, IsWhat, start}
+use Rattle.svc_spec.specs.Payoff.{payoff_sum}
+use Rattle.svc_spec.specs.Settling.{moved_one, late_paid, late_taken, is_overdue, marked, settled_by}
+use Rattle.svc_spec.specs.Step.{paid_in, charged, to_principal, to_escrow, applied, paid, paid_off, payoff_tried, deposited, refunded, analysed, happened, step, paid_out_by}
+use Rattle.svc_spec.specs.Books.{IsEntryAmount, HaveSigns, IsWhat, start}
 use Rattle.svc_spec.specs.Events.{events_to, folded, books_at}
 use Rattle.svc_spec.specs.Accounts.{Account, live_of, books_of, IsAccount}
 use Rattle.svc_spec.specs.Totals as totals
@@ -30,8 +29,8 @@ use Rattle.svc_spec.proofs.InstallmentLemmas.{escrow_part_bounds}
 use Rattle.svc_spec.proofs.SettledLemmas.{settled_keeps}
 use Rattle.svc_spec.proofs.ActLemmas.{paid_keeps, from_suspense_bounds}
 use Rattle.svc_spec.proofs.WholeStep.{happened_marked_signs}
-use Rattle.svc_spec.proofs.EventLemmas.{CanFold, can_fold_step, can_fold_start, can_fold_events}
-use Rattle.svc_spec.proofs.AccountLemmas.{live_few, live_entries_fold}
+use Rattle.svc_spec.proofs.EventLemmas.{CanFold, can_fold_step}
+use Rattle.svc_spec.proofs.AccountLemmas.{account_folds, account_folded}
 use Rattle.svc_spec.proofs.TotalLemmas.{tally, tally_events, sum_paid_out}
 
 -- ---- settling takes nothing from escrow
@@ -124,9 +123,7 @@ unfolding books_at
 escrow_floor a h =
     let live = live_of a in
     let d = a.today in
-    let few = h.few in
-    let count : length live ≤ 4_096 = omega (arith, live_few a) in
-    let can = can_fold_start a.terms live d h.terms (live_entries_fold a h) count in
+    let can = account_folds a d h in
     let all = folded_escrow a.terms (start a.terms) (events_to a.terms live d) h.terms can in
     let early : All (λ e. e.day ≤ d) live = live_all (λ e. e.day ≤ d) a.entries a.reversals h.until in
     let outward = tally_events paid_out_by refl (λ k. refl) a.terms live d early in
@@ -140,8 +137,5 @@ pub record AreParts (b : Books) : Type 0 where
 pub account_parts : (a : Account) (d : ℕ) → IsAccount a → AreParts (books_of a d)
 unfolding books_at
 account_parts a d h =
-    let all = events_to a.terms (live_of a) d in
-    let few = h.few in
-    let count : length (live_of a) ≤ 4_096 = omega (arith, live_few a) in
-    let can = can_fold_events a.terms (live_of a) d all [] h.terms (live_entries_fold a h) count (sym (append-nil all)) in
+    let can = account_folded a d h in
     record { fee = can.bounded.backed.fee; curtailed = can.bounded.backed.curtailed }

@@ -6,7 +6,8 @@ use Rattle.svc_base.proofs.MoneyLemmas.{month_interest_low, month_interest_rises
 use Rattle.svc_types.specs.declared.terms.Terms.{Terms}
 use Rattle.svc_types.specs.declared.escrow.EscrowPlan.{EscrowPlan}
 use Rattle.svc_types.specs.Terms.{IsSound}
-use Rattle.svc_spec.specs.Installments.{level_principal, principal_part, asked, is_asked, escrow_of_plan, escrow_part, whole_part, due_month}
+use Rattle.svc_types.specs.LevelPayment.{level_principal}
+use Rattle.svc_spec.specs.Installments.{principal_part, asked, is_asked, escrow_of_plan, escrow_part, whole_part, due_month}
 use Rattle.svc_spec.specs.Books.{IsEntryAmount, IsPlan}
 
 -- a balance of a loan

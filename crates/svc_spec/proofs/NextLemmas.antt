@@ -1,5 +1,5 @@
 -- Which installment is open after some events.
-use Rattle.std.proofs.Common.{◌≡◌, ℕ, ◌+◌, ◌≤◌, true, false, List, [], ◌∷◌, length, arith, refl}
+use Rattle.std.proofs.Common.{◌≡◌, ℕ, ◌+◌, ◌≤◌, true, false, List, [], ◌∷◌, arith, refl}
 use Rattle.std.specs.Prelude.{ℤ, pos, ◌+ℤ◌, ◌&&◌, not, int_lt, int_le, nat_le, if◌then◌else◌}
 use Rattle.std.specs.Int.{int_min}
 use Rattle.std.proofs.lemmas.List.Elements.{All-head}
@@ -24,8 +24,8 @@ use Rattle.svc_spec.specs.Accounts.{Account, live_of, books_of, IsAccount}
 use Rattle.svc_spec.proofs.SettledLemmas.{Advances, advances_none, marked_next, settled_advances, settled_last}
 use Rattle.svc_spec.proofs.ActLemmas.{paid_in_signs}
 use Rattle.svc_spec.proofs.WholeStep.{happened_marked_signs}
-use Rattle.svc_spec.proofs.EventLemmas.{CanFold, can_fold_step, can_fold_events, start_next}
-use Rattle.svc_spec.proofs.AccountLemmas.{live_few, live_entries_fold}
+use Rattle.svc_spec.proofs.EventLemmas.{CanFold, can_fold_step, start_next}
+use Rattle.svc_spec.proofs.AccountLemmas.{account_folds}
 
 -- ---- what an event satisfies before settling: what is due, for a designated payment
 
@@ -132,7 +132,4 @@ pub books_last : (a : Account) (d : ℕ) → IsAccount a → (books_of a d).next
 unfolding books_at
 books_last a d h =
     let all = events_to a.terms (live_of a) d in
-    let few = h.few in
-    let count : length (live_of a) ≤ 4_096 = omega (arith, live_few a) in
-    let can = can_fold_events a.terms (live_of a) d [] all h.terms (live_entries_fold a h) count refl in
-    folded_last a.terms (start a.terms) all h.terms can (omega (arith, start_next a.terms))
+    folded_last a.terms (start a.terms) all h.terms (account_folds a d h) (omega (arith, start_next a.terms))

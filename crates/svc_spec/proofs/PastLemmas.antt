@@ -1,16 +1,16 @@
 -- The events past a day: which they are, and that the books of a later day are those of an earlier
 -- one, folded on over them.
-use Rattle.std.proofs.Common.{◌≡◌, ℕ, zero, suc, ◌+◌, ◌-◌, ◌≤◌, ◌<◌, Bool, true, false, cond, List, [], ◌∷◌, ◌++◌, length, map, drop, take, get_or, arith, refl, sym, ap, subst, ◌∙◌, length-append}
+use Rattle.std.proofs.Common.{◌≡◌, ℕ, zero, suc, ◌+◌, ◌-◌, ◌≤◌, ◌<◌, true, false, cond, List, [], ◌∷◌, ◌++◌, length, map, drop, take, arith, refl, sym, ap, subst, ◌∙◌, length-append}
 use Rattle.std.specs.Prelude.{nat_le, not, if◌then◌else◌}
-use Rattle.std.specs.List.{All, filter}
-use Rattle.std.proofs.lemmas.List.Elements.{All-cons, All-head, All-tail, All-append}
+use Rattle.std.specs.List.{All}
+use Rattle.std.proofs.lemmas.List.Elements.{All-cons, All-head, All-tail}
 use Rattle.svc_base.specs.Calendar.{month_of, first_day}
 use Rattle.svc_types.specs.declared.terms.Terms.{Terms}
 use Rattle.svc_types.specs.declared.books.Books.{Books}
 use Rattle.svc_types.specs.declared.account.Entry.{Entry}
 use Rattle.svc_types.specs.declared.account.Event.{Event}
 use Rattle.svc_types.specs.Terms.{IsSound}
-use Rattle.svc_spec.specs.Books.{AreBooks, start}
+use Rattle.svc_spec.specs.Books.{start}
 use Rattle.svc_spec.specs.Entries.{AreEntries}
 use Rattle.svc_spec.specs.Events.{month_mark, month_marks_from, month_marks, late_day, late_mark, late_marks_from, late_marks, up_to, event_of, entry_events, insert_event, by_day, events_to, folded, books_at}
 use Rattle.svc_spec.proofs.SettlingLemmas.{nat_le-true, nat_le-false, from_nat_le, from_not_nat_le}

@@ -1,5 +1,5 @@
 -- What was collected never falls, so a month's facts are amounts.
-use Rattle.std.proofs.Common.{◌≡◌, ℕ, ◌+◌, ◌-◌, ◌≤◌, ◌<◌, true, false, List, [], ◌∷◌, length, arith, refl, sym, ap, subst, ◌∙◌}
+use Rattle.std.proofs.Common.{◌≡◌, ℕ, ◌+◌, ◌-◌, ◌≤◌, ◌<◌, true, false, List, [], ◌∷◌, arith, refl, sym, ap, subst, ◌∙◌}
 use Rattle.std.specs.Prelude.{ℤ, pos, ◌+ℤ◌, ◌≤ℤ◌, ◌&&◌, int_lt, int_le, nat_le, nat_lt, is_none, Some, if◌then◌else◌}
 use Rattle.std.proofs.lemmas.Int.{ints, clamps}
 use Rattle.std.proofs.lemmas.List.Elements.{All-head}
@@ -28,7 +28,7 @@ use Rattle.svc_spec.proofs.SettledLemmas.{settled_keeps}
 use Rattle.svc_spec.proofs.ActLemmas.{paid_keeps}
 use Rattle.svc_spec.proofs.WholeStep.{happened_marked_signs, start_books}
 use Rattle.svc_spec.proofs.EventLemmas.{CanFold, can_fold_step, can_fold_events}
-use Rattle.svc_spec.proofs.AccountLemmas.{live_few, live_entries_fold, account_books}
+use Rattle.svc_spec.proofs.AccountLemmas.{live_entries_fold, account_few, account_folds, account_books}
 use Rattle.svc_spec.proofs.MonthLemmas.{boarded_some, before_boarded, from_boarded}
 use Rattle.svc_spec.proofs.TimeLemmas.{past, events_go_on, folded_on}
 
@@ -145,14 +145,11 @@ folded_rose t b (e ∷ es) s h =
 
 -- ---- the books of an account
 
-account_few : (a : Account) → IsAccount a → length (live_of a) ≤ 4_096
-account_few a h = let few = h.few in omega (arith, live_few a)
-
 pub account_rose_from_start : (a : Account) (d : ℕ) → IsAccount a → Rose (start a.terms) (books_of a d)
 unfolding books_at
 account_rose_from_start a d h =
     let all = events_to a.terms (live_of a) d in
-    let rose = folded_rose a.terms (start a.terms) all h.terms (can_fold_events a.terms (live_of a) d [] all h.terms (live_entries_fold a h) (account_few a h) refl) in
+    let rose = folded_rose a.terms (start a.terms) all h.terms (account_folds a d h) in
     record { curtailed = rose.curtailed; interest = rose.interest; fee = rose.fee }
 
 pub account_rose : (a : Account) (d d' : ℕ) → IsAccount a → d ≤ d' → Rose (books_of a d) (books_of a d')

@@ -1,8 +1,8 @@
 -- An entry changes no books of a day before its own, whether it comes or goes; nor does the business
 -- day.
-use Rattle.std.proofs.Common.{◌≡◌, ℕ, ◌≤◌, ◌<◌, Bool, true, false, cond, List, [], ◌∷◌, ◌++◌, length, map, get_or, arith, refl, sym, ap, subst, ◌∙◌}
-use Rattle.std.specs.Prelude.{◌==◌, not, nat_le, IfSome, Option, Some, None, if◌then◌else◌}
-use Rattle.std.specs.List.{All, filter, find}
+use Rattle.std.proofs.Common.{◌≡◌, ℕ, ◌<◌, true, false, cond, List, [], ◌∷◌, ◌++◌, get_or, arith, refl, sym, ap, ◌∙◌}
+use Rattle.std.specs.Prelude.{◌==◌, not, nat_le, IfSome, Option, Some, if◌then◌else◌}
+use Rattle.std.specs.List.{All, filter}
 use Rattle.std.proofs.lemmas.List.Elements.{All-head, All-tail}
 use Rattle.std.proofs.lemmas.Bool.Decides.{nat_tests}
 use Rattle.svc_types.specs.declared.terms.Terms.{Terms}
@@ -10,7 +10,7 @@ use Rattle.svc_types.specs.declared.account.Entry.{Entry}
 use Rattle.svc_types.specs.Live.{is_before, placed}
 use Rattle.svc_types.proofs.OrderLemmas.{live_all}
 use Rattle.svc_spec.specs.Books.{start}
-use Rattle.svc_spec.specs.Events.{month_marks, late_marks, up_to, event_of, entry_events, by_day, events_to, folded, books_at}
+use Rattle.svc_spec.specs.Events.{month_marks, late_marks, event_of, entry_events, by_day, events_to, folded, books_at}
 use Rattle.svc_spec.specs.Accounts.{Account, posted, reversed_in, advanced_to, live_of, books_of, entry_of, IsAccount, MayPost}
 use Rattle.svc_spec.proofs.SettlingLemmas.{nat_le-false}
 use Rattle.svc_spec.proofs.AccountLemmas.{live_after_post, live_after_reversal}

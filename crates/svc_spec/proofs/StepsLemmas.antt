@@ -1,29 +1,29 @@
 -- How many steps it takes to fold a loan's books on from one day to another.
-use Rattle.std.proofs.Common.{◌≡◌, ℕ, zero, suc, ◌+◌, ◌-◌, ◌*◌, ◌≤◌, ◌<◌, Bool, true, false, cond, List, [], ◌∷◌, ◌++◌, length, map, get_or, arith, refl, sym, ap, ◌∙◌, length-append}
-use Rattle.std.specs.Prelude.{nat_le, nat_lt, not, min, max, if◌then◌else◌}
+use Rattle.std.proofs.Common.{◌≡◌, ℕ, zero, suc, ◌+◌, ◌-◌, ◌≤◌, ◌<◌, true, false, cond, List, [], ◌∷◌, ◌++◌, length, map, get_or, arith, refl, inl, inr, ap, ◌∙◌, length-append}
+use Rattle.std.specs.Prelude.{nat_le, nat_lt, not, max}
 use Rattle.std.specs.List.{All, filter}
 use Rattle.std.proofs.lemmas.List.Elements.{All-head, All-tail}
 use Rattle.std.proofs.lemmas.Bool.Decides.{nat_tests}
-use Rattle.svc_base.specs.Calendar.{month_of, first_day, last_day, day_after, day_in_month, month_length, IsDay}
+use Rattle.svc_base.specs.Calendar.{month_of, first_day, last_day, day_after, IsDay}
 use Rattle.svc_base.specs.DayLemmas.{month_length_most, month_length_least}
-use Rattle.svc_base.proofs.CalendarLemmas.{day_after_within, day_after_beyond}
+use Rattle.svc_base.proofs.CalendarLemmas.{after_first}
 use Rattle.svc_types.specs.declared.terms.Terms.{Terms}
 use Rattle.svc_types.specs.declared.books.Books.{Books}
 use Rattle.svc_types.specs.declared.account.Entry.{Entry}
 use Rattle.svc_types.specs.declared.account.Event.{Event}
 use Rattle.svc_types.specs.Terms.{IsSound}
 use Rattle.svc_types.proofs.OrderLemmas.{live_all}
-use Rattle.svc_spec.specs.Installments.{due_month, due_day}
+use Rattle.svc_spec.specs.Installments.{due_month}
 use Rattle.svc_spec.specs.Step.{step}
 use Rattle.svc_spec.specs.Books.{start}
-use Rattle.svc_spec.specs.Events.{month_marks_from, month_marks, late_day, late_mark, late_marks_from, late_marks, up_to, event_of, entry_events, by_day, events_to, folded, books_at}
+use Rattle.svc_spec.specs.Events.{month_marks, late_day, late_mark, late_marks_from, late_marks, up_to, event_of, entry_events, events_to, folded, books_at}
 use Rattle.svc_spec.specs.Accounts.{Account, live_of, books_of, IsAccount}
-use Rattle.svc_spec.specs.Months.{books_at_end, entries_from, cost_of_month, counted}
+use Rattle.svc_spec.specs.Months.{books_at_end, cost_of_month, counted}
 use Rattle.svc_spec.proofs.SettlingLemmas.{from_nat_le, from_not_nat_le, nat_le-true}
 use Rattle.svc_spec.proofs.EventLemmas.{start_next}
 use Rattle.svc_spec.proofs.MonthLemmas.{boarded_some, day_by_end, before_boarded, past_month}
 use Rattle.svc_spec.proofs.NextLemmas.{step_advances, books_last}
-use Rattle.svc_spec.proofs.CostLemmas.{reached, by_day_length, months_length, late_within, books_reach}
+use Rattle.svc_spec.proofs.CostLemmas.{by_day_length, months_length, late_within, books_reach}
 use Rattle.svc_spec.proofs.TimeLemmas.{past}
 use Rattle.svc_spec.proofs.PastLemmas.{past_append, past_up_to, past_by_day, past_months, books_past, length_past}
 
@@ -77,24 +77,10 @@ late_soon q n few =
     let least = month_length_least q in
     let least' = month_length_least (q + 1) in
     let most = month_length_most q in
-    let month : month_of (first_day q) ≡ q = omega arith in
-    let place : day_in_month (first_day q) ≡ 1 = omega arith in
-    elim (nat_le (1 + n) (month_length q)) as (λ v. nat_le (1 + n) (month_length q) ≡ v → day_after (first_day q) n ≤ last_day (q + 1)) [
-      | true ↦ λ e.
-          let fits = from_nat_le (1 + n) (month_length q) e in
-          omega (arith, day_after_within (first_day q) n (rw (month, place) fits))
-      | false ↦ λ e.
-          let past = from_not_nat_le (1 + n) (month_length q) e in
-          let is : IsDay (first_day q) = rw (month, place) (omega arith) in
-          let beyond = day_after_beyond (first_day q) n is (rw (month, place) past) in
-          let left : day_in_month (first_day q) + n - month_length (month_of (first_day q)) - 1 ≡ n - month_length q = rw (month, place) (omega arith) in
-          let later : first_day (month_of (first_day q) + 1) ≡ first_day (q + 1) = ap (λ x. first_day (x + 1)) month in
-          let steps = beyond ∙ ap (λ x. day_after x (day_in_month (first_day q) + n - month_length (month_of (first_day q)) - 1)) later ∙ ap (day_after (first_day (q + 1))) left in
-          let month' : month_of (first_day (q + 1)) ≡ q + 1 = omega arith in
-          let place' : day_in_month (first_day (q + 1)) ≡ 1 = omega arith in
-          let near = day_after_within (first_day (q + 1)) (n - month_length q) (rw (month', place') (omega arith)) in
-          omega arith
-    ] refl
+    elim (after_first q n few) as (λ either. day_after (first_day q) n ≤ last_day (q + 1)) [
+      | inl h ↦ omega (arith, h.0, h.1)
+      | inr h ↦ omega (arith, h.0, h.1)
+    ]
 
 -- the grace of an installment that was due two months before a day, or earlier, is over by it
 pub late_by : (t : Terms) (k d : ℕ) → IsSound t → due_month t k + 2 ≤ month_of d → late_day t k ≤ d

@@ -1,6 +1,6 @@
 -- A loan's money is conserved: what its entries brought in, less what they paid out, is what its
 -- books hold and have collected.
-use Rattle.std.proofs.Common.{◌≡◌, ℕ, zero, suc, ◌+◌, ◌-◌, ◌≤◌, true, false, cond, List, [], ◌∷◌, ◌++◌, length, arith, refl, ap}
+use Rattle.std.proofs.Common.{◌≡◌, ℕ, zero, suc, ◌+◌, ◌-◌, ◌≤◌, true, false, cond, List, [], ◌∷◌, ◌++◌, arith, refl, ap}
 use Rattle.std.specs.Prelude.{ℤ, pos, ◌+ℤ◌, ◌-ℤ◌, nat_le, if◌then◌else◌}
 use Rattle.std.specs.List.{All, filter}
 use Rattle.std.proofs.lemmas.List.Elements.{All-head, All-tail}
@@ -26,8 +26,8 @@ use Rattle.svc_spec.specs.Accounts.{Account, live_of, books_of, IsAccount}
 use Rattle.svc_spec.specs.Totals.{sum_over, refunded_by, disbursed_by, reversed_of, received, returned, refunded, disbursed}
 use Rattle.svc_spec.proofs.SettlingLemmas.{nat_le-true}
 use Rattle.svc_spec.proofs.WholeStep.{step_total}
-use Rattle.svc_spec.proofs.EventLemmas.{CanFold, can_fold_step, can_fold_start}
-use Rattle.svc_spec.proofs.AccountLemmas.{live_few, live_entries_fold}
+use Rattle.svc_spec.proofs.EventLemmas.{CanFold, can_fold_step}
+use Rattle.svc_spec.proofs.AccountLemmas.{account_folds}
 
 -- ---- what the events bring in and pay out
 
@@ -128,9 +128,7 @@ unfolding books_at
 account_total a h =
     let live = live_of a in
     let d = a.today in
-    let few = h.few in
-    let count : length live ≤ 4_096 = omega (arith, live_few a) in
-    let can = can_fold_start a.terms live d h.terms (live_entries_fold a h) count in
+    let can = account_folds a d h in
     let all = folded_total a.terms (start a.terms) (events_to a.terms live d) h.terms can in
     let early : All (λ e. e.day ≤ d) live = live_all (λ e. e.day ≤ d) a.entries a.reversals h.until in
     let inward = tally_events brought_by refl (λ k. refl) a.terms live d early in

@@ -1,10 +1,11 @@
 -- The installments of a loan (1/01 uniform security instruments, covenant 2, in this product's
 -- profile): when each is due, and what it asks of a balance.
 use Rattle.std.specs.Prelude.{ℕ, ◌+◌, ◌-◌, ◌==◌, ◌&&◌, nat_lt, nat_le, Bool, Option, Some, None, ℤ, pos, ◌+ℤ◌, ◌-ℤ◌, int_lt, if◌then◌else◌}
-use Rattle.std.specs.Int.{int_min, int_max}
+use Rattle.std.specs.Int.{int_max}
 use Rattle.svc_base.specs.Calendar.{first_day}
 use Rattle.svc_base.specs.Money.{month_interest}
 use Rattle.svc_types.specs.declared.terms.Terms.{Terms}
+use Rattle.svc_types.specs.LevelPayment.{level_principal}
 use Rattle.svc_types.specs.declared.escrow.EscrowPlan.{EscrowPlan}
 use Rattle.svc_types.specs.declared.books.Books.{Books}
 use Rattle.svc_types.specs.declared.books.Installment.{Installment}
@@ -24,10 +25,6 @@ interest_part t upb = month_interest upb t.rate
 -- the servicing fee in it
 abbrev pub fee_part : Terms → ℤ → ℤ
 fee_part t upb = month_interest upb t.fee
-
--- the principal that the level payment leaves
-unfoldable pub level_principal : Terms → ℤ → ℤ
-level_principal t upb = int_min upb (t.pi -ℤ interest_part t upb)
 
 -- the principal of installment k; at the term it is all of the balance
 unfoldable pub principal_part : Terms → ℤ → ℕ → ℤ

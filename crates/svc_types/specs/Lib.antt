@@ -1,4 +1,6 @@
 pub mod Terms
+pub mod LevelPayment
+pub mod WorkedLoan
 pub mod Words
 pub mod Keys
 pub mod KeyLemmas

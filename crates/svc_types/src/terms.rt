@@ -2,7 +2,9 @@
 
 ghost use Rattle.std.specs.Prelude.{◌≡◌, ◌∷◌, [], IfErr, OnOk};
 ghost use Rattle.svc_types.specs.Terms.{term_fault, first_missed, IsSound};
-ghost use Rattle.svc_types.specs.declared.faults.TermFault.TheVariants.{Principal, RateRange, FeeRange, Payment, Term, FirstDue, Grace, Late, Cushion, EscrowPay};
+ghost use Rattle.svc_types.specs.declared.faults.TermFault.TheVariants.{Principal, RateRange, FeeRange, Payment};
+ghost use Rattle.svc_types.specs.declared.faults.TermFault.TheVariants.{Term, FirstDue, Grace};
+ghost use Rattle.svc_types.specs.declared.faults.TermFault.TheVariants.{Late, Cushion, EscrowPay};
 
 use crate::faults::TermFault;
 use svc_base::{Cents, Day, Month, Rate, month_interest};
@@ -61,8 +63,10 @@ impl Terms {
 
     /// The schedule, and what is asked beside it.
     fn check_others(&self) -> Result<(), TermFault>
-        ensures fault { IfErr result (λ fault. first_missed self.now (Term ∷ FirstDue ∷ Grace ∷ Late ∷ Cushion ∷ EscrowPay ∷ []) ≡ Some fault) }
-        ensures ok { OnOk result (first_missed self.now (Term ∷ FirstDue ∷ Grace ∷ Late ∷ Cushion ∷ EscrowPay ∷ []) ≡ None) }
+        ensures fault { IfErr result (λ fault.
+            first_missed self.now (Term ∷ FirstDue ∷ Grace ∷ Late ∷ Cushion ∷ EscrowPay ∷ []) ≡ Some fault) }
+        ensures ok { OnOk result
+            (first_missed self.now (Term ∷ FirstDue ∷ Grace ∷ Late ∷ Cushion ∷ EscrowPay ∷ []) ≡ None) }
     {
         self.check_schedule()?;
         self.check_charges()
@@ -70,8 +74,10 @@ impl Terms {
 
     /// Principal, rates and payment.
     fn check_interest(&self) -> Result<(), TermFault>
-        ensures fault { IfErr result (λ fault. first_missed self.now (Principal ∷ RateRange ∷ FeeRange ∷ Payment ∷ []) ≡ Some fault) }
-        ensures ok { OnOk result (first_missed self.now (Principal ∷ RateRange ∷ FeeRange ∷ Payment ∷ []) ≡ None) }
+        ensures fault { IfErr result (λ fault.
+            first_missed self.now (Principal ∷ RateRange ∷ FeeRange ∷ Payment ∷ []) ≡ Some fault) }
+        ensures ok { OnOk result
+            (first_missed self.now (Principal ∷ RateRange ∷ FeeRange ∷ Payment ∷ []) ≡ None) }
     {
         if self.principal < 1 || self.principal > 10_000_000_000 {
             return Err(TermFault::Principal);
@@ -90,7 +96,8 @@ impl Terms {
 
     /// Installments, their first due date and the days of grace.
     fn check_schedule(&self) -> Result<(), TermFault>
-        ensures fault { IfErr result (λ fault. first_missed self.now (Term ∷ FirstDue ∷ Grace ∷ []) ≡ Some fault) }
+        ensures fault { IfErr result (λ fault.
+            first_missed self.now (Term ∷ FirstDue ∷ Grace ∷ []) ≡ Some fault) }
         ensures ok { OnOk result (first_missed self.now (Term ∷ FirstDue ∷ Grace ∷ []) ≡ None) }
     {
         if self.term < 1 || self.term > 480 {
@@ -108,7 +115,8 @@ impl Terms {
 
     /// Late charge, cushion and escrow payment.
     fn check_charges(&self) -> Result<(), TermFault>
-        ensures fault { IfErr result (λ fault. first_missed self.now (Late ∷ Cushion ∷ EscrowPay ∷ []) ≡ Some fault) }
+        ensures fault { IfErr result (λ fault.
+            first_missed self.now (Late ∷ Cushion ∷ EscrowPay ∷ []) ≡ Some fault) }
         ensures ok { OnOk result (first_missed self.now (Late ∷ Cushion ∷ EscrowPay ∷ []) ≡ None) }
     {
         if self.late > 1_000 {

@@ -3,8 +3,8 @@
 
 ghost use Rattle.std.specs.Prelude.{◌≡◌, ◌≢◌, ◌<◌, ◌^◌, ◌++◌, ℕ, IfSome, IfNone, codes};
 ghost use Rattle.svc_base.specs.Text.{text_of_number};
-ghost use Rattle.svc_types.specs.Words.{text_of_type, text_of_kind, text_of_surplus, text_of_part, IsReadPart};
-ghost use Rattle.svc_types.specs.Words.{text_of_designation, IsNamed};
+ghost use Rattle.svc_types.specs.Words.{text_of_type, text_of_kind, text_of_surplus, text_of_part};
+ghost use Rattle.svc_types.specs.Words.{text_of_designation, IsReadPart, IsNamed};
 ghost use Rattle.svc_types.specs.declared.account.Designation as over;
 ghost use Rattle.svc_types.specs.declared.terms.RemitType as types;
 ghost use Rattle.svc_types.specs.declared.escrow.LineKind as kinds;

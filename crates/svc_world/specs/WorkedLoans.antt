@@ -5,6 +5,7 @@ use Rattle.std.specs.Option.{option_map}
 use Rattle.svc_types.specs.declared.terms.Terms.{Terms}
 use Rattle.svc_types.specs.declared.terms.RemitType.{RemitType}
 use Rattle.svc_types.specs.declared.terms.RemitType.TheVariants as remit
+use Rattle.svc_types.specs.WorkedLoan.{month_at, day_at, loan_with}
 use Rattle.svc_types.specs.declared.escrow.LineKind.TheVariants as line_kind
 use Rattle.svc_types.specs.declared.escrow.SurplusPlan.{SurplusPlan}
 use Rattle.svc_types.specs.declared.escrow.PartPlan.TheVariants as part_plan
@@ -26,29 +27,9 @@ use Rattle.svc_world.specs.Refusals.{refusal_of}
 use Rattle.svc_world.specs.Judging.{next_reply}
 use Rattle.svc_world.specs.Custody.{rows_in, custody_of}
 
--- a month and a day by their numbers in the calendar
-abbrev pub month_at : ℕ → ℕ → ℕ
-month_at y m = 12 * y + (m - 1)
-
-abbrev pub day_at : ℕ → ℕ → ℕ → ℕ
-day_at y m d = 31 * month_at y m + (d - 1)
-
 -- the loan, boarded in December 2023 and first due in February 2024
 abbrev pub loan_of : RemitType → Terms
-loan_of kind = record {
-  boarded = day_at 2023 12 15;
-  principal = pos 20_000_000;
-  rate = 6_000;
-  fee = 250;
-  pi = pos 119_910;
-  term = 360;
-  first = month_at 2024 2;
-  grace = 15;
-  late = 500;
-  cushion = 2;
-  escrow = pos 0;
-  kind = kind;
-}
+loan_of kind = loan_with kind 250 360
 
 -- a payment of an installment, and another amount
 abbrev pub pays : ℕ → ℤ → Command

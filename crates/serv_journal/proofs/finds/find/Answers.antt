@@ -1,6 +1,5 @@
-use Rattle.std.proofs.Common.{List, ℕ, drop, sym, ◌∙◌, refl, inl, inr}
+use Rattle.std.proofs.Common.{sym, ◌∙◌, refl, inl}
 use Rattle.serv_journal.specs.declared.format.Version.TheVariants.{One, Two}
-use Rattle.serv_journal.specs.Bytes.{Starts}
 use Rattle.serv_journal.specs.Format.{header}
 use Rattle.serv_journal.proofs.FindLemmas.{header_taken, front_new, no_text}
 use Rattle.serv_journal.proofs.finds.find.Goals as goal

@@ -1,6 +1,5 @@
-use Rattle.std.proofs.Common.{◌≡◌, ◌≤◌, ℕ, List, Some, [], ◌++◌, ◌∷◌, length, take, drop, ap, ◌∙◌, arith}
-use Rattle.std.proofs.lemmas.List.{drop_all, append-nil}
-use Rattle.serv_disk.specs.Disks.{Holds}
+use Rattle.std.proofs.Common.{◌≡◌, Some, [], ◌++◌, ◌∷◌, drop, ap, ◌∙◌, arith}
+use Rattle.std.proofs.lemmas.List.{drop_all}
 use Rattle.serv_journal.specs.Format.{base, header}
 use Rattle.serv_journal.proofs.OutcomeLemmas.{told_from}
 use Rattle.serv_journal.proofs.new_journal.init.Goals as goal

@@ -1,4 +1,4 @@
-use Rattle.std.proofs.Common.{◌∙◌, ap}
+use Rattle.std.proofs.Common.{◌∙◌}
 use Rattle.serv_journal.proofs.ReadingLemmas.{line_found}
 use Rattle.serv_journal.proofs.steps.line_at.Goals as goal
 

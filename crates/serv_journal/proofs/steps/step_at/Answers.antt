@@ -1,4 +1,4 @@
-use Rattle.std.proofs.Common.{◌≡◌, ◌<◌, length, drop, arith, ◌∙◌}
+use Rattle.std.proofs.Common.{◌<◌, length, arith, ◌∙◌}
 use Rattle.serv_journal.specs.Format.{body}
 use Rattle.serv_journal.proofs.StepLemmas.{step_marked, step_closed, step_record, step_bad}
 use Rattle.serv_journal.proofs.steps.step_at.Goals as goal

@@ -1,11 +1,11 @@
-use Rattle.std.proofs.Common.{◌≡◌, ℕ, ◌+◌, ◌*◌, ◌<◌, ◌≤◌, List, [], ◌∷◌, ◌++◌, length, take, arith, sym, ap, subst, ◌∙◌, length-append}
+use Rattle.std.proofs.Common.{◌≡◌, ℕ, ◌+◌, ◌<◌, List, [], ◌∷◌, ◌++◌, length, arith, sym, ap, subst, ◌∙◌, length-append}
 use Rattle.serv_disk.proofs.Moments.{joined}
 use Rattle.serv_journal.specs.declared.format.Version.TheVariants.{Two}
-use Rattle.serv_journal.specs.Format.{body, records, laid, commit_at}
+use Rattle.serv_journal.specs.Format.{body, laid, commit_at}
 use Rattle.serv_journal.specs.Reading.{lines_in}
 use Rattle.serv_journal.proofs.FormatLemmas.{length_of_body}
 use Rattle.serv_journal.proofs.ScanLemmas.{length_lines_in, records_least}
-use Rattle.serv_journal.proofs.UpgradeLemmas.{IsLaying, laying_first, laying_more, laid_first, laid_more, laid_long, total_more, records_part, records_more_long}
+use Rattle.serv_journal.proofs.UpgradeLemmas.{IsLaying, laying_first, laying_more, laid_first, laid_more, laid_long, total_more, records_part}
 use Rattle.serv_journal.proofs.upgrading.lay_all.Goals as goal
 
 pub loop-i-init : goal.loop-i-init

@@ -1,4 +1,4 @@
-use Rattle.std.proofs.Common.{◌<◌, ◌+◌, length, arith, ap, ◌∙◌}
+use Rattle.std.proofs.Common.{◌<◌, ◌+◌, length, arith, ap}
 use Rattle.serv_journal.specs.Reading.{lines_in}
 use Rattle.serv_journal.proofs.ScanLemmas.{length_lines_in}
 use Rattle.serv_journal.proofs.UpgradeLemmas.{total_more, too_long}

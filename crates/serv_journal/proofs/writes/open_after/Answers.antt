@@ -1,4 +1,4 @@
-use Rattle.std.proofs.Common.{ℕ, List, [], ◌∷◌, ◌++◌, inl, inr, arith}
+use Rattle.std.proofs.Common.{[], ◌∷◌, ◌++◌, inl, inr, arith}
 use Rattle.serv_disk.proofs.Moments.{weaker, joined}
 use Rattle.serv_journal.proofs.ByteLemmas.{staged_between, length_closed}
 use Rattle.serv_journal.proofs.writes.open_after.Goals as goal

@@ -2,7 +2,7 @@ use Rattle.std.proofs.Common.{◌≡◌, FitsSigned, w64, arith}
 use Rattle.std.proofs.lemmas.Int.{ints, clamps, to_z-of_z}
 use Rattle.svc_base.specs.Money.{month_interest}
 use Rattle.svc_base.proofs.MoneyLemmas.{month_interest_low}
-use Rattle.svc_spec.specs.Installments.{level_principal}
+use Rattle.svc_types.specs.LevelPayment.{level_principal}
 use Rattle.svc_apply.proofs.installment.level_principal.Goals as goal
 
 pub overflow_sub-terms : goal.overflow_sub-terms

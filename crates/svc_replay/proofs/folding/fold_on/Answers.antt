@@ -1,7 +1,5 @@
-use Rattle.std.proofs.Common.{◌≡◌, length, ap, sym, subst, ◌∙◌, arith}
-use Rattle.svc_base.specs.Calendar.{month_of}
+use Rattle.std.proofs.Common.{length, ap, sym, subst, ◌∙◌, arith}
 use Rattle.svc_types.specs.declared.books.Books.{Books}
-use Rattle.svc_types.specs.declared.account.Event.{Event}
 use Rattle.svc_spec.specs.Events.{events_to, books_at, folded}
 use Rattle.svc_spec.proofs.DayLemmas.{on}
 use Rattle.svc_spec.proofs.EventLemmas.{CanFold}

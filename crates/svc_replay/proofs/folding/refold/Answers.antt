@@ -1,8 +1,6 @@
-use Rattle.std.proofs.Common.{◌≡◌, length, ap, sym, ◌∙◌, arith}
+use Rattle.std.proofs.Common.{◌≡◌, length, ap, arith}
 use Rattle.svc_types.specs.declared.books.Books.{Books}
-use Rattle.svc_spec.specs.Books.{start}
-use Rattle.svc_spec.specs.Events.{events_to, books_at, folded}
-use Rattle.svc_spec.proofs.DayLemmas.{on}
+use Rattle.svc_spec.specs.Events.{events_to, books_at}
 use Rattle.svc_spec.proofs.EventLemmas.{can_fold_start, start_next}
 use Rattle.svc_replay.specs.Left.{left}
 use Rattle.svc_replay.proofs.LeftLemmas.{left_start}

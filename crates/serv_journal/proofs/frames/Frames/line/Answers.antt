@@ -1,4 +1,4 @@
-use Rattle.std.proofs.Common.{◌∙◌, ap}
+use Rattle.std.proofs.Common.{◌∙◌}
 use Rattle.serv_journal.proofs.ReadingLemmas.{line_at}
 use Rattle.serv_journal.proofs.frames.Frames.line.Goals as goal
 

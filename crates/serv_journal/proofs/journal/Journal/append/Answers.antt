@@ -1,8 +1,8 @@
-use Rattle.std.proofs.Common.{◌≡◌, ℕ, ◌+◌, List, length, sym, ap, ◌∙◌, arith}
+use Rattle.std.proofs.Common.{◌≡◌, ◌+◌, length, sym, ap, ◌∙◌, arith}
 use Rattle.serv_disk.proofs.Moments.{weaker}
 use Rattle.serv_journal.specs.declared.format.Version.TheVariants.{Two}
-use Rattle.serv_journal.specs.Format.{Form, base}
-use Rattle.serv_journal.specs.States.{JournalState, StandsFor}
+use Rattle.serv_journal.specs.Format.{base}
+use Rattle.serv_journal.specs.States.{JournalState}
 use Rattle.serv_journal.proofs.FormatLemmas.{opening_good, opened_whole, stands_push}
 use Rattle.serv_journal.proofs.journal.Journal.append.Goals as goal
 

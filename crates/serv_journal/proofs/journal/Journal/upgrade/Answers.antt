@@ -1,8 +1,8 @@
 use Rattle.std.proofs.Common.{◌≡◌, ℕ, ◌+◌, List, length, refl, sym, ap, ◌∙◌, arith}
 use Rattle.serv_disk.proofs.Moments.{weaker}
 use Rattle.serv_journal.specs.declared.format.Version.TheVariants.{One, Two}
-use Rattle.serv_journal.specs.Format.{Form, base, records}
-use Rattle.serv_journal.specs.States.{JournalState, StandsFor}
+use Rattle.serv_journal.specs.Format.{base, records}
+use Rattle.serv_journal.specs.States.{JournalState}
 use Rattle.serv_journal.specs.Reading.{lines_in}
 use Rattle.serv_journal.proofs.ScanLemmas.{length_lines_in, records_least}
 use Rattle.serv_journal.proofs.UpgradeLemmas.{rewritten_whole, rewritten_two, stands_upgraded}

@@ -1,4 +1,4 @@
-use Rattle.std.proofs.Common.{◌≡◌, ◌+◌, ◌<◌, length, arith, refl, ◌∙◌}
+use Rattle.std.proofs.Common.{◌+◌, ◌<◌, length, arith, refl, ◌∙◌}
 use Rattle.serv_journal.proofs.ReadingLemmas.{filled_more, reading_here, reading_on}
 use Rattle.serv_journal.proofs.window.Window.fill.Goals as goal
 

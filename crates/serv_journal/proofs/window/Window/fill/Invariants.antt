@@ -1,4 +1,4 @@
-use Rattle.std.proofs.Common.{◌≡◌, ℕ, ◌≤◌, List, length, take, drop, Some}
+use Rattle.std.proofs.Common.{◌≡◌, ℕ, List, take, drop, Some}
 use Rattle.serv_journal.specs.Windows.{IsReading}
 use Rattle.serv_journal.proofs.window.Window.fill.Given as goal
 

@@ -1,4 +1,4 @@
-use Rattle.std.proofs.Common.{rules, ℕ, ap, sym, ◌∙◌, refl}
+use Rattle.std.proofs.Common.{rules, ap, sym, ◌∙◌}
 use borrow.Rule.Slice.PartMut.{post_of}
 use Rattle.serv_journal.specs.Windows.{WindowState}
 use Rattle.serv_journal.proofs.StaysLemmas.{stays_here, stays_call}

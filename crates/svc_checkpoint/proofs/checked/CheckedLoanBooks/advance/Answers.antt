@@ -1,6 +1,6 @@
 use Rattle.std.proofs.Common.{◌≡◌, ◌+◌, length, sym, ap, ◌∙◌, arith}
 use Rattle.svc_base.specs.Calendar.{month_of}
-use Rattle.svc_spec.specs.Accounts.{Account, live_of}
+use Rattle.svc_spec.specs.Accounts.{live_of}
 use Rattle.svc_spec.specs.Months.{counted}
 use Rattle.svc_replay.specs.Kept.{Kept}
 use Rattle.svc_checkpoint.proofs.EndsLemmas.{own_day, checked_advance, within_advance}

@@ -1,5 +1,4 @@
 use Rattle.std.proofs.Common.{◌≡◌, length, sym, ap, arith}
-use Rattle.svc_base.specs.Calendar.{month_of}
 use Rattle.svc_spec.specs.Accounts.{Account, entry_of}
 use Rattle.svc_spec.specs.Months.{cost_of_month}
 use Rattle.svc_replay.specs.Kept.{Kept}

@@ -1,7 +1,6 @@
 use Rattle.std.proofs.Common.{◌≡◌, true, refl, sym, ap, ◌∙◌, rules}
 use Rattle.std.specs.Prelude.{◌==◌, not, is_some, None, Some}
 use Rattle.std.proofs.lemmas.Fn.{filter_same}
-use Rattle.svc_types.specs.declared.account.Entry.{Entry}
 use Rattle.svc_spec.specs.Accounts.{Account, entry_of, reverser_of}
 use Rattle.svc_replay.specs.Kept.{Kept, IsPlaceOf}
 use Rattle.svc_replay.proofs.KeptLemmas.{kept_reversed, place_there, noted_at, found_some, any_entry}

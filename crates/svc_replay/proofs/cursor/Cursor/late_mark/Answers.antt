@@ -1,4 +1,4 @@
-use Rattle.std.proofs.Common.{◌+◌, [], ◌≤◌, ◌<◌, arith, rules}
+use Rattle.std.proofs.Common.{[], ◌≤◌, ◌<◌, arith, rules}
 use Rattle.svc_replay.proofs.LeftLemmas.{late_past, late_some}
 use Rattle.svc_replay.proofs.cursor.Cursor.late_mark.Goals as goal
 
