@@ -141,10 +141,10 @@ closed_more a types n ds ds' cs cs' owed carry h kept next dues carries =
     let is = next_is a types n owed carry next in
     let month : next.facts.month ≡ b + n = ap (λ (f : MonthFacts). f.month) next.is_facts in
     let due' : owed ≡ due_in a types (b + n) =
-        next.is_due
-        ∙ ap (λ p. due_between p (carried_to a types n) carry) month
-        ∙ ap (λ c. due_between (b + n) (carried_to a types n) c) (is ∙ sym (next_carry a types n))
-        ∙ ap (λ c. due_between (b + n) c (carried_at a types (b + n))) (sym (carry_before a types n h)) in
+    next.is_due
+    ∙ ap (λ p. due_between p (carried_to a types n) carry) month
+    ∙ ap (λ c. due_between (b + n) (carried_to a types n) c) (is ∙ sym (next_carry a types n))
+    ∙ ap (λ c. due_between (b + n) c (carried_at a types (b + n))) (sym (carry_before a types n h)) in
     record {
       dues = dues ∙ ap (λ xs. xs ++ owed ∷ []) kept.dues ∙ ap (λ x. dues_to a types n ++ x ∷ []) due' ∙ sym (dues_more a types n);
       carries = carries ∙ ap (λ xs. xs ++ carry ∷ []) kept.carries ∙ ap (λ x. carries_to a types n ++ x ∷ []) (is ∙ sym (next_carry a types n)) ∙ sym (carries_more a types n);

@@ -1,3 +1,4 @@
 pub mod MovedLemmas
 pub mod ClosedLemmas
 pub mod LoanLemmas
+pub mod KeptLemmas

@@ -127,9 +127,9 @@ others_sum f rs number by (e ∷ es) h =
     let test' : is_reversed (rs ++ (number, by) ∷ []) e.number ≡ is_reversed rs e.number = test ∙ or_false (is_reversed rs e.number) in
     ap (λ v. sum_over f (cond v (e ∷ filter (λ (x : Entry). is_reversed (rs ++ (number, by) ∷ []) x.number) es) (filter (λ (x : Entry). is_reversed (rs ++ (number, by) ∷ []) x.number) es))) test'
     ∙ (elim (is_reversed rs e.number) as (λ v. sum_over f (cond v (e ∷ filter (λ (x : Entry). is_reversed (rs ++ (number, by) ∷ []) x.number) es) (filter (λ (x : Entry). is_reversed (rs ++ (number, by) ∷ []) x.number) es)) ≡ sum_over f (cond v (e ∷ filter (λ (x : Entry). is_reversed rs x.number) es) (filter (λ (x : Entry). is_reversed rs x.number) es))) [
-        | true ↦ ap (λ z. f e.act +ℤ z) rest
-        | false ↦ rest
-      ])
+      | true ↦ ap (λ z. f e.act +ℤ z) rest
+      | false ↦ rest
+    ])
   where
     or_false : (b : Bool) → (b || false) ≡ b
     or_false true = refl
@@ -156,9 +156,9 @@ one_more f rs number by (x ∷ xs) e rising found fresh =
           let same : is_reversed (rs ++ (number, by) ∷ []) x.number ≡ is_reversed rs x.number = named_more rs number by x.number ∙ ap (λ v. is_reversed rs x.number || v) apart ∙ or_false (is_reversed rs x.number) in
           ap (λ v. sum_over f (cond v (x ∷ filter (λ (y : Entry). is_reversed (rs ++ (number, by) ∷ []) y.number) xs) (filter (λ (y : Entry). is_reversed (rs ++ (number, by) ∷ []) y.number) xs))) same
           ∙ (elim (is_reversed rs x.number) as (λ v. sum_over f (cond v (x ∷ filter (λ (y : Entry). is_reversed (rs ++ (number, by) ∷ []) y.number) xs) (filter (λ (y : Entry). is_reversed (rs ++ (number, by) ∷ []) y.number) xs)) ≡ sum_over f (cond v (x ∷ filter (λ (y : Entry). is_reversed rs y.number) xs) (filter (λ (y : Entry). is_reversed rs y.number) xs)) +ℤ f e.act) [
-              | true ↦ omega (arith, ints, rest)
-              | false ↦ rest
-            ])
+            | true ↦ omega (arith, ints, rest)
+            | false ↦ rest
+          ])
     ] refl found
   where
     or_false : (b : Bool) → (b || false) ≡ b

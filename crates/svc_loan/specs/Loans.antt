@@ -1,5 +1,5 @@
 -- All loans that are kept, by rising number.
-use Rattle.std.specs.Prelude.{◌≡◌, ℕ, ◌<◌, ◌==◌, nat_lt, Bool, List, [], ◌∷◌, map, Option, if◌then◌else◌, MatchOption, ℤ}
+use Rattle.std.specs.Prelude.{◌≡◌, ℕ, ◌<◌, ◌==◌, nat_lt, Bool, List, [], ◌∷◌, map, length, get_or, Option, Some, None, if◌then◌else◌, MatchOption, ℤ}
 use Rattle.std.specs.List.{AllPairs, find}
 use Rattle.svc_world.specs.Held.{Held}
 use Rattle.svc_loan.specs.Kept.{KeptLoan}
@@ -38,3 +38,8 @@ OfLoan id ks P = MatchOption (find_kept id ks) ⊥ P
 abbrev pub with_kept : KeptLoan → List KeptLoan → List KeptLoan
 with_kept k [] = k ∷ []
 with_kept k (j ∷ js) = if nat_lt k.held.id j.held.id then k ∷ j ∷ js else j ∷ with_kept k js
+
+-- the place of the loan with a number, where it is there
+abbrev pub IsPlaceIn : ℕ → List KeptLoan → Option ℕ → Type 0
+IsPlaceIn id ks None = find_kept id ks ≡ None
+IsPlaceIn id ks (Some i) = (i < length ks) × ((d : KeptLoan) → find_kept id ks ≡ Some (get_or ks i d))

@@ -111,8 +111,8 @@ impl<B: LoanBooks> Loan<B> {
         ensures remitted { self.new.remitted ≡ self.old.remitted }
         ensures steps { steps.new ≤ steps.old
             + B.cost self.new.held.account (month_number entry.now.day)
-            + closed.closed_cost B.month_cost self.new.held.account self.old.closed
-                (month_number entry.now.day) }
+            + closed.closed_cost B.month_cost self.new.held.account self.new.closed
+            (month_number entry.now.day) }
     {
         self.books.is_account();
         self.moved = self.moved.with_entry(&entry.act);
@@ -133,8 +133,8 @@ impl<B: LoanBooks> Loan<B> {
         ensures remitted { self.new.remitted ≡ self.old.remitted }
         ensures steps { steps.new ≤ steps.old
             + B.cost self.new.held.account (month_number entry.now.day)
-            + closed.closed_cost B.month_cost self.new.held.account self.old.closed
-                (month_number entry.now.day) }
+            + closed.closed_cost B.month_cost self.new.held.account self.new.closed
+            (month_number entry.now.day) }
     {
         self.books.is_account();
         reverse_reserved(&mut self.books, entry, by, steps);
@@ -170,7 +170,7 @@ impl<B: LoanBooks> Loan<B> {
         ensures closed { self.new.closed ≡ self.old.closed }
         ensures remitted { self.new.remitted ≡ self.old.remitted }
         ensures steps { steps.new ≤ steps.old
-            + closed.closed_cost B.month_cost self.new.held.account self.old.closed from }
+            + closed.closed_cost B.month_cost self.new.held.account self.new.closed from }
     {
         self.types.add(TypeChange { from, kind });
         let stay = months_since(&self.books, from);

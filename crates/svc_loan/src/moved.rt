@@ -79,7 +79,8 @@ fn brought(act: &Act) -> Cents
     ensures high { result ≤ℤ pos 100_000_000_000_000 }
 {
     match act {
-        Act::Pay(cents, _) | Act::Curtail(cents) | Act::Payoff(cents) | Act::Deposit(cents) => *cents,
+        Act::Pay(cents, _) | Act::Curtail(cents) | Act::Payoff(cents) | Act::Deposit(cents) =>
+            *cents,
         Act::Disburse(..) | Act::Refund(_) | Act::Waive(_) | Act::Analyse(_) => 0,
     }
 }

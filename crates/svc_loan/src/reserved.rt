@@ -12,7 +12,11 @@ use svc_replay::LoanBooks;
 use svc_types::Entry;
 
 /// Adds an entry.
-pub(crate) fn post_reserved<B: LoanBooks, L: Ledger>(books: &mut B, entry: &Entry, steps: &mut Steps<L>)
+pub(crate) fn post_reserved<B: LoanBooks, L: Ledger>(
+    books: &mut B,
+    entry: &Entry,
+    steps: &mut Steps<L>,
+)
     requires entry { rule.MayPost (B.account books.old) entry.now }
     requires few { length (B.account books.old).entries < most_entries }
     requires room { 1 ≤ (B.room books.old).entries }
@@ -50,7 +54,11 @@ pub(crate) fn reverse_reserved<B: LoanBooks, L: Ledger>(
 }
 
 /// Moves the business day on.
-pub(crate) fn advance_reserved<B: LoanBooks, L: Ledger>(books: &mut B, today: Day, steps: &mut Steps<L>)
+pub(crate) fn advance_reserved<B: LoanBooks, L: Ledger>(
+    books: &mut B,
+    today: Day,
+    steps: &mut Steps<L>,
+)
     requires later { (B.account books.old).today ≤ today }
     requires room { month_number today ≤ month_number (B.account books.old).today + (B.room books.old).months }
     ensures account { B.account books.new ≡ rule.advanced_to today (B.account books.old) }

@@ -47,17 +47,17 @@ returns-clause-kept g c =
     let count : length c.deref.result.now ≡ n = ap length (c.deref.ensures.value ∙ c.requires.kept.carries) ∙ carries_length a types n in
     let terms = c.terms-terms.ensures in
     let month : c.add_months-month.result ≡ month_number a.terms.boarded + n =
-        c.add_months-month.ensures ∙ ap (λ m. m + c.len.result) (c.month_of.ensures ∙ ap (λ (t : Terms). month_number t.boarded) terms) ∙ ap (λ k. month_number a.terms.boarded + k) c.len.ensures in
+    c.add_months-month.ensures ∙ ap (λ m. m + c.len.result) (c.month_of.ensures ∙ ap (λ (t : Terms). month_number t.boarded) terms) ∙ ap (λ k. month_number a.terms.boarded + k) c.len.ensures in
     let before : c.last_carry-carry.result ≡ carried_to a types n = c.last_carry-carry.ensures ∙ ap (carried_to a types) count in
     closed_more a types n c.args.months.now.dues.items c.push_reserved.new.self.items c.args.months.now.carries.items c.push_reserved-2.new.self.items c.due-owed.result c.due-owed.new.carry c.requires.may.account c.requires.kept
-        (record {
-          facts = c.month-facts.result;
-          kind = c.kind_in.result;
-          is_facts = c.month-facts.ensures.facts ∙ ap (month_facts a) month;
-          is_kind = c.kind_in.ensures ∙ ap (λ (t : Terms). kind_in t types c.add_months-month.result) terms ∙ ap (kind_in a.terms types) month;
-          is_carry = c.due-owed.ensures.carry
-              ∙ ap (λ (t : Terms). carried_after t c.last_carry-carry.result (loan_month c.kind_in.result c.month-facts.result)) terms
-              ∙ ap (λ (x : Carry). carried_after a.terms x (loan_month c.kind_in.result c.month-facts.result)) before;
-          is_due = c.due-owed.ensures.due ∙ ap (λ (x : Carry). due_between c.month-facts.result.month x c.due-owed.new.carry) before;
-        })
-        c.push_reserved.ensures.items c.push_reserved-2.ensures.items
+    (record {
+      facts = c.month-facts.result;
+      kind = c.kind_in.result;
+      is_facts = c.month-facts.ensures.facts ∙ ap (month_facts a) month;
+      is_kind = c.kind_in.ensures ∙ ap (λ (t : Terms). kind_in t types c.add_months-month.result) terms ∙ ap (kind_in a.terms types) month;
+      is_carry = c.due-owed.ensures.carry
+          ∙ ap (λ (t : Terms). carried_after t c.last_carry-carry.result (loan_month c.kind_in.result c.month-facts.result)) terms
+          ∙ ap (λ (x : Carry). carried_after a.terms x (loan_month c.kind_in.result c.month-facts.result)) before;
+      is_due = c.due-owed.ensures.due ∙ ap (λ (x : Carry). due_between c.month-facts.result.month x c.due-owed.new.carry) before;
+    })
+    c.push_reserved.ensures.items c.push_reserved-2.ensures.items

@@ -27,7 +27,7 @@ redo-requires-clause-stays g c =
     let may : MayPost a e = subst (λ (v : KeptLoan). MayPost v.held.account e) (sym c.self.view_is) c.requires.entry in
     let since = may.since in
     let stay : month_number a.terms.boarded + c.months_since-stay.result ≤ month_number e.day =
-        (let m = c.months_since-stay.ensures in let d = c.month_of.ensures in let same = ap (λ (x : Account). month_number x.terms.boarded) is in omega arith) in
+    (let m = c.months_since-stay.ensures in let d = c.month_of.ensures in let same = ap (λ (x : Account). month_number x.terms.boarded) is in omega arith) in
     posted_stays a (g.B.LoanBooks.account c.post_reserved.new.books) types e (vec_len c.self.inside.months.dues) c.months_since-stay.result c.self.inside.months.dues.items c.self.inside.months.carries.items c.is_account.ensures may is stay c.self.invariant.kept
 
 pub invariant_of-self : goal.invariant_of-self

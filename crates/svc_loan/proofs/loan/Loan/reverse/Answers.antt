@@ -22,7 +22,7 @@ redo-requires-clause-stays g c =
     let found : entry_of a e.number ≡ Some e = subst (λ (v : KeptLoan). entry_of v.held.account e.number ≡ Some e) (sym c.self.view_is) c.requires.entry in
     let since = c.reverse_reserved.ensures.since in
     let stay : month_number a.terms.boarded + c.months_since-stay.result ≤ month_number e.day =
-        (let m = c.months_since-stay.ensures in let d = c.month_of.ensures in let same = ap (λ (x : Account). month_number x.terms.boarded) is in omega arith) in
+    (let m = c.months_since-stay.ensures in let d = c.month_of.ensures in let same = ap (λ (x : Account). month_number x.terms.boarded) is in omega arith) in
     reversed_stays a (g.B.LoanBooks.account c.reverse_reserved.new.books) types e.number c.args.by e (vec_len c.self.inside.months.dues) c.months_since-stay.result c.self.inside.months.dues.items c.self.inside.months.carries.items c.is_account.ensures found is stay c.self.invariant.kept
 
 pub invariant_of-self : goal.invariant_of-self
