@@ -1,10 +1,10 @@
 -- Loans by rising number: where one is found, and what a change of one, or one loan more, leaves.
-use Rattle.std.proofs.Common.{◌≡◌, ◌≢◌, ℕ, zero, suc, ◌+◌, ◌-◌, ◌≤◌, ◌<◌, Bool, true, false, cond, List, [], ◌∷◌, map, length, get_or, arith, refl, sym, ap, subst, ◌∙◌}
+use Rattle.std.proofs.Common.{◌≡◌, ◌≢◌, ℕ, zero, suc, ◌≤◌, ◌<◌, true, false, cond, List, [], ◌∷◌, map, length, get_or, arith, refl, sym, ap, ◌∙◌}
 use Rattle.std.proofs.Math.ListN.{set}
 use Rattle.std.proofs.Math.ListN.{get_or-map as get_mapped}
 use Rattle.std.proofs.Math.Seq.{map-set_same}
-use Rattle.std.specs.Prelude.{◌==◌, nat_lt, is_some, Option, Some, None, MatchOption, if◌then◌else◌}
-use Rattle.std.specs.List.{All, AllPairs, find, insert}
+use Rattle.std.specs.Prelude.{ℤ, ◌+ℤ◌, ◌==◌, nat_lt, is_some, Some, None, MatchOption, Result, Ok, Err, OnOk, if◌then◌else◌}
+use Rattle.std.specs.List.{All, find, insert}
 use Rattle.std.specs.List.Sorted.{IsPartitionPoint}
 use Rattle.std.specs.Option.{option_map}
 use Rattle.std.proofs.lemmas.Bool.Decides.{nat_tests}
@@ -15,7 +15,7 @@ use Rattle.svc_types.proofs.OrderLemmas.{pairs_head, pairs_tail}
 use Rattle.svc_spec.proofs.FindLemmas.{Rises, found_at, absent_at}
 use Rattle.svc_world.specs.Held.{Held, changed, with_loan}
 use Rattle.svc_loan.specs.Kept.{KeptLoan}
-use Rattle.svc_loan.specs.Loans.{Rise, OfLoan, IsPlaceIn, find_kept, with_kept, held_in, closed_in, remitted_in}
+use Rattle.svc_loan.specs.Loans.{Rise, OfLoan, IsPlaceIn, find_kept, with_kept, held_in, closed_in, remitted_in, remitted_by}
 
 -- ---- what stands behind pointers
 
@@ -48,7 +48,7 @@ place_absent v xs n i h point other =
 -- ---- one loan changed
 
 -- loans with the numbers of others rise where these do
-numbers_rise : (ks js : List KeptLoan) → map (λ (k : KeptLoan). k.held.id) ks ≡ map (λ (k : KeptLoan). k.held.id) js → Rise js → Rise ks
+pub numbers_rise : (ks js : List KeptLoan) → map (λ (k : KeptLoan). k.held.id) ks ≡ map (λ (k : KeptLoan). k.held.id) js → Rise js → Rise ks
 numbers_rise ks js same h i j d lt within =
     let f : KeptLoan → ℕ = λ k. k.held.id in
     let count : length ks ≡ length js = sym (length-map ks f) ∙ ap length same ∙ length-map js f in
@@ -211,3 +211,94 @@ change_behind v xs id i x y f rise place leaves =
       closed = changed_closed ks i id d (v y) f h;
       remitted = changed_remitted ks i id d (v y) f h;
     })
+
+-- a loan whose number no other has, put in before the first larger number, leaves rising numbers
+pub with_rises : (k : KeptLoan) (ks : List KeptLoan) → Rise ks → find_kept k.held.id ks ≡ None → Rise (with_kept k ks)
+with_rises k [] h none = λ i j d lt within. absurd (omega arith)
+with_rises k (j ∷ js) h none =
+    let above = pairs_head (λ (a b : KeptLoan). a.held.id < b.held.id) j js h in
+    let rest = pairs_tail (λ (a b : KeptLoan). a.held.id < b.held.id) j js h in
+    let apart = head_apart j js k.held.id none in
+    elim (nat_lt k.held.id j.held.id) as (λ b. nat_lt k.held.id j.held.id ≡ b → Rise (if b then k ∷ j ∷ js else j ∷ with_kept k js)) [
+      | true ↦ λ e.
+          let lt : k.held.id < j.held.id = grind (arith, nat_tests) in
+          AllPairs-cons (λ (a b : KeptLoan). a.held.id < b.held.id) k (j ∷ js) (All-cons (λ (b : KeptLoan). k.held.id < b.held.id) j js lt (λ i d within. (let up = above i d within in omega arith))) h
+      | false ↦ λ e.
+          let ge : j.held.id < k.held.id = grind (arith, nat_tests) in
+          AllPairs-cons (λ (a b : KeptLoan). a.held.id < b.held.id) j (with_kept k js) (with_above j.held.id k js ge above) (with_rises k js rest (tail_none j js k.held.id apart none))
+    ] refl
+  where
+    head_apart : (j : KeptLoan) (js : List KeptLoan) (n : ℕ) → find_kept n (j ∷ js) ≡ None → (j.held.id == n) ≡ false
+    head_apart j js n = elim (j.held.id == n) as (λ b. cond b (Some j) (find_kept n js) ≡ None → b ≡ false) [
+      | true ↦ λ e. absurd (cc)
+      | false ↦ λ e. refl
+    ]
+
+    tail_none : (j : KeptLoan) (js : List KeptLoan) (n : ℕ) → (j.held.id == n) ≡ false → find_kept n (j ∷ js) ≡ None → find_kept n js ≡ None
+    tail_none j js n apart e = rw apart at e
+
+    with_above : (n : ℕ) (k : KeptLoan) (js : List KeptLoan) → n < k.held.id → All (λ (b : KeptLoan). n < b.held.id) js → All (λ (b : KeptLoan). n < b.held.id) (with_kept k js)
+    with_above n k [] lt all = All-cons (λ (b : KeptLoan). n < b.held.id) k [] lt all
+    with_above n k (x ∷ xs) lt all = elim (nat_lt k.held.id x.held.id) as (λ b. All (λ (b : KeptLoan). n < b.held.id) (if b then k ∷ x ∷ xs else x ∷ with_kept k xs)) [
+      | true ↦ All-cons (λ (b : KeptLoan). n < b.held.id) k (x ∷ xs) lt all
+      | false ↦ All-cons (λ (b : KeptLoan). n < b.held.id) x (with_kept k xs) (All-head (λ (b : KeptLoan). n < b.held.id) x xs all) (with_above n k xs lt (All-tail (λ (b : KeptLoan). n < b.held.id) x xs all))
+    ]
+
+-- ---- a loan of which the books, lines and types stay
+
+-- loans of which one has more room, or more was remitted for it
+pub record Stays (ks js : List KeptLoan) (id : ℕ) (k : KeptLoan) : Type 0 where
+  pub rise : Rise js
+  pub found : find_kept id js ≡ Some k
+  pub held : held_in js ≡ held_in ks
+  pub closed : closed_in js ≡ closed_in ks
+
+pub stay_behind : {X : Type 0} (v : X → KeptLoan) (xs : List X) (id i : ℕ) (x y : X) → Rise (map v xs) → IsPlaceIn id (map v xs) (Some i) → (v y).held ≡ (v (get_or xs i x)).held → (v y).closed ≡ (v (get_or xs i x)).closed → Stays (map v xs) (map v (set xs i y)) id (v y)
+stay_behind v xs id i x y rise place held closed =
+    let ks = map v xs in
+    let d = v x in
+    let here : get_or ks i d ≡ v (get_or xs i x) = get_mapped v xs i x in
+    let number = number_found id ks (get_or ks i d) (place.1 d) in
+    let held' = held ∙ ap (λ (k : KeptLoan). k.held) (sym here) in
+    let same = map-set v xs i y in
+    rw same (record {
+      rise = numbers_rise (set ks i (v y)) ks (map-set_same (λ (k : KeptLoan). k.held.id) ks i (v y) d (ap (λ (l : Held). l.id) held')) rise;
+      found = set_found ks i id d (v y) rise place.0 number (ap (λ (l : Held). l.id) held' ∙ number);
+      held = map-set_same (λ (k : KeptLoan). k.held) ks i (v y) d held';
+      closed = map-set_same (λ (k : KeptLoan). k.closed) ks i (v y) d (closed ∙ ap (λ (k : KeptLoan). k.closed) (sym here));
+    })
+
+pub remitted_stays : {X : Type 0} (v : X → KeptLoan) (xs : List X) (i : ℕ) (x y : X) → (v y).remitted ≡ (v (get_or xs i x)).remitted → remitted_in (map v (set xs i y)) ≡ remitted_in (map v xs)
+remitted_stays v xs i x y same =
+    ap remitted_in (map-set v xs i y) ∙ map-set_same (λ (k : KeptLoan). k.remitted) (map v xs) i (v y) (v x) (same ∙ ap (λ (k : KeptLoan). k.remitted) (sym (get_mapped v xs i x)))
+
+-- the loans after one have other numbers
+later_remitted : (id : ℕ) (cents : ℤ) (ks : List KeptLoan) → All (λ (k : KeptLoan). id < k.held.id) ks → map (remitted_by id cents) ks ≡ remitted_in ks
+later_remitted id cents [] h = refl
+later_remitted id cents (k ∷ ks) h =
+    let above : id < k.held.id = All-head (λ (x : KeptLoan). id < x.held.id) k ks h in
+    let other : (k.held.id == id) ≡ false = grind (arith, nat_tests) in
+    rw other (ap (λ zs. k.remitted ∷ zs) (later_remitted id cents ks (All-tail (λ (x : KeptLoan). id < x.held.id) k ks h)))
+
+set_remitted : (ks : List KeptLoan) (i id : ℕ) (d k : KeptLoan) (cents : ℤ) → Rise ks → i < length ks → (get_or ks i d).held.id ≡ id → k.remitted ≡ (get_or ks i d).remitted +ℤ cents → remitted_in (set ks i k) ≡ map (remitted_by id cents) ks
+set_remitted [] i id d k cents h lt is new = absurd (omega arith)
+set_remitted (x ∷ xs) zero id d k cents h lt is new =
+    let here : (x.held.id == id) ≡ true = grind (arith, nat_tests) in
+    let above : All (λ (y : KeptLoan). id < y.held.id) xs = λ j e within. (let up = pairs_head (λ (a b : KeptLoan). a.held.id < b.held.id) x xs h j e within in omega (arith, up, is)) in
+    rw here (ap (λ z. z ∷ remitted_in xs) new ∙ ap (λ zs. (x.remitted +ℤ cents) ∷ zs) (sym (later_remitted id cents xs above)))
+set_remitted (x ∷ xs) (suc i) id d k cents h lt is new =
+    let below = pairs_head (λ (a b : KeptLoan). a.held.id < b.held.id) x xs h i d (omega arith) in
+    let other : (x.held.id == id) ≡ false = grind (arith, nat_tests) in
+    rw other (ap (λ zs. x.remitted ∷ zs) (set_remitted xs i id d k cents (pairs_tail (λ (a b : KeptLoan). a.held.id < b.held.id) x xs h) (omega arith) is new))
+
+pub remitted_rises : {X : Type 0} (v : X → KeptLoan) (xs : List X) (id i : ℕ) (x y : X) (cents : ℤ) → Rise (map v xs) → IsPlaceIn id (map v xs) (Some i) → (v y).remitted ≡ (v (get_or xs i x)).remitted +ℤ cents → remitted_in (map v (set xs i y)) ≡ map (remitted_by id cents) (map v xs)
+remitted_rises v xs id i x y cents rise place new =
+    let ks = map v xs in
+    let d = v x in
+    let here : get_or ks i d ≡ v (get_or xs i x) = get_mapped v xs i x in
+    let number = number_found id ks (get_or ks i d) (place.1 d) in
+    ap remitted_in (map-set v xs i y) ∙ set_remitted ks i id d (v y) cents rise place.0 number (new ∙ ap (λ (k : KeptLoan). k.remitted +ℤ cents) (sym here))
+
+pub on_ok : {T E : Type 0} (r : Result T E) (P Q : Type 0) → (P → Q) → OnOk r P → OnOk r Q
+on_ok (Ok x) P Q f h = f h
+on_ok (Err e) P Q f h = h

@@ -2,3 +2,4 @@ pub mod MovedLemmas
 pub mod ClosedLemmas
 pub mod LoanLemmas
 pub mod KeptLemmas
+pub mod EachLemmas

@@ -1,6 +1,6 @@
 -- What a loan's calls leave of what is kept of it.
-use Rattle.std.proofs.Common.{◌≡◌, ℕ, ◌+◌, ◌-◌, ◌≤◌, ◌<◌, min, true, false, List, [], ◌∷◌, ◌++◌, map, take, length, cond, arith, refl, sym, ap, subst, ◌∙◌}
-use Rattle.std.specs.Prelude.{nat_le, ◌==◌, Some, None}
+use Rattle.std.proofs.Common.{◌≡◌, ℕ, ◌+◌, ◌≤◌, ◌<◌, min, true, false, List, [], ◌∷◌, ◌++◌, take, cond, arith, refl, sym, ap, subst, ◌∙◌}
+use Rattle.std.specs.Prelude.{nat_le, ◌==◌, Some}
 use Rattle.std.specs.List.{All, find}
 use Rattle.std.proofs.lemmas.List.Elements.{All-head, All-tail}
 use Rattle.std.proofs.lemmas.Bool.Decides.{nat_tests}
@@ -10,7 +10,7 @@ use Rattle.svc_types.specs.declared.requests.TypeChange.{TypeChange}
 use Rattle.svc_types.specs.declared.account.Entry.{Entry}
 use Rattle.svc_types.specs.declared.terms.Terms.{Terms}
 use Rattle.svc_spec.specs.Books.{IsAct}
-use Rattle.svc_spec.specs.Accounts.{Account, IsAccount, MayBegin, MayPost, entry_of, reverser_of, begun, posted, reversed_in, advanced_to}
+use Rattle.svc_spec.specs.Accounts.{Account, IsAccount, MayBegin, MayPost, entry_of, begun, posted, reversed_in, advanced_to}
 use Rattle.svc_spec.proofs.AccountLemmas.{begun_account}
 use Rattle.remit_types.specs.declared.dues.MonthDue.{MonthDue}
 use Rattle.remit_types.specs.declared.dues.Carry.{Carry}

@@ -1,6 +1,6 @@
 -- What entries brought in and paid out: its limits, and what one more entry or reversal adds to it.
-use Rattle.std.proofs.Common.{◌≡◌, ℕ, ◌*◌, ◌≤◌, ◌<◌, Bool, true, false, cond, List, [], ◌∷◌, ◌++◌, length, ◌+◌, arith, refl, sym, ap, ◌∙◌}
-use Rattle.std.specs.Prelude.{ℤ, pos, ◌+ℤ◌, ◌-ℤ◌, ◌≤ℤ◌, ◌==◌, ◌||◌, Option, Some, None}
+use Rattle.std.proofs.Common.{◌≡◌, ℕ, ◌*◌, ◌≤◌, ◌<◌, Bool, true, false, cond, List, [], ◌∷◌, ◌++◌, length, ◌+◌, arith, refl, ap, ◌∙◌}
+use Rattle.std.specs.Prelude.{ℤ, pos, ◌+ℤ◌, ◌-ℤ◌, ◌==◌, ◌||◌, Option, Some, None}
 use Rattle.std.specs.List.{All, AllPairs, filter, find, list_any}
 use Rattle.std.specs.Option.{option_map}
 use Rattle.std.proofs.lemmas.Bool.Decides.{nat_tests}
@@ -17,12 +17,12 @@ use Rattle.svc_spec.specs.Books.{IsAct}
 use Rattle.svc_spec.specs.Step.{brought}
 use Rattle.svc_spec.specs.Accounts.{Account, IsAccount, MayPost, live_of, entry_of, reverser_of, posted, reversed_in}
 use Rattle.svc_spec.specs.Totals.{sum_over, refunded_by, disbursed_by, reversed_of, received, returned, refunded, disbursed}
-use Rattle.svc_spec.proofs.AccountLemmas.{live_few, filter_length, live_after_post, not_yet_reversed}
+use Rattle.svc_spec.proofs.AccountLemmas.{live_few, filter_length, live_after_post}
 use Rattle.svc_spec.proofs.TotalLemmas.{sum_placed, sum_live}
 use Rattle.svc_loan.specs.declared.moved.Moved.{Moved}
 use Rattle.svc_loan.specs.Moved.{moved_of, with_act, with_reversed, AreMoved}
 use Rattle.svc_world.proofs.SumsWithin.{IsUpTo, total_up_to}
-use Rattle.svc_world.proofs.LimitedLemmas.{received_posted, refunded_posted}
+use Rattle.svc_world.proofs.LimitedLemmas.{received_posted}
 
 -- ---- limits
 

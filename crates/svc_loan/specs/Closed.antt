@@ -1,5 +1,5 @@
 -- What is kept of a loan's closed months, which follow one another from the boarded month on.
-use Rattle.std.specs.Prelude.{◌≡◌, ℕ, ◌+◌, ◌-◌, ◌≤◌, ◌<◌, List, map, length, sum_by}
+use Rattle.std.specs.Prelude.{◌≡◌, ℕ, ◌+◌, ◌-◌, ◌≤◌, ◌<◌, List, map, sum_by}
 use Rattle.std.specs.List.{range_with_len}
 use Rattle.svc_base.specs.Calendar.{month_of, months_end}
 use Rattle.svc_types.specs.declared.requests.TypeChange.{TypeChange}

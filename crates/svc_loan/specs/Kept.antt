@@ -1,6 +1,7 @@
 -- A loan as it is kept: what is held of it, how many of its months are closed, what was remitted for it, and
 -- for how much more there is room.
-use Rattle.std.specs.Prelude.{ℕ, List, ℤ}
+use Rattle.std.specs.Prelude.{ℕ, ◌+◌, ◌≤◌, List, ℤ}
+use Rattle.svc_base.specs.Calendar.{month_of}
 use Rattle.svc_types.specs.declared.requests.TypeChange.{TypeChange}
 use Rattle.svc_spec.specs.Accounts.{Account}
 use Rattle.svc_replay.specs.Kept.{Room}
@@ -32,3 +33,11 @@ most_types = 64
 -- a loan of these parts
 abbrev pub held_of : ℕ → Account → List Line → List TypeChange → Held
 held_of id a lines types = record { id = id; account = a; lines = lines; types = types }
+
+-- a loan has room for one more entry, reversal, change of type and closed month, and for a business day
+pub record IsReady (today : ℕ) (k : KeptLoan) : Type 0 where
+  pub entry : 1 ≤ k.room.books.entries
+  pub reversal : 1 ≤ k.room.books.reversals
+  pub months : month_of today ≤ month_of k.held.account.today + k.room.books.months
+  pub closing : 1 ≤ k.room.closings
+  pub types : 1 ≤ k.room.types

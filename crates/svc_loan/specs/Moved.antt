@@ -1,5 +1,5 @@
 -- What a loan's entries brought in and paid out, as numbers that run along.
-use Rattle.std.specs.Prelude.{ℕ, ◌+◌, ◌≤◌, length, ℤ, pos, ◌+ℤ◌, ◌-ℤ◌, ◌≤ℤ◌}
+use Rattle.std.specs.Prelude.{◌+◌, ◌≤◌, length, ℤ, pos, ◌+ℤ◌, ◌-ℤ◌, ◌≤ℤ◌}
 use Rattle.svc_types.specs.declared.account.Act.{Act}
 use Rattle.svc_spec.specs.Step.{brought}
 use Rattle.svc_spec.specs.Accounts.{Account}

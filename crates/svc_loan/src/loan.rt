@@ -15,7 +15,7 @@ ghost use Rattle.svc_world.specs.Held as held;
 ghost use Rattle.svc_world.specs.LoanDues.{type_change, carry_of, due_of};
 ghost use Rattle.svc_world.specs.Custody.{due_sum};
 ghost use Rattle.svc_loan.specs.Closed as closed;
-ghost use Rattle.svc_loan.specs.Kept.{most_types};
+ghost use Rattle.svc_loan.specs.Kept.{IsReady};
 ghost use Rattle.svc_loan.specs.Moved.{moved_of};
 
 use crate::closed::{ClosedMonths, close_next, last_carry, redo, total_due};
@@ -235,12 +235,7 @@ impl<B: LoanBooks> Loan<B> {
         ensures held { self.new.held ≡ self.old.held }
         ensures closed { self.new.closed ≡ self.old.closed }
         ensures remitted { self.new.remitted ≡ self.old.remitted }
-        ensures entry { OnOk result (1 ≤ self.new.room.books.entries) }
-        ensures reversal { OnOk result (1 ≤ self.new.room.books.reversals) }
-        ensures months { OnOk result (month_number today
-            ≤ month_number self.new.held.account.today + self.new.room.books.months) }
-        ensures closing { OnOk result (1 ≤ self.new.room.closings) }
-        ensures type_room { OnOk result (1 ≤ self.new.room.types) }
+        ensures ready { OnOk result (IsReady today self.new) }
     {
         self.books.reserve(today)?;
         self.types.reserve()?;

@@ -1,7 +1,7 @@
 //! All loans, by rising number.
 
-ghost use Rattle.std.specs.Prelude.{◌≡◌, ◌+◌, ◌≤◌, ◌<◌, [], length, map, nat_lt, true, false, is_some, None, Some, OnOk};
-ghost use Rattle.std.specs.List.{list_any};
+ghost use Rattle.std.specs.Prelude.{◌≡◌, ◌+◌, ◌≤◌, ◌<◌, [], length, map, nat_lt, true, false, is_some, slice_index_or, None, Some, OnOk, pos, neg_ℤ, ◌+ℤ◌, ◌≤ℤ◌};
+ghost use Rattle.std.specs.List.{All, list_any, sum_by};
 ghost use Rattle.std.specs.Option.{option_map};
 ghost use Rattle.std.specs.List.Sorted.{IsPartitionPoint};
 ghost use Rattle.svc_base.specs.Calendar.{month_of as month_number};
@@ -12,13 +12,15 @@ ghost use Rattle.svc_world.specs.Held as held;
 ghost use Rattle.svc_world.specs.LoanDues.{type_change};
 ghost use Rattle.svc_loan.specs.Closed as closed;
 ghost use Rattle.svc_loan.specs.Loans.{Rise, IsPlaceIn, OfLoan, find_kept, with_kept, held_in, closed_in, remitted_in};
+ghost use Rattle.svc_loan.specs.Kept.{IsReady};
+ghost use Rattle.svc_loan.specs.Loans.{remitted_by, MayCloseMonth, closed_by, advance_cost, close_cost};
 
 use crate::loan::Loan;
 use escrow_lines::Line;
 use std::alloc::Global;
 use std::marker::Model;
 use std::sync::ledger::Ledger;
-use svc_base::{Month, OutOfMemory, Steps};
+use svc_base::{Cents, Day, Month, OutOfMemory, Steps, month_of};
 use svc_replay::LoanBooks;
 use svc_types::{Entry, RemitType};
 
@@ -76,11 +78,67 @@ impl<B: LoanBooks> Loans<B> {
         Some(&self.loans[place])
     }
 
+    /// The loan at a place, in the order of numbers.
+    pub fn at(&self, place: usize) -> &Loan<B>
+        requires { place < length self.now.loans }
+        ensures { result.now ≡ slice_index_or self.now.loans place result.now }
+    {
+        &self.loans[place]
+    }
+
+    /// Makes room in a loan for one more entry, reversal, change of type and closed month, and for a
+    /// business day; fails for want of memory alone.
+    pub fn reserve_for(&mut self, id: u32, today: Day) -> Result<(), OutOfMemory>
+        requires { is_some (find_kept id self.old.loans) ≡ true }
+        ensures held { held_in self.new.loans ≡ held_in self.old.loans }
+        ensures closed { closed_in self.new.loans ≡ closed_in self.old.loans }
+        ensures remitted { remitted_in self.new.loans ≡ remitted_in self.old.loans }
+        ensures loan_room { self.new.room ≡ self.old.room }
+        ensures ready { OnOk result (OfLoan id self.new.loans (IsReady today)) }
+    {
+        let place = place_there(&self.loans, id);
+        let loan = &mut self.loans[place];
+        loan.reserve(today)
+    }
+
+    /// Makes room in all loans for one more entry, reversal, change of type and closed month, and for a
+    /// business day; fails for want of memory alone.
+    pub fn reserve_all(&mut self, today: Day) -> Result<(), OutOfMemory>
+        ensures held { held_in self.new.loans ≡ held_in self.old.loans }
+        ensures closed { closed_in self.new.loans ≡ closed_in self.old.loans }
+        ensures remitted { remitted_in self.new.loans ≡ remitted_in self.old.loans }
+        ensures loan_room { self.new.room ≡ self.old.room }
+        ensures ready { OnOk result (All (IsReady today) self.new.loans) }
+    {
+        for i in 0..self.loans.len() {
+            let loan = &mut self.loans[i];
+            loan.reserve(today)?;
+        }
+        Ok(())
+    }
+
+    /// Adds what a report sends for a loan, in cents, to what was remitted for it.
+    pub fn remit(&mut self, id: u32, cents: Cents)
+        requires low { OfLoan id self.old.loans
+            (λ k. neg_ℤ (pos 1_000_000_000_000_000_000) ≤ℤ (k.remitted +ℤ cents)) }
+        requires high { OfLoan id self.old.loans
+            (λ k. (k.remitted +ℤ cents) ≤ℤ pos 1_000_000_000_000_000_000) }
+        ensures held { held_in self.new.loans ≡ held_in self.old.loans }
+        ensures closed { closed_in self.new.loans ≡ closed_in self.old.loans }
+        ensures remitted { remitted_in self.new.loans ≡ map (remitted_by id cents) self.old.loans }
+        ensures loan_room { self.new.room ≡ self.old.room }
+    {
+        let place = place_there(&self.loans, id);
+        let loan = &mut self.loans[place];
+        loan.remit(cents);
+    }
+
     /// Takes a loan on, whose number no other loan has and for which there is room.
     pub fn insert(&mut self, loan: Box<Loan<B>>)
         requires new { find_kept loan.value.held.id self.old.loans ≡ None }
         requires room { 1 ≤ self.old.room }
-        ensures { self.new.loans ≡ with_kept loan.value self.old.loans }
+        ensures loans { self.new.loans ≡ with_kept loan.value self.old.loans }
+        ensures held { held_in self.new.loans ≡ held.with_loan loan.value.held (held_in self.old.loans) }
     {
         let place = place_for(&self.loans, loan.id());
         match self.loans.insert(place, loan) {
@@ -172,6 +230,52 @@ impl<B: LoanBooks> Loans<B> {
         let place = place_there(&self.loans, id);
         let loan = &mut self.loans[place];
         loan.drop_line(line);
+    }
+
+    /// Moves the business day of all loans on, for which each has room.
+    pub fn advance<L: Ledger>(&mut self, today: Day, steps: &mut Steps<L>)
+        requires later { All (λ k. k.held.account.today ≤ today) self.old.loans }
+        requires room { All (λ k. month_number today
+            ≤ month_number k.held.account.today + k.room.books.months) self.old.loans }
+        ensures held { held_in self.new.loans ≡ map (held.on_day today) (held_in self.old.loans) }
+        ensures closed { closed_in self.new.loans ≡ closed_in self.old.loans }
+        ensures remitted { remitted_in self.new.loans ≡ remitted_in self.old.loans }
+        ensures loan_room { self.new.room ≡ self.old.room }
+        ensures steps { steps.new ≤ steps.old + sum_by (advance_cost B.cost today) self.old.loans }
+    {
+        for i in 0..self.loans.len() {
+            let loan = &mut self.loans[i];
+            loan.advance(today, steps);
+        }
+    }
+
+    /// Closes a month of all loans that were boarded by it: of each it is the one after the last closed
+    /// one, it has ended, and there is room for it.
+    pub fn close<L: Ledger>(&mut self, month: Month, steps: &mut Steps<L>)
+        requires { All (MayCloseMonth month) self.old.loans }
+        ensures held { held_in self.new.loans ≡ held_in self.old.loans }
+        ensures closed { closed_in self.new.loans ≡ map (closed_by month) self.old.loans }
+        ensures remitted { remitted_in self.new.loans ≡ remitted_in self.old.loans }
+        ensures loan_room { self.new.room ≡ self.old.room }
+        ensures steps { steps.new ≤ steps.old + sum_by (close_cost B.month_cost month) self.old.loans }
+    {
+        for i in 0..self.loans.len() {
+            let loan = &mut self.loans[i];
+            close_one(loan, month, steps);
+        }
+    }
+}
+
+/// Closes a month of a loan, where it was boarded by it.
+fn close_one<B: LoanBooks, L: Ledger>(loan: &mut Loan<B>, month: Month, steps: &mut Steps<L>)
+    requires { MayCloseMonth month loan.old }
+    ensures held { loan.new.held ≡ loan.old.held }
+    ensures closed { loan.new.closed ≡ closed_by month loan.old }
+    ensures remitted { loan.new.remitted ≡ loan.old.remitted }
+    ensures steps { steps.new ≤ steps.old + close_cost B.month_cost month loan.old }
+{
+    if month_of(loan.terms().boarded).number() <= month.number() {
+        loan.close_month(steps);
     }
 }
 

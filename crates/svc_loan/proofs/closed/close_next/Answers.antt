@@ -1,11 +1,11 @@
-use Rattle.std.proofs.Common.{◌≡◌, ◌+◌, ◌≤◌, vec_len, length, arith, sym, ap, ◌∙◌}
+use Rattle.std.proofs.Common.{◌≡◌, ◌+◌, vec_len, length, arith, sym, ap, ◌∙◌}
 use Rattle.svc_base.specs.Calendar.{month_of as month_number}
 use Rattle.svc_types.specs.declared.terms.Terms.{Terms}
 use Rattle.svc_spec.specs.Months.{month_facts}
 use Rattle.remit_types.specs.Dues.{carried_after, loan_month, due_between}
 use Rattle.remit_types.specs.declared.dues.Carry.{Carry}
 use Rattle.svc_world.specs.LoanDues.{carried_to, kind_in}
-use Rattle.svc_world.proofs.CarryLemmas.{IsCarryOf, account_carry}
+use Rattle.svc_world.proofs.CarryLemmas.{account_carry}
 use Rattle.svc_loan.specs.Closed as rule
 use Rattle.svc_loan.proofs.ClosedLemmas.{carries_length, closed_more, closings_few}
 use Rattle.svc_loan.proofs.closed.close_next.Goals as goal

@@ -1,4 +1,4 @@
-use Rattle.std.proofs.Common.{◌≡◌, ◌+◌, ◌-◌, ◌≤◌, vec_len, arith, sym, ap, subst}
+use Rattle.std.proofs.Common.{◌≡◌, ◌+◌, ◌-◌, vec_len, arith, sym, ap, subst}
 use Rattle.svc_base.specs.Calendar.{month_of as month_number}
 use Rattle.svc_loan.specs.Closed as rule
 use Rattle.svc_loan.proofs.ClosedLemmas.{cost_more}

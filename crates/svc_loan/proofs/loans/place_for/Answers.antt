@@ -1,4 +1,4 @@
-use Rattle.std.proofs.Common.{◌≡◌, rules, Box, Global}
+use Rattle.std.proofs.Common.{rules, Box, Global}
 use Rattle.std.specs.Prelude.{nat_lt}
 use Rattle.std.proofs.lemmas.List.Sorted.{IsPartitionPoint-from_clause}
 use Rattle.svc_spec.proofs.FindLemmas.{rising_partitioned}

@@ -1,5 +1,5 @@
-use Rattle.std.proofs.Common.{◌≡◌, ◌≢◌, ◌<◌, length, map, get_or, true, false, sym, ap, subst, ◌∙◌, arith, Box, Global}
-use Rattle.std.specs.Prelude.{◌==◌, Some}
+use Rattle.std.proofs.Common.{◌≡◌, ◌≢◌, get_or, sym, ap, subst, ◌∙◌, arith, Box, Global}
+use Rattle.std.specs.Prelude.{Some}
 use Rattle.std.proofs.lemmas.List.{length-map, get_or-map}
 use Rattle.svc_loan.specs.Kept.{KeptLoan}
 use Rattle.svc_loan.proofs.KeptLemmas.{place_found, place_absent, other_number}

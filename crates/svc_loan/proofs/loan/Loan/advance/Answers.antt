@@ -1,4 +1,4 @@
-use Rattle.std.proofs.Common.{◌≡◌, ◌+◌, ◌≤◌, ◌<◌, vec_len, refl, arith, sym, ap, subst, ◌∙◌}
+use Rattle.std.proofs.Common.{◌≤◌, ◌<◌, vec_len, refl, arith, sym, ap, subst, ◌∙◌}
 use Rattle.svc_base.specs.Calendar.{month_of as month_number, months_end}
 use Rattle.svc_spec.specs.Accounts.{Account, IsAccount}
 use Rattle.svc_loan.specs.Closed.{MayClose}

@@ -1,5 +1,4 @@
-use Rattle.std.proofs.Common.{map, to_z, of_z, ◌≡◌, ◌+◌, ◌≤◌, vec_len, length, w64, arith, sym, ap, subst, ◌∙◌}
-use Rattle.std.specs.Prelude.{ℤ, ◌+ℤ◌, ◌-ℤ◌}
+use Rattle.std.proofs.Common.{map, to_z, of_z, ◌≡◌, vec_len, length, w64, arith, ap, subst, ◌∙◌}
 use Rattle.std.proofs.lemmas.Int.{ints}
 use Rattle.std.specs.List.{range_with_len}
 use Rattle.svc_base.specs.Sums.{total_by}

@@ -1,6 +1,6 @@
-use Rattle.std.proofs.Common.{◌≡◌, ◌+◌, ◌-◌, ◌≤◌, vec_len, arith, sym, ap, subst, ◌∙◌}
+use Rattle.std.proofs.Common.{◌+◌, ◌≤◌, vec_len, arith, sym, ap, subst, ◌∙◌}
 use Rattle.svc_base.specs.Calendar.{month_of as month_number}
-use Rattle.svc_spec.specs.Accounts.{Account, IsAccount, MayPost, posted}
+use Rattle.svc_spec.specs.Accounts.{Account, IsAccount, MayPost}
 use Rattle.svc_loan.specs.Closed.{MayClose}
 use Rattle.svc_loan.specs.Moved.{moved_of, with_act, AreMoved}
 use Rattle.svc_loan.specs.Kept.{KeptLoan}

@@ -1,6 +1,5 @@
-use Rattle.std.proofs.Common.{◌≡◌, ◌+◌, ◌≤◌, vec_len, arith, sym, ap, subst}
+use Rattle.std.proofs.Common.{◌+◌, ◌≤◌, vec_len, arith, sym, subst}
 use Rattle.svc_base.specs.Calendar.{month_of as month_number}
-use Rattle.svc_loan.specs.Closed.{AreClosed}
 use Rattle.svc_loan.specs.Kept.{KeptLoan}
 use Rattle.svc_world.specs.LoanDues.{type_change}
 use Rattle.svc_loan.proofs.LoanLemmas.{retyped_stays}

@@ -2,10 +2,10 @@ use Rattle.std.proofs.Common.{◌≡◌, ◌+◌, ◌≤◌, ◌<◌, Box, Globa
 use Rattle.std.specs.Prelude.{Some}
 use Rattle.std.specs.Box.{with_value}
 use Rattle.std.proofs.Math.ListN.{set}
-use Rattle.svc_world.specs.Held.{Held, changed}
+use Rattle.svc_world.specs.Held.{changed}
 use Rattle.svc_loan.specs.Kept.{KeptLoan}
-use Rattle.svc_loan.specs.Loans.{KeptLoans, OfLoan, IsPlaceIn, find_kept, held_in, closed_in, remitted_in}
-use Rattle.svc_loan.proofs.KeptLemmas.{Changed, of_found, found_of, is_there, at_place, change_behind}
+use Rattle.svc_loan.specs.Loans.{KeptLoans, IsPlaceIn, find_kept, held_in, closed_in, remitted_in}
+use Rattle.svc_loan.proofs.KeptLemmas.{Changed, of_found, found_of, at_place, change_behind}
 use Rattle.svc_base.specs.Calendar.{month_of as month_number}
 use Rattle.svc_loan.specs.Closed.{closed_cost}
 use Rattle.svc_spec.specs.Accounts.{MayPost}

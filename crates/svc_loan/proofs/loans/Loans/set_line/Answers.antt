@@ -1,11 +1,11 @@
-use Rattle.std.proofs.Common.{◌≡◌, ◌+◌, ◌≤◌, ◌<◌, Box, Global, map, length, get_or, refl, sym, ap, subst, ◌∙◌}
+use Rattle.std.proofs.Common.{◌≡◌, Box, Global, map, get_or, refl, sym, ap, subst, ◌∙◌}
 use Rattle.std.specs.Prelude.{Some}
 use Rattle.std.specs.Box.{with_value}
 use Rattle.std.proofs.Math.ListN.{set}
-use Rattle.svc_world.specs.Held.{Held, changed}
+use Rattle.svc_world.specs.Held.{changed}
 use Rattle.svc_loan.specs.Kept.{KeptLoan}
-use Rattle.svc_loan.specs.Loans.{KeptLoans, OfLoan, IsPlaceIn, find_kept, held_in, closed_in, remitted_in}
-use Rattle.svc_loan.proofs.KeptLemmas.{Changed, of_found, found_of, is_there, at_place, change_behind}
+use Rattle.svc_loan.specs.Loans.{KeptLoans, IsPlaceIn, find_kept, held_in, closed_in, remitted_in}
+use Rattle.svc_loan.proofs.KeptLemmas.{Changed, of_found, at_place, change_behind}
 use Rattle.std.specs.Prelude.{None}
 use Rattle.escrow_lines.specs.BillLists.{set_fault}
 use Rattle.svc_world.specs.Held.{with_bill}
