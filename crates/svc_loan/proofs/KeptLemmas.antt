@@ -1,0 +1,304 @@
+-- Loans by rising number: where one is found, and what a change of one, or one loan more, leaves.
+use Rattle.std.proofs.Common.{◌≡◌, ◌≢◌, ℕ, zero, suc, ◌≤◌, ◌<◌, true, false, cond, List, [], ◌∷◌, map, length, get_or, arith, refl, sym, ap, ◌∙◌}
+use Rattle.std.proofs.Math.ListN.{set}
+use Rattle.std.proofs.Math.ListN.{get_or-map as get_mapped}
+use Rattle.std.proofs.Math.Seq.{map-set_same}
+use Rattle.std.specs.Prelude.{ℤ, ◌+ℤ◌, ◌==◌, nat_lt, is_some, Some, None, MatchOption, Result, Ok, Err, OnOk, if◌then◌else◌}
+use Rattle.std.specs.List.{All, find, insert}
+use Rattle.std.specs.List.Sorted.{IsPartitionPoint}
+use Rattle.std.specs.Option.{option_map}
+use Rattle.std.proofs.lemmas.Bool.Decides.{nat_tests}
+use Rattle.std.proofs.lemmas.List.{map-set, length-map, get_or_default}
+use Rattle.std.proofs.lemmas.List.Elements.{All-cons, All-head, All-tail}
+use Rattle.std.proofs.lemmas.List.Kept.{AllPairs-cons}
+use Rattle.svc_types.proofs.OrderLemmas.{pairs_head, pairs_tail}
+use Rattle.svc_spec.proofs.FindLemmas.{Rises, found_at, absent_at}
+use Rattle.svc_world.specs.Held.{Held, changed, with_loan}
+use Rattle.svc_loan.specs.Kept.{KeptLoan}
+use Rattle.svc_loan.specs.Loans.{Rise, OfLoan, IsPlaceIn, find_kept, with_kept, held_in, closed_in, remitted_in, remitted_by}
+
+-- ---- what stands behind pointers
+
+-- the numbers rise behind pointers too
+pub rise_behind : {X : Type 0} (v : X → KeptLoan) (xs : List X) → Rise (map v xs) → Rises (λ x. (v x).held.id) xs
+rise_behind v xs h i j d lt within =
+    let low = ap (λ (k : KeptLoan). k.held.id) (get_mapped v xs i d) in
+    let high = ap (λ (k : KeptLoan). k.held.id) (get_mapped v xs j d) in
+    let rises = h i j (v d) lt (omega (arith, length-map xs v)) in
+    omega (arith, low, high, rises)
+
+find_behind : {X : Type 0} (v : X → KeptLoan) (n : ℕ) (xs : List X) → find_kept n (map v xs) ≡ option_map v (find (λ x. (v x).held.id == n) xs)
+find_behind v n [] = refl
+find_behind v n (x ∷ xs) =
+    elim ((v x).held.id == n) as (λ b. cond b (Some (v x)) (find_kept n (map v xs)) ≡ option_map v (cond b (Some x) (find (λ y. (v y).held.id == n) xs))) [
+      | true ↦ refl
+      | false ↦ find_behind v n xs
+    ]
+
+-- the loan at the place of its number is found
+pub place_found : {X : Type 0} (v : X → KeptLoan) (xs : List X) (n i : ℕ) (d : X) → Rise (map v xs) → i < length xs → (v (get_or xs i d)).held.id ≡ n → find_kept n (map v xs) ≡ Some (v (get_or xs i d))
+place_found v xs n i d h lt is =
+    find_behind v n xs ∙ ap (option_map v) (found_at (λ x. (v x).held.id) xs n i d (rise_behind v xs h) lt is)
+
+-- where another one stands there, or none, none has the number
+pub place_absent : {X : Type 0} (v : X → KeptLoan) (xs : List X) (n i : ℕ) → Rise (map v xs) → IsPartitionPoint (λ x. nat_lt (v x).held.id n ≡ true) (λ x. nat_lt (v x).held.id n ≡ false) xs i → ((d : X) → i < length xs → ((v (get_or xs i d)).held.id == n) ≡ false) → find_kept n (map v xs) ≡ None
+place_absent v xs n i h point other =
+    find_behind v n xs ∙ ap (option_map v) (absent_at (λ x. (v x).held.id) xs n i (rise_behind v xs h) point other)
+
+-- ---- one loan changed
+
+-- loans with the numbers of others rise where these do
+pub numbers_rise : (ks js : List KeptLoan) → map (λ (k : KeptLoan). k.held.id) ks ≡ map (λ (k : KeptLoan). k.held.id) js → Rise js → Rise ks
+numbers_rise ks js same h i j d lt within =
+    let f : KeptLoan → ℕ = λ k. k.held.id in
+    let count : length ks ≡ length js = sym (length-map ks f) ∙ ap length same ∙ length-map js f in
+    let low = sym (get_mapped f ks i d) ∙ ap (λ ns. get_or ns i (f d)) same ∙ get_mapped f js i d in
+    let high = sym (get_mapped f ks j d) ∙ ap (λ ns. get_or ns j (f d)) same ∙ get_mapped f js j d in
+    let rises = h i j d lt (omega (arith, count)) in
+    omega (arith, low, high, rises)
+
+-- a loan that takes the place of one with its number
+pub record IsChanged (ks : List KeptLoan) (i id : ℕ) (d k : KeptLoan) (f : Held → Held) : Type 0 where
+  pub rise : Rise ks
+  pub there : i < length ks
+  pub number : (get_or ks i d).held.id ≡ id
+  pub same : k.held.id ≡ id
+  pub held : k.held ≡ f (get_or ks i d).held
+  pub closed : k.closed ≡ (get_or ks i d).closed
+  pub remitted : k.remitted ≡ (get_or ks i d).remitted
+
+pub changed_rise : (ks : List KeptLoan) (i id : ℕ) (d k : KeptLoan) (f : Held → Held) → IsChanged ks i id d k f → Rise (set ks i k)
+changed_rise ks i id d k f h = numbers_rise (set ks i k) ks (map-set_same (λ (x : KeptLoan). x.held.id) ks i k d (h.same ∙ sym h.number)) h.rise
+
+pub changed_closed : (ks : List KeptLoan) (i id : ℕ) (d k : KeptLoan) (f : Held → Held) → IsChanged ks i id d k f → closed_in (set ks i k) ≡ closed_in ks
+changed_closed ks i id d k f h = map-set_same (λ (x : KeptLoan). x.closed) ks i k d h.closed
+
+pub changed_remitted : (ks : List KeptLoan) (i id : ℕ) (d k : KeptLoan) (f : Held → Held) → IsChanged ks i id d k f → remitted_in (set ks i k) ≡ remitted_in ks
+changed_remitted ks i id d k f h = map-set_same (λ (x : KeptLoan). x.remitted) ks i k d h.remitted
+
+set_held : (ks : List KeptLoan) (i id : ℕ) (d k : KeptLoan) (f : Held → Held) → Rise ks → i < length ks → (get_or ks i d).held.id ≡ id → k.held ≡ f (get_or ks i d).held → held_in (set ks i k) ≡ changed id f (held_in ks)
+set_held [] i id d k f h lt is held = absurd (omega arith)
+set_held (x ∷ xs) zero id d k f h lt is held =
+    let here : (x.held.id == id) ≡ true = grind (arith, nat_tests) in
+    rw here (ap (λ l. l ∷ held_in xs) held)
+set_held (x ∷ xs) (suc i) id d k f h lt is held =
+    let below = pairs_head (λ (a b : KeptLoan). a.held.id < b.held.id) x xs h i d (omega arith) in
+    let other : (x.held.id == id) ≡ false = grind (arith, nat_tests) in
+    rw other (ap (λ ls. x.held ∷ ls) (set_held xs i id d k f (pairs_tail (λ (a b : KeptLoan). a.held.id < b.held.id) x xs h) (omega arith) is held))
+
+pub changed_held : (ks : List KeptLoan) (i id : ℕ) (d k : KeptLoan) (f : Held → Held) → IsChanged ks i id d k f → held_in (set ks i k) ≡ changed id f (held_in ks)
+changed_held ks i id d k f h = set_held ks i id d k f h.rise h.there h.number h.held
+
+set_found : (ks : List KeptLoan) (i id : ℕ) (d k : KeptLoan) → Rise ks → i < length ks → (get_or ks i d).held.id ≡ id → k.held.id ≡ id → find_kept id (set ks i k) ≡ Some k
+set_found [] i id d k h lt is same = absurd (omega arith)
+set_found (x ∷ xs) zero id d k h lt is same =
+    let here : (k.held.id == id) ≡ true = grind (arith, nat_tests) in
+    rw here refl
+set_found (x ∷ xs) (suc i) id d k h lt is same =
+    let below = pairs_head (λ (a b : KeptLoan). a.held.id < b.held.id) x xs h i d (omega arith) in
+    let other : (x.held.id == id) ≡ false = grind (arith, nat_tests) in
+    rw other (set_found xs i id d k (pairs_tail (λ (a b : KeptLoan). a.held.id < b.held.id) x xs h) (omega arith) is same)
+
+pub changed_found : (ks : List KeptLoan) (i id : ℕ) (d k : KeptLoan) (f : Held → Held) → IsChanged ks i id d k f → find_kept id (set ks i k) ≡ Some k
+changed_found ks i id d k f h = set_found ks i id d k h.rise h.there h.number h.same
+
+-- ---- one loan more
+
+pub with_held : (k : KeptLoan) (ks : List KeptLoan) → held_in (with_kept k ks) ≡ with_loan k.held (held_in ks)
+with_held k [] = refl
+with_held k (j ∷ js) =
+    elim (nat_lt k.held.id j.held.id) as (λ b. held_in (if b then k ∷ j ∷ js else j ∷ with_kept k js) ≡ (if b then k.held ∷ j.held ∷ held_in js else j.held ∷ with_loan k.held (held_in js))) [
+      | true ↦ refl
+      | false ↦ ap (λ ls. j.held ∷ ls) (with_held k js)
+    ]
+
+-- a loan put in at the place after lower numbers
+pub placed_kept : {X : Type 0} (v : X → KeptLoan) (xs : List X) (i : ℕ) (x : X) → i ≤ length xs → IsPartitionPoint (λ y. nat_lt (v y).held.id (v x).held.id ≡ true) (λ y. nat_lt (v y).held.id (v x).held.id ≡ false) xs i → find_kept (v x).held.id (map v xs) ≡ None → map v (insert xs i x) ≡ with_kept (v x) (map v xs)
+placed_kept v [] zero x le point none = refl
+placed_kept v [] (suc i) x le point none = absurd (omega arith)
+placed_kept v (y ∷ ys) zero x le point none =
+    let from : nat_lt (v y).held.id (v x).held.id ≡ false = point.1 0 y (omega arith) (omega arith) in
+    let other = not_first (v y) (map v ys) (v x).held.id none in
+    let below : nat_lt (v x).held.id (v y).held.id ≡ true = grind (arith, nat_tests) in
+    rw below refl
+  where
+    not_first : (j : KeptLoan) (js : List KeptLoan) (n : ℕ) → find_kept n (j ∷ js) ≡ None → (j.held.id == n) ≡ false
+    not_first j js n = elim (j.held.id == n) as (λ b. cond b (Some j) (find_kept n js) ≡ None → b ≡ false) [
+      | true ↦ λ e. absurd (cc)
+      | false ↦ λ e. refl
+    ]
+placed_kept v (y ∷ ys) (suc i) x le point none =
+    let first : nat_lt (v y).held.id (v x).held.id ≡ true = point.0 0 y (omega arith) (omega arith) in
+    let above : nat_lt (v x).held.id (v y).held.id ≡ false = grind (arith, nat_tests) in
+    let other : ((v y).held.id == (v x).held.id) ≡ false = grind (arith, nat_tests) in
+    let rest : find_kept (v x).held.id (map v ys) ≡ None = past (v y) (map v ys) (v x).held.id other none in
+    rw above (ap (λ ks. v y ∷ ks) (placed_kept v ys i x (omega arith) (λ k d low high. point.0 (suc k) d (omega arith) (omega arith), λ k d low high. point.1 (suc k) d (omega arith) (omega arith)) rest))
+  where
+    past : (j : KeptLoan) (js : List KeptLoan) (n : ℕ) → (j.held.id == n) ≡ false → find_kept n (j ∷ js) ≡ None → find_kept n js ≡ None
+    past j js n apart e = rw apart at e
+
+-- another number stands at a place, whatever stands for a place that is not there
+pub other_number : {X : Type 0} (f : X → ℕ) (xs : List X) (i n : ℕ) (x d : X) → i < length xs → f (get_or xs i x) ≢ n → (f (get_or xs i d) == n) ≡ false
+other_number f xs i n x d lt apart =
+    let same = ap f (get_or_default xs i d x lt) in
+    rw same (grind (arith, nat_tests))
+
+-- ---- a loan changed behind its pointer
+
+number_found : (n : ℕ) (ks : List KeptLoan) (k : KeptLoan) → find_kept n ks ≡ Some k → k.held.id ≡ n
+number_found n [] k e = absurd (cc)
+number_found n (j ∷ js) k e =
+    elim (j.held.id == n) as (λ b. (j.held.id == n) ≡ b → cond b (Some j) (find_kept n js) ≡ Some k → k.held.id ≡ n) [
+      | true ↦ λ same is. let jk : j ≡ k = cc in let here : j.held.id ≡ n = grind (arith, nat_tests) in ap (λ (x : KeptLoan). x.held.id) (sym jk) ∙ here
+      | false ↦ λ other is. number_found n js k is
+    ] refl e
+
+-- what is asked of the loan with a number is asked of the one that is found
+pub of_found : (P : KeptLoan → Type 0) (id : ℕ) (ks : List KeptLoan) (k : KeptLoan) → OfLoan id ks P → find_kept id ks ≡ Some k → P k
+of_found P id ks k h found = rw found at h
+
+pub found_of : (P : KeptLoan → Type 0) (id : ℕ) (ks : List KeptLoan) (k : KeptLoan) → P k → find_kept id ks ≡ Some k → OfLoan id ks P
+found_of P id ks k h found = rw found h
+
+pub is_there : (P : KeptLoan → Type 0) (id : ℕ) (ks : List KeptLoan) → OfLoan id ks P → is_some (find_kept id ks) ≡ true
+is_there P id ks h = elim (find_kept id ks) as (λ o. MatchOption o ⊥ P → is_some o ≡ true) [
+  | None ↦ λ no. absurd no
+  | Some k ↦ λ yes. refl
+] h
+
+-- the loan at the place of its number
+pub at_place : {X : Type 0} (v : X → KeptLoan) (xs : List X) (id i : ℕ) (x : X) → IsPlaceIn id (map v xs) (Some i) → find_kept id (map v xs) ≡ Some (v (get_or xs i x))
+at_place v xs id i x place =
+    let within = place.0 in
+    let count = length-map xs v in
+    place.1 (v x) ∙ ap Some (get_mapped v xs i x)
+
+-- loans of which the one with a number was changed
+pub record Changed (ks js : List KeptLoan) (id : ℕ) (k : KeptLoan) (f : Held → Held) : Type 0 where
+  pub rise : Rise js
+  pub found : find_kept id js ≡ Some k
+  pub held : held_in js ≡ changed id f (held_in ks)
+  pub closed : closed_in js ≡ closed_in ks
+  pub remitted : remitted_in js ≡ remitted_in ks
+
+-- what the change of the one at its place leaves
+pub record Leaves (k j : KeptLoan) (f : Held → Held) : Type 0 where
+  pub number : (f k.held).id ≡ k.held.id
+  pub held : j.held ≡ f k.held
+  pub closed : j.closed ≡ k.closed
+  pub remitted : j.remitted ≡ k.remitted
+
+pub change_behind : {X : Type 0} (v : X → KeptLoan) (xs : List X) (id i : ℕ) (x y : X) (f : Held → Held) → Rise (map v xs) → IsPlaceIn id (map v xs) (Some i) → Leaves (v (get_or xs i x)) (v y) f → Changed (map v xs) (map v (set xs i y)) id (v y) f
+change_behind v xs id i x y f rise place leaves =
+    let ks = map v xs in
+    let d = v x in
+    let here : get_or ks i d ≡ v (get_or xs i x) = get_mapped v xs i x in
+    let number = number_found id ks (get_or ks i d) (place.1 d) in
+    let h : IsChanged ks i id d (v y) f = record {
+      rise = rise;
+      there = place.0;
+      number = number;
+      same = ap (λ (l : Held). l.id) leaves.held ∙ leaves.number ∙ ap (λ (k : KeptLoan). k.held.id) (sym here) ∙ number;
+      held = leaves.held ∙ ap (λ (k : KeptLoan). f k.held) (sym here);
+      closed = leaves.closed ∙ ap (λ (k : KeptLoan). k.closed) (sym here);
+      remitted = leaves.remitted ∙ ap (λ (k : KeptLoan). k.remitted) (sym here);
+    } in
+    let same = map-set v xs i y in
+    rw same (record {
+      rise = changed_rise ks i id d (v y) f h;
+      found = changed_found ks i id d (v y) f h;
+      held = changed_held ks i id d (v y) f h;
+      closed = changed_closed ks i id d (v y) f h;
+      remitted = changed_remitted ks i id d (v y) f h;
+    })
+
+-- a loan whose number no other has, put in before the first larger number, leaves rising numbers
+pub with_rises : (k : KeptLoan) (ks : List KeptLoan) → Rise ks → find_kept k.held.id ks ≡ None → Rise (with_kept k ks)
+with_rises k [] h none = λ i j d lt within. absurd (omega arith)
+with_rises k (j ∷ js) h none =
+    let above = pairs_head (λ (a b : KeptLoan). a.held.id < b.held.id) j js h in
+    let rest = pairs_tail (λ (a b : KeptLoan). a.held.id < b.held.id) j js h in
+    let apart = head_apart j js k.held.id none in
+    elim (nat_lt k.held.id j.held.id) as (λ b. nat_lt k.held.id j.held.id ≡ b → Rise (if b then k ∷ j ∷ js else j ∷ with_kept k js)) [
+      | true ↦ λ e.
+          let lt : k.held.id < j.held.id = grind (arith, nat_tests) in
+          AllPairs-cons (λ (a b : KeptLoan). a.held.id < b.held.id) k (j ∷ js) (All-cons (λ (b : KeptLoan). k.held.id < b.held.id) j js lt (λ i d within. (let up = above i d within in omega arith))) h
+      | false ↦ λ e.
+          let ge : j.held.id < k.held.id = grind (arith, nat_tests) in
+          AllPairs-cons (λ (a b : KeptLoan). a.held.id < b.held.id) j (with_kept k js) (with_above j.held.id k js ge above) (with_rises k js rest (tail_none j js k.held.id apart none))
+    ] refl
+  where
+    head_apart : (j : KeptLoan) (js : List KeptLoan) (n : ℕ) → find_kept n (j ∷ js) ≡ None → (j.held.id == n) ≡ false
+    head_apart j js n = elim (j.held.id == n) as (λ b. cond b (Some j) (find_kept n js) ≡ None → b ≡ false) [
+      | true ↦ λ e. absurd (cc)
+      | false ↦ λ e. refl
+    ]
+
+    tail_none : (j : KeptLoan) (js : List KeptLoan) (n : ℕ) → (j.held.id == n) ≡ false → find_kept n (j ∷ js) ≡ None → find_kept n js ≡ None
+    tail_none j js n apart e = rw apart at e
+
+    with_above : (n : ℕ) (k : KeptLoan) (js : List KeptLoan) → n < k.held.id → All (λ (b : KeptLoan). n < b.held.id) js → All (λ (b : KeptLoan). n < b.held.id) (with_kept k js)
+    with_above n k [] lt all = All-cons (λ (b : KeptLoan). n < b.held.id) k [] lt all
+    with_above n k (x ∷ xs) lt all = elim (nat_lt k.held.id x.held.id) as (λ b. All (λ (b : KeptLoan). n < b.held.id) (if b then k ∷ x ∷ xs else x ∷ with_kept k xs)) [
+      | true ↦ All-cons (λ (b : KeptLoan). n < b.held.id) k (x ∷ xs) lt all
+      | false ↦ All-cons (λ (b : KeptLoan). n < b.held.id) x (with_kept k xs) (All-head (λ (b : KeptLoan). n < b.held.id) x xs all) (with_above n k xs lt (All-tail (λ (b : KeptLoan). n < b.held.id) x xs all))
+    ]
+
+-- ---- a loan of which the books, lines and types stay
+
+-- loans of which one has more room, or more was remitted for it
+pub record Stays (ks js : List KeptLoan) (id : ℕ) (k : KeptLoan) : Type 0 where
+  pub rise : Rise js
+  pub found : find_kept id js ≡ Some k
+  pub held : held_in js ≡ held_in ks
+  pub closed : closed_in js ≡ closed_in ks
+
+pub stay_behind : {X : Type 0} (v : X → KeptLoan) (xs : List X) (id i : ℕ) (x y : X) → Rise (map v xs) → IsPlaceIn id (map v xs) (Some i) → (v y).held ≡ (v (get_or xs i x)).held → (v y).closed ≡ (v (get_or xs i x)).closed → Stays (map v xs) (map v (set xs i y)) id (v y)
+stay_behind v xs id i x y rise place held closed =
+    let ks = map v xs in
+    let d = v x in
+    let here : get_or ks i d ≡ v (get_or xs i x) = get_mapped v xs i x in
+    let number = number_found id ks (get_or ks i d) (place.1 d) in
+    let held' = held ∙ ap (λ (k : KeptLoan). k.held) (sym here) in
+    let same = map-set v xs i y in
+    rw same (record {
+      rise = numbers_rise (set ks i (v y)) ks (map-set_same (λ (k : KeptLoan). k.held.id) ks i (v y) d (ap (λ (l : Held). l.id) held')) rise;
+      found = set_found ks i id d (v y) rise place.0 number (ap (λ (l : Held). l.id) held' ∙ number);
+      held = map-set_same (λ (k : KeptLoan). k.held) ks i (v y) d held';
+      closed = map-set_same (λ (k : KeptLoan). k.closed) ks i (v y) d (closed ∙ ap (λ (k : KeptLoan). k.closed) (sym here));
+    })
+
+pub remitted_stays : {X : Type 0} (v : X → KeptLoan) (xs : List X) (i : ℕ) (x y : X) → (v y).remitted ≡ (v (get_or xs i x)).remitted → remitted_in (map v (set xs i y)) ≡ remitted_in (map v xs)
+remitted_stays v xs i x y same =
+    ap remitted_in (map-set v xs i y) ∙ map-set_same (λ (k : KeptLoan). k.remitted) (map v xs) i (v y) (v x) (same ∙ ap (λ (k : KeptLoan). k.remitted) (sym (get_mapped v xs i x)))
+
+-- the loans after one have other numbers
+later_remitted : (id : ℕ) (cents : ℤ) (ks : List KeptLoan) → All (λ (k : KeptLoan). id < k.held.id) ks → map (remitted_by id cents) ks ≡ remitted_in ks
+later_remitted id cents [] h = refl
+later_remitted id cents (k ∷ ks) h =
+    let above : id < k.held.id = All-head (λ (x : KeptLoan). id < x.held.id) k ks h in
+    let other : (k.held.id == id) ≡ false = grind (arith, nat_tests) in
+    rw other (ap (λ zs. k.remitted ∷ zs) (later_remitted id cents ks (All-tail (λ (x : KeptLoan). id < x.held.id) k ks h)))
+
+set_remitted : (ks : List KeptLoan) (i id : ℕ) (d k : KeptLoan) (cents : ℤ) → Rise ks → i < length ks → (get_or ks i d).held.id ≡ id → k.remitted ≡ (get_or ks i d).remitted +ℤ cents → remitted_in (set ks i k) ≡ map (remitted_by id cents) ks
+set_remitted [] i id d k cents h lt is new = absurd (omega arith)
+set_remitted (x ∷ xs) zero id d k cents h lt is new =
+    let here : (x.held.id == id) ≡ true = grind (arith, nat_tests) in
+    let above : All (λ (y : KeptLoan). id < y.held.id) xs = λ j e within. (let up = pairs_head (λ (a b : KeptLoan). a.held.id < b.held.id) x xs h j e within in omega (arith, up, is)) in
+    rw here (ap (λ z. z ∷ remitted_in xs) new ∙ ap (λ zs. (x.remitted +ℤ cents) ∷ zs) (sym (later_remitted id cents xs above)))
+set_remitted (x ∷ xs) (suc i) id d k cents h lt is new =
+    let below = pairs_head (λ (a b : KeptLoan). a.held.id < b.held.id) x xs h i d (omega arith) in
+    let other : (x.held.id == id) ≡ false = grind (arith, nat_tests) in
+    rw other (ap (λ zs. x.remitted ∷ zs) (set_remitted xs i id d k cents (pairs_tail (λ (a b : KeptLoan). a.held.id < b.held.id) x xs h) (omega arith) is new))
+
+pub remitted_rises : {X : Type 0} (v : X → KeptLoan) (xs : List X) (id i : ℕ) (x y : X) (cents : ℤ) → Rise (map v xs) → IsPlaceIn id (map v xs) (Some i) → (v y).remitted ≡ (v (get_or xs i x)).remitted +ℤ cents → remitted_in (map v (set xs i y)) ≡ map (remitted_by id cents) (map v xs)
+remitted_rises v xs id i x y cents rise place new =
+    let ks = map v xs in
+    let d = v x in
+    let here : get_or ks i d ≡ v (get_or xs i x) = get_mapped v xs i x in
+    let number = number_found id ks (get_or ks i d) (place.1 d) in
+    ap remitted_in (map-set v xs i y) ∙ set_remitted ks i id d (v y) cents rise place.0 number (new ∙ ap (λ (k : KeptLoan). k.remitted +ℤ cents) (sym here))
+
+pub on_ok : {T E : Type 0} (r : Result T E) (P Q : Type 0) → (P → Q) → OnOk r P → OnOk r Q
+on_ok (Ok x) P Q f h = f h
+on_ok (Err e) P Q f h = h

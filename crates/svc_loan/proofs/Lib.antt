@@ -1,0 +1,5 @@
+pub mod MovedLemmas
+pub mod ClosedLemmas
+pub mod LoanLemmas
+pub mod KeptLemmas
+pub mod EachLemmas

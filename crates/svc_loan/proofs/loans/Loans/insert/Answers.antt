@@ -1,0 +1,34 @@
+use Rattle.std.proofs.Common.{◌≡◌, ◌≤◌, Box, Global, map, length, sym, ap, subst, ◌∙◌}
+use Rattle.std.specs.Prelude.{None, nat_lt, true, false}
+use Rattle.std.specs.List.Sorted.{IsPartitionPoint}
+use Rattle.svc_world.specs.Held.{with_loan}
+use Rattle.svc_loan.specs.Kept.{KeptLoan}
+use Rattle.svc_loan.specs.Loans.{KeptLoans, Rise, find_kept, with_kept, held_in}
+use Rattle.svc_loan.proofs.KeptLemmas.{placed_kept, with_rises, with_held}
+use Rattle.svc_loan.proofs.loans.Loans.insert.Given.{Over}
+use Rattle.svc_loan.proofs.loans.Loans.insert.Goals as goal
+
+none : (g : Over) (c : goal.In-Ok g) → find_kept c.args.loan.value.held.id (map (λ (b : Box KeptLoan Global). b.value) c.self.inside.loans.items) ≡ None
+none g c = ap (λ (s : KeptLoans). find_kept c.args.loan.value.held.id s.loans) c.self.view_is ∙ c.requires.new
+
+placed : (g : Over) (c : goal.In-Ok g) → map (λ (b : Box KeptLoan Global). b.value) c.insert.new.self.items ≡ with_kept c.args.loan.value (map (λ (b : Box KeptLoan Global). b.value) c.self.inside.loans.items)
+placed g c =
+    let xs = c.self.inside.loans.items in
+    let i = c.place_for-place.result in
+    let x = c.args.loan in
+    let n = x.value.held.id in
+    let number : c.id.result ≡ n = c.id.ensures ∙ ap (λ (k : KeptLoan). k.held.id) c.deref-2.ensures in
+    let at = c.place_for-place.ensures.point in
+    let behind : IsPartitionPoint (λ (b : Box KeptLoan Global). nat_lt b.value.held.id c.id.result ≡ true) (λ (b : Box KeptLoan Global). nat_lt b.value.held.id c.id.result ≡ false) xs i = subst (λ ys. IsPartitionPoint (λ (b : Box KeptLoan Global). nat_lt b.value.held.id c.id.result ≡ true) (λ (b : Box KeptLoan Global). nat_lt b.value.held.id c.id.result ≡ false) ys i) c.deref.ensures.value at in
+    let point : IsPartitionPoint (λ (b : Box KeptLoan Global). nat_lt b.value.held.id n ≡ true) (λ (b : Box KeptLoan Global). nat_lt b.value.held.id n ≡ false) xs i = subst (λ m. IsPartitionPoint (λ (b : Box KeptLoan Global). nat_lt b.value.held.id m ≡ true) (λ (b : Box KeptLoan Global). nat_lt b.value.held.id m ≡ false) xs i) number behind in
+    let le : i ≤ length xs = subst (λ ys. i ≤ length ys) c.deref.ensures.value c.place_for-place.ensures.bound in
+    ap (map (λ (b : Box KeptLoan Global). b.value)) c.in-Ok.ensures.items ∙ placed_kept (λ (b : Box KeptLoan Global). b.value) xs i x le point (none g c)
+
+pub invariant_of-self : goal.invariant_of-self
+invariant_of-self g c = subst Rise (sym (placed g c)) (with_rises c.args.loan.value (map (λ (b : Box KeptLoan Global). b.value) c.self.inside.loans.items) c.self.invariant (none g c))
+
+pub returns-clause-loans : goal.returns-clause-loans
+returns-clause-loans g c = placed g c ∙ ap (λ (s : KeptLoans). with_kept c.args.loan.value s.loans) c.self.view_is
+
+pub returns-clause-held : goal.returns-clause-held
+returns-clause-held g c = ap held_in (placed g c) ∙ with_held c.args.loan.value (map (λ (b : Box KeptLoan Global). b.value) c.self.inside.loans.items) ∙ ap (λ (s : KeptLoans). with_loan c.args.loan.value.held (held_in s.loans)) c.self.view_is

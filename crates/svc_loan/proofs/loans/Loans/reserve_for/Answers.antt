@@ -1,0 +1,39 @@
+use Rattle.std.proofs.Common.{◌≡◌, Box, Global, map, get_or, ap, subst, ◌∙◌}
+use Rattle.std.specs.Prelude.{Some}
+use Rattle.std.specs.Box.{with_value}
+use Rattle.std.proofs.Math.ListN.{set}
+use Rattle.svc_loan.specs.Kept.{KeptLoan, IsReady}
+use Rattle.svc_loan.specs.Loans.{KeptLoans, OfLoan, IsPlaceIn, held_in, closed_in, remitted_in}
+use Rattle.svc_loan.proofs.KeptLemmas.{Stays, on_ok, found_of, stay_behind, remitted_stays}
+use Rattle.svc_loan.proofs.loans.Loans.reserve_for.Given.{Over}
+use Rattle.svc_loan.proofs.loans.Loans.reserve_for.Goals as goal
+
+whole : (g : Over) (c : goal.After-self-1 g) → Stays (map (λ (b : Box KeptLoan Global). b.value) c.self.inside.loans.items) (map (λ (b : Box KeptLoan Global). b.value) (set c.self.inside.loans.items c.place_there-place.result (with_value c.index_mut-loan.result.now c.reserve.new.self))) c.args.id c.reserve.new.self
+whole g c =
+    let xs = c.self.inside.loans.items in
+    let i = c.place_there-place.result in
+    let x = c.index_mut-loan.result.now in
+    let place : IsPlaceIn c.args.id (map (λ (b : Box KeptLoan Global). b.value) xs) (Some i) = subst (λ ys. IsPlaceIn c.args.id (map (λ (b : Box KeptLoan Global). b.value) ys) (Some i)) c.deref.ensures.value c.place_there-place.ensures in
+    let old : c.deref_mut.result.now ≡ (get_or xs i x).value = c.deref_mut.ensures.value ∙ ap (λ (b : Box KeptLoan Global). b.value) c.index_mut-loan.ensures.value in
+    let e = c.reserve.ensures in
+    stay_behind (λ (b : Box KeptLoan Global). b.value) xs c.args.id i x (with_value x c.reserve.new.self) c.self.invariant place (e.held ∙ ap (λ (k : KeptLoan). k.held) old) (e.closed ∙ ap (λ (k : KeptLoan). k.closed) old)
+
+pub invariant_of-self : goal.invariant_of-self
+invariant_of-self g c = (whole g c).rise
+
+pub returns-clause-held : goal.returns-clause-held
+returns-clause-held g c = (whole g c).held ∙ ap (λ (s : KeptLoans). held_in s.loans) c.self.view_is
+
+pub returns-clause-closed : goal.returns-clause-closed
+returns-clause-closed g c = (whole g c).closed ∙ ap (λ (s : KeptLoans). closed_in s.loans) c.self.view_is
+
+pub returns-clause-remitted : goal.returns-clause-remitted
+returns-clause-remitted g c =
+    let xs = c.self.inside.loans.items in
+    let i = c.place_there-place.result in
+    let x = c.index_mut-loan.result.now in
+    let old : c.deref_mut.result.now ≡ (get_or xs i x).value = c.deref_mut.ensures.value ∙ ap (λ (b : Box KeptLoan Global). b.value) c.index_mut-loan.ensures.value in
+    remitted_stays (λ (b : Box KeptLoan Global). b.value) xs i x (with_value x c.reserve.new.self) (c.reserve.ensures.remitted ∙ ap (λ (k : KeptLoan). k.remitted) old) ∙ ap (λ (s : KeptLoans). remitted_in s.loans) c.self.view_is
+
+pub returns-clause-ready : goal.returns-clause-ready
+returns-clause-ready g c = on_ok c.reserve.result (IsReady c.args.today c.reserve.new.self) (OfLoan c.args.id _ (IsReady c.args.today)) (λ ready. found_of (IsReady c.args.today) c.args.id _ c.reserve.new.self ready (whole g c).found) c.reserve.ensures.ready

@@ -1,0 +1,5 @@
+pub mod Kept
+pub mod Closed
+pub mod Moved
+pub mod Loan
+pub mod Loans

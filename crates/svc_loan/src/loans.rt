@@ -1,0 +1,321 @@
+//! All loans, by rising number.
+
+ghost use Rattle.std.specs.Prelude.{◌≡◌, ◌+◌, ◌≤◌, ◌<◌, [], length, map, nat_lt, true, false, is_some, slice_index_or, None, Some, OnOk, pos, neg_ℤ, ◌+ℤ◌, ◌≤ℤ◌};
+ghost use Rattle.std.specs.List.{All, list_any, sum_by};
+ghost use Rattle.std.specs.Option.{option_map};
+ghost use Rattle.std.specs.List.Sorted.{IsPartitionPoint};
+ghost use Rattle.svc_base.specs.Calendar.{month_of as month_number};
+ghost use Rattle.svc_spec.specs.Accounts as rule;
+ghost use Rattle.svc_replay.specs.Faults.{most_entries};
+ghost use Rattle.escrow_lines.specs.BillLists.{has_id, set_fault};
+ghost use Rattle.svc_world.specs.Held as held;
+ghost use Rattle.svc_world.specs.LoanDues.{type_change};
+ghost use Rattle.svc_loan.specs.Closed as closed;
+ghost use Rattle.svc_loan.specs.Loans.{Rise, IsPlaceIn, OfLoan, find_kept, with_kept, held_in, closed_in, remitted_in};
+ghost use Rattle.svc_loan.specs.Kept.{IsReady};
+ghost use Rattle.svc_loan.specs.Loans.{remitted_by, MayCloseMonth, closed_by, advance_cost, close_cost};
+
+use crate::loan::Loan;
+use escrow_lines::Line;
+use std::alloc::Global;
+use std::marker::Model;
+use std::sync::ledger::Ledger;
+use svc_base::{Cents, Day, Month, OutOfMemory, Steps, month_of};
+use svc_replay::LoanBooks;
+use svc_types::{Entry, RemitType};
+
+/// All loans by rising number. A loan is found by binary search, and put in by moving pointers.
+#[derive(Drop)]
+pub struct Loans<B: LoanBooks> {
+    loans: Vec<Box<Loan<B>>>,
+}
+
+impl<B: LoanBooks> Model for Loans<B> {
+    ghost use Rattle.std.specs.Prelude.{◌-◌, map, vec_len, vec_capacity};
+    ghost use Rattle.svc_loan.specs.Loans.{KeptLoans, Rise};
+
+    ghost Value = { KeptLoans };
+
+    ghost view = { λ l. record {
+      loans = map (λ b. b.value) l.loans.items;
+      room = vec_capacity l.loans - vec_len l.loans;
+    } };
+
+    ghost invariant = { λ l. Rise (map (λ b. b.value) l.loans.items) };
+}
+
+impl<B: LoanBooks> Loans<B> {
+    /// No loan.
+    pub fn new(alloc: Global) -> Loans<B>
+        ensures { result.loans ≡ [] }
+    {
+        Loans {
+            loans: Vec::new(alloc),
+        }
+    }
+
+    /// How many loans there are.
+    pub fn len(&self) -> usize
+        ensures { result ≡ length self.now.loans }
+    {
+        self.loans.len()
+    }
+
+    /// Makes room for one more loan; fails for want of memory alone.
+    pub fn reserve(&mut self) -> Result<(), OutOfMemory>
+        ensures loans { self.new.loans ≡ self.old.loans }
+        ensures room { OnOk result (1 ≤ self.new.room) }
+    {
+        self.loans.reserve(1)?;
+        Ok(())
+    }
+
+    /// The loan with that number.
+    pub fn get(&self, id: u32) -> Option<&Loan<B>>
+        ensures { option_map (λ r. r.now) result ≡ find_kept id self.now.loans }
+    {
+        let place = place_of(&self.loans, id)?;
+        Some(&self.loans[place])
+    }
+
+    /// The loan at a place, in the order of numbers.
+    pub fn at(&self, place: usize) -> &Loan<B>
+        requires { place < length self.now.loans }
+        ensures { result.now ≡ slice_index_or self.now.loans place result.now }
+    {
+        &self.loans[place]
+    }
+
+    /// Makes room in a loan for one more entry, reversal, change of type and closed month, and for a
+    /// business day; fails for want of memory alone.
+    pub fn reserve_for(&mut self, id: u32, today: Day) -> Result<(), OutOfMemory>
+        requires { is_some (find_kept id self.old.loans) ≡ true }
+        ensures held { held_in self.new.loans ≡ held_in self.old.loans }
+        ensures closed { closed_in self.new.loans ≡ closed_in self.old.loans }
+        ensures remitted { remitted_in self.new.loans ≡ remitted_in self.old.loans }
+        ensures loan_room { self.new.room ≡ self.old.room }
+        ensures ready { OnOk result (OfLoan id self.new.loans (IsReady today)) }
+    {
+        let place = place_there(&self.loans, id);
+        let loan = &mut self.loans[place];
+        loan.reserve(today)
+    }
+
+    /// Makes room in all loans for one more entry, reversal, change of type and closed month, and for a
+    /// business day; fails for want of memory alone.
+    pub fn reserve_all(&mut self, today: Day) -> Result<(), OutOfMemory>
+        ensures held { held_in self.new.loans ≡ held_in self.old.loans }
+        ensures closed { closed_in self.new.loans ≡ closed_in self.old.loans }
+        ensures remitted { remitted_in self.new.loans ≡ remitted_in self.old.loans }
+        ensures loan_room { self.new.room ≡ self.old.room }
+        ensures ready { OnOk result (All (IsReady today) self.new.loans) }
+    {
+        for i in 0..self.loans.len() {
+            let loan = &mut self.loans[i];
+            loan.reserve(today)?;
+        }
+        Ok(())
+    }
+
+    /// Adds what a report sends for a loan, in cents, to what was remitted for it.
+    pub fn remit(&mut self, id: u32, cents: Cents)
+        requires low { OfLoan id self.old.loans
+            (λ k. neg_ℤ (pos 1_000_000_000_000_000_000) ≤ℤ (k.remitted +ℤ cents)) }
+        requires high { OfLoan id self.old.loans
+            (λ k. (k.remitted +ℤ cents) ≤ℤ pos 1_000_000_000_000_000_000) }
+        ensures held { held_in self.new.loans ≡ held_in self.old.loans }
+        ensures closed { closed_in self.new.loans ≡ closed_in self.old.loans }
+        ensures remitted { remitted_in self.new.loans ≡ map (remitted_by id cents) self.old.loans }
+        ensures loan_room { self.new.room ≡ self.old.room }
+    {
+        let place = place_there(&self.loans, id);
+        let loan = &mut self.loans[place];
+        loan.remit(cents);
+    }
+
+    /// Takes a loan on, whose number no other loan has and for which there is room.
+    pub fn insert(&mut self, loan: Box<Loan<B>>)
+        requires new { find_kept loan.value.held.id self.old.loans ≡ None }
+        requires room { 1 ≤ self.old.room }
+        ensures loans { self.new.loans ≡ with_kept loan.value self.old.loans }
+        ensures held { held_in self.new.loans ≡ held.with_loan loan.value.held (held_in self.old.loans) }
+    {
+        let place = place_for(&self.loans, loan.id());
+        match self.loans.insert(place, loan) {
+            Ok(()) => {}
+            Err(_) => unreachable!(),
+        }
+    }
+
+    /// Adds an entry to a loan, for which it has room.
+    pub fn post<L: Ledger>(&mut self, id: u32, entry: &Entry, steps: &mut Steps<L>)
+        requires entry { OfLoan id self.old.loans (λ k. rule.MayPost k.held.account entry.now) }
+        requires few { OfLoan id self.old.loans (λ k. length k.held.account.entries < most_entries) }
+        requires room { OfLoan id self.old.loans (λ k. 1 ≤ k.room.books.entries) }
+        ensures held { held_in self.new.loans
+            ≡ held.changed id (held.with_entry entry.now) (held_in self.old.loans) }
+        ensures closed { closed_in self.new.loans ≡ closed_in self.old.loans }
+        ensures remitted { remitted_in self.new.loans ≡ remitted_in self.old.loans }
+        ensures loan_room { self.new.room ≡ self.old.room }
+        ensures steps { OfLoan id self.new.loans (λ k. steps.new ≤ steps.old
+            + B.cost k.held.account (month_number entry.now.day)
+            + closed.closed_cost B.month_cost k.held.account k.closed (month_number entry.now.day)) }
+    {
+        let place = place_there(&self.loans, id);
+        let loan = &mut self.loans[place];
+        loan.post(entry, steps);
+    }
+
+    /// Reverses an entry of a loan, for which it has room.
+    pub fn reverse<L: Ledger>(&mut self, id: u32, entry: &Entry, by: u32, steps: &mut Steps<L>)
+        requires entry { OfLoan id self.old.loans
+            (λ k. rule.entry_of k.held.account entry.now.number ≡ Some entry.now) }
+        requires live { OfLoan id self.old.loans
+            (λ k. rule.reverser_of k.held.account entry.now.number ≡ None) }
+        requires room { OfLoan id self.old.loans (λ k. 1 ≤ k.room.books.reversals) }
+        ensures held { held_in self.new.loans
+            ≡ held.changed id (held.with_reversal entry.now.number by) (held_in self.old.loans) }
+        ensures closed { closed_in self.new.loans ≡ closed_in self.old.loans }
+        ensures remitted { remitted_in self.new.loans ≡ remitted_in self.old.loans }
+        ensures loan_room { self.new.room ≡ self.old.room }
+        ensures steps { OfLoan id self.new.loans (λ k. steps.new ≤ steps.old
+            + B.cost k.held.account (month_number entry.now.day)
+            + closed.closed_cost B.month_cost k.held.account k.closed (month_number entry.now.day)) }
+    {
+        let place = place_there(&self.loans, id);
+        let loan = &mut self.loans[place];
+        loan.reverse(entry, by, steps);
+    }
+
+    /// Changes the remittance type of a loan from a month on, for which it has room.
+    pub fn retype<L: Ledger>(&mut self, id: u32, from: Month, kind: RemitType, steps: &mut Steps<L>)
+        requires from { OfLoan id self.old.loans (λ k. held.boarded_month k.held ≤ from) }
+        requires room { OfLoan id self.old.loans (λ k. 1 ≤ k.room.types) }
+        ensures held { held_in self.new.loans
+            ≡ held.changed id (held.with_type (type_change from kind)) (held_in self.old.loans) }
+        ensures closed { closed_in self.new.loans ≡ closed_in self.old.loans }
+        ensures remitted { remitted_in self.new.loans ≡ remitted_in self.old.loans }
+        ensures loan_room { self.new.room ≡ self.old.room }
+        ensures steps { OfLoan id self.new.loans (λ k. steps.new ≤ steps.old
+            + closed.closed_cost B.month_cost k.held.account k.closed from) }
+    {
+        let place = place_there(&self.loans, id);
+        let loan = &mut self.loans[place];
+        loan.retype(from, kind, steps);
+    }
+
+    /// Sets an escrow line of a loan, of which nothing is wrong and for which there is a place.
+    pub fn set_line(&mut self, id: u32, line: Line)
+        requires { OfLoan id self.old.loans (λ k. set_fault line k.held.lines ≡ None) }
+        ensures held { held_in self.new.loans
+            ≡ held.changed id (held.with_bill line) (held_in self.old.loans) }
+        ensures closed { closed_in self.new.loans ≡ closed_in self.old.loans }
+        ensures remitted { remitted_in self.new.loans ≡ remitted_in self.old.loans }
+        ensures loan_room { self.new.room ≡ self.old.room }
+    {
+        let place = place_there(&self.loans, id);
+        let loan = &mut self.loans[place];
+        loan.set_line(line);
+    }
+
+    /// Takes out the escrow line of a loan with an id that some line of it has.
+    pub fn drop_line(&mut self, id: u32, line: u32)
+        requires { OfLoan id self.old.loans (λ k. list_any (has_id line) k.held.lines ≡ true) }
+        ensures held { held_in self.new.loans
+            ≡ held.changed id (held.without_bill line) (held_in self.old.loans) }
+        ensures closed { closed_in self.new.loans ≡ closed_in self.old.loans }
+        ensures remitted { remitted_in self.new.loans ≡ remitted_in self.old.loans }
+        ensures loan_room { self.new.room ≡ self.old.room }
+    {
+        let place = place_there(&self.loans, id);
+        let loan = &mut self.loans[place];
+        loan.drop_line(line);
+    }
+
+    /// Moves the business day of all loans on, for which each has room.
+    pub fn advance<L: Ledger>(&mut self, today: Day, steps: &mut Steps<L>)
+        requires later { All (λ k. k.held.account.today ≤ today) self.old.loans }
+        requires room { All (λ k. month_number today
+            ≤ month_number k.held.account.today + k.room.books.months) self.old.loans }
+        ensures held { held_in self.new.loans ≡ map (held.on_day today) (held_in self.old.loans) }
+        ensures closed { closed_in self.new.loans ≡ closed_in self.old.loans }
+        ensures remitted { remitted_in self.new.loans ≡ remitted_in self.old.loans }
+        ensures loan_room { self.new.room ≡ self.old.room }
+        ensures steps { steps.new ≤ steps.old + sum_by (advance_cost B.cost today) self.old.loans }
+    {
+        for i in 0..self.loans.len() {
+            let loan = &mut self.loans[i];
+            loan.advance(today, steps);
+        }
+    }
+
+    /// Closes a month of all loans that were boarded by it: of each it is the one after the last closed
+    /// one, it has ended, and there is room for it.
+    pub fn close<L: Ledger>(&mut self, month: Month, steps: &mut Steps<L>)
+        requires { All (MayCloseMonth month) self.old.loans }
+        ensures held { held_in self.new.loans ≡ held_in self.old.loans }
+        ensures closed { closed_in self.new.loans ≡ map (closed_by month) self.old.loans }
+        ensures remitted { remitted_in self.new.loans ≡ remitted_in self.old.loans }
+        ensures loan_room { self.new.room ≡ self.old.room }
+        ensures steps { steps.new ≤ steps.old + sum_by (close_cost B.month_cost month) self.old.loans }
+    {
+        for i in 0..self.loans.len() {
+            let loan = &mut self.loans[i];
+            close_one(loan, month, steps);
+        }
+    }
+}
+
+/// Closes a month of a loan, where it was boarded by it.
+fn close_one<B: LoanBooks, L: Ledger>(loan: &mut Loan<B>, month: Month, steps: &mut Steps<L>)
+    requires { MayCloseMonth month loan.old }
+    ensures held { loan.new.held ≡ loan.old.held }
+    ensures closed { loan.new.closed ≡ closed_by month loan.old }
+    ensures remitted { loan.new.remitted ≡ loan.old.remitted }
+    ensures steps { steps.new ≤ steps.old + close_cost B.month_cost month loan.old }
+{
+    if month_of(loan.terms().boarded).number() <= month.number() {
+        loan.close_month(steps);
+    }
+}
+
+/// The place of the loan with that number, which is there.
+fn place_there<B: LoanBooks>(loans: &[Box<Loan<B>>], id: u32) -> usize
+    requires rise { Rise (map (λ b. b.value) loans.now) }
+    requires there { is_some (find_kept id (map (λ b. b.value) loans.now)) ≡ true }
+    ensures { IsPlaceIn id (map (λ b. b.value) loans.now) (Some result) }
+{
+    match place_of(loans, id) {
+        Some(place) => place,
+        None => unreachable!(),
+    }
+}
+
+/// The place of the loan with that number, where it is there.
+fn place_of<B: LoanBooks>(loans: &[Box<Loan<B>>], id: u32) -> Option<usize>
+    requires { Rise (map (λ b. b.value) loans.now) }
+    ensures { IsPlaceIn id (map (λ b. b.value) loans.now) result }
+{
+    let place = place_for(loans, id);
+    if place < loans.len() && loans[place].id() == id {
+        return Some(place);
+    }
+    None
+}
+
+/// The place after the loans with lower numbers.
+fn place_for<B: LoanBooks>(loans: &[Box<Loan<B>>], id: u32) -> usize
+    requires { Rise (map (λ b. b.value) loans.now) }
+    ensures point { IsPartitionPoint (λ b. nat_lt b.value.held.id id ≡ true)
+        (λ b. nat_lt b.value.held.id id ≡ false) loans.now result }
+    ensures bound { result ≤ length loans.now }
+{
+    loans.partition_point(|loan| is_below(loan, id))
+}
+
+/// Whether a loan has a lower number.
+fn is_below<B: LoanBooks>(loan: &Box<Loan<B>>, id: u32) -> bool
+    ensures { result ≡ nat_lt loan.now.value.held.id id }
+{
+    loan.id() < id
+}
