@@ -86,7 +86,8 @@ Step = Bool × Plan
 
 abbrev pub FirstOf : List Step → (Plan → Type 0) → Plan → Type 0
 FirstOf [] otherwise plan = otherwise plan
-FirstOf ((holds, answer) ∷ more) otherwise plan = MatchBool holds (plan ≡ answer) (FirstOf more otherwise plan)
+FirstOf ((holds, answer) ∷ more) otherwise plan =
+    MatchBool holds (plan ≡ answer) (FirstOf more otherwise plan)
 
 -- the tests of the lengths that a head says, of a `Transfer-Encoding` first
 abbrev pub length_steps : Bool → ContentLength → List Step

@@ -69,7 +69,8 @@ route_of_query (query.Rows n) = route.Rows
 unfoldable pub path_of_query : Query → List ℕ
 path_of_query (query.Books l) = codes "/v1/loans/" ++ (text_of_number l ++ codes "/books")
 path_of_query (query.At l d) = codes "/v1/loans/" ++ (text_of_number l ++ (codes "/books/" ++ text_of_day d))
-path_of_query (query.Payoff l d) = codes "/v1/loans/" ++ (text_of_number l ++ (codes "/payoff/" ++ text_of_day d))
+path_of_query (query.Payoff l d) =
+    codes "/v1/loans/" ++ (text_of_number l ++ (codes "/payoff/" ++ text_of_day d))
 path_of_query (query.Escrow l) = codes "/v1/loans/" ++ (text_of_number l ++ codes "/escrow")
 path_of_query (query.Report m) = codes "/v1/months/" ++ (text_of_month m ++ codes "/report")
 path_of_query (query.Trial m) = codes "/v1/months/" ++ (text_of_month m ++ codes "/trial")

@@ -104,7 +104,8 @@ fn with_value(said: ContentLength, value: &[u8]) -> ContentLength
 /// What the lines of this name say of the body's length.
 pub(crate) fn length_of(buf: &[u8], lines: &[HeaderSpan], name: &[u8]) -> ContentLength
     requires { All (IsHeaderWithin (length buf.now)) lines.now }
-    ensures { result ≡ fields.content_length (fields.values_of name.now (map (header_bytes buf.now) lines.now)) }
+    ensures { result ≡ fields.content_length
+        (fields.values_of name.now (map (header_bytes buf.now) lines.now)) }
 {
     let mut said = ContentLength::Missing;
     for line in lines {

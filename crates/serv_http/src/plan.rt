@@ -146,8 +146,8 @@ pub(crate) fn plan_at(
     requires within { IsRequestWithin buf.now headers.now spans.now }
     requires text { IsUtf8 (plans.target_at buf.now spans.now) }
     ensures fits { plans.PlanFits result }
-    ensures value { plans.IsPlanOf (map (header_bytes buf.now) (take spans.now.headers headers.now)) spans.now.version
-        (plans.method_at buf.now spans.now) (plans.target_at buf.now spans.now) result }
+    ensures value { plans.IsPlanOf (map (header_bytes buf.now) (take spans.now.headers headers.now))
+        spans.now.version (plans.method_at buf.now spans.now) (plans.target_at buf.now spans.now) result }
 {
     let lines = &headers[..spans.headers];
     let length = length_of(buf, lines, b"content-length");

@@ -26,7 +26,8 @@ fn between<'a>(path: &'a [u8], before: &[u8], after: &[u8]) -> Option<&'a [u8]>
 fn number_between(path: &[u8], before: &[u8], after: &[u8]) -> Option<u32>
     ensures read { IfSome result (λ n. path.now ≡ before.now ++ (text_of_number n ++ after.now)) }
     ensures range { IfSome result (λ n. n < 2 ^ 32) }
-    ensures none { IfNone result ((n : ℕ) → n < 2 ^ 32 → path.now ≢ before.now ++ (text_of_number n ++ after.now)) }
+    ensures none { IfNone result ((n : ℕ) → n < 2 ^ 32
+        → path.now ≢ before.now ++ (text_of_number n ++ after.now)) }
 {
     let Some(text) = between(path, before, after) else {
         return None;
@@ -38,7 +39,8 @@ fn number_between(path: &[u8], before: &[u8], after: &[u8]) -> Option<u32>
 fn month_between(path: &[u8], before: &[u8], after: &[u8]) -> Option<Month>
     ensures read { IfSome result (λ m. path.now ≡ before.now ++ (text_of_month m ++ after.now)) }
     ensures range { IfSome result IsReadMonth }
-    ensures none { IfNone result ((m : ℕ) → IsReadMonth m → path.now ≢ before.now ++ (text_of_month m ++ after.now)) }
+    ensures none { IfNone result ((m : ℕ) → IsReadMonth m
+        → path.now ≢ before.now ++ (text_of_month m ++ after.now)) }
 {
     let Some(text) = between(path, before, after) else {
         return None;
@@ -52,7 +54,8 @@ fn month_between(path: &[u8], before: &[u8], after: &[u8]) -> Option<Month>
 /// The day at the end of a path, and what stands before it.
 fn day_at_end(path: &[u8]) -> Option<(&[u8], Day)>
     ensures read { IfSome result (λ r. IsReadDay r.1 × (path.now ≡ r.0.now ++ text_of_day r.1)) }
-    ensures none { IfNone result ((front : List ℕ) (d : ℕ) → IsReadDay d → path.now ≢ front ++ text_of_day d) }
+    ensures none { IfNone result ((front : List ℕ) (d : ℕ) → IsReadDay d
+        → path.now ≢ front ++ text_of_day d) }
 {
     if path.len() < 10 {
         return None;

@@ -33,7 +33,8 @@ impl Conn {
     /// Passes over a body, of which so many bytes are left.
     fn pass(&mut self, left: usize, due: &Due, piece: &[u8]) -> (usize, Option<Ask>)
         ensures within { result.0 ≤ length piece.now }
-        ensures step { (s : List ℕ) → conns.IsPassing left due.now s → conns.IsStep s piece.now self.new result.0 result.1 }
+        ensures step { (s : List ℕ) → conns.IsPassing left due.now s
+            → conns.IsStep s piece.now self.new result.0 result.1 }
     {
         if piece.len() < left {
             self.stage = Stage::Passing(left - piece.len(), *due);
@@ -85,7 +86,8 @@ impl Conn {
         ensures within { IfOk result (λ r. r.0 ≤ length piece.now) }
         ensures ok { IfOk result (λ r. (s : List ℕ) → conns.BegunFor self.old s
             → conns.IsStep s piece.now self.new r.0 r.1) }
-        ensures err { OnErr result ((s : List ℕ) → conns.BegunFor self.old s → ¬ (IsAwaited (s ++ piece.now))) }
+        ensures err { OnErr result ((s : List ℕ) → conns.BegunFor self.old s
+            → ¬ (IsAwaited (s ++ piece.now))) }
     {
         match self.stage {
             Stage::Passing(left, due) => Ok(self.pass(left, &due, piece)),
@@ -111,8 +113,8 @@ impl Conn {
     /// Goes on after a whole head, by what it asks for.
     fn begin(&mut self, used: usize, plan: Plan) -> HeadStep
         requires { PlanFits plan }
-        ensures { (s piece : List ℕ) (h : RequestHead) → conns.IsWhole (s ++ take used piece) h → IsPlan h plan
-            → used ≤ length piece → conns.IsHeadStep s piece self.new result }
+        ensures { (s piece : List ℕ) (h : RequestHead) → conns.IsWhole (s ++ take used piece) h
+            → IsPlan h plan → used ≤ length piece → conns.IsHeadStep s piece self.new result }
     {
         self.filled = 0;
         self.lines = LineCount::Blank;
@@ -182,10 +184,10 @@ impl Conn {
         piece: &[u8],
     ) -> Result<(usize, Option<Ask>), OutOfMemory>
         ensures within { IfOk result (λ r. r.0 ≤ length piece.now) }
-        ensures ok { IfOk result (λ r. (s : List ℕ) → used ≤ length piece.now → conns.BegunFor self.old (s ++ take used piece.now)
-            → conns.IsStep s piece.now self.new r.0 r.1) }
-        ensures err { OnErr result ((s : List ℕ) → used ≤ length piece.now → conns.BegunFor self.old (s ++ take used piece.now)
-            → ¬ (IsAwaited (s ++ piece.now))) }
+        ensures ok { IfOk result (λ r. (s : List ℕ) → used ≤ length piece.now
+            → conns.BegunFor self.old (s ++ take used piece.now) → conns.IsStep s piece.now self.new r.0 r.1) }
+        ensures err { OnErr result ((s : List ℕ) → used ≤ length piece.now
+            → conns.BegunFor self.old (s ++ take used piece.now) → ¬ (IsAwaited (s ++ piece.now))) }
     {
         if used > piece.len() {
             return Ok((0, None));
@@ -205,7 +207,8 @@ impl Conn {
         ensures within { IfOk result (λ r. r.0 ≤ length piece.now) }
         ensures ok { IfOk result (λ r. (s : List ℕ) → conns.StandsFor self.old s
             → conns.IsStep s piece.now self.new r.0 r.1) }
-        ensures err { OnErr result ((s : List ℕ) → conns.StandsFor self.old s → ¬ (IsAwaited (s ++ piece.now))) }
+        ensures err { OnErr result ((s : List ℕ) → conns.StandsFor self.old s
+            → ¬ (IsAwaited (s ++ piece.now))) }
     {
         match self.stage {
             Stage::Heading => match self.read_head(piece) {

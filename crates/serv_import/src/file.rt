@@ -46,10 +46,12 @@ pub fn batch(alloc: Global, bytes: &[u8]) -> Result<Vec<RowRequest>, ImportFault
 /// asks is appended.
 fn take_row(answers: &mut Vec<RowRequest>, number: u32, row: &ByteRecord) -> Result<(), ImportFault>
     requires { 0 < number }
-    ensures first { number ≡ 1 → OnOk result ((fields_of row.now ≡ header) × (answers.new.items ≡ answers.old.items)) }
-    ensures after { 1 < number → OnOk result ((answer : requests.RowRequest) × IsAnswer number (fields_of row.now) answer
-        × (answers.new.items ≡ answers.old.items ++ (answer ∷ []))) }
-    ensures other { IfErr result (λ fault. fault ≡ faults.Header → (number ≡ 1) × (fields_of row.now ≢ header)) }
+    ensures first { number ≡ 1
+        → OnOk result ((fields_of row.now ≡ header) × (answers.new.items ≡ answers.old.items)) }
+    ensures after { 1 < number → OnOk result ((answer : requests.RowRequest)
+        × IsAnswer number (fields_of row.now) answer × (answers.new.items ≡ answers.old.items ++ (answer ∷ []))) }
+    ensures other { IfErr result (λ fault. fault ≡ faults.Header
+        → (number ≡ 1) × (fields_of row.now ≢ header)) }
 {
     if number > 1 {
         return Ok(push_answer(answers, number, row)?);
