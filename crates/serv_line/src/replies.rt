@@ -85,7 +85,8 @@ pub fn write_full(alloc: Global, bytes: u64) -> Result<Vec<u8>, OutOfMemory>
     Ok(out)
 }
 
-/// Appends the reply to a command for which the journal has no more room. Where memory is short `out` is as it was.
+/// Appends the reply to a command for which the journal has no more room. Where memory is short `out`
+/// is as it was.
 pub fn push_full(out: &mut Vec<u8>, bytes: u64) -> Result<(), OutOfMemory>
     ensures pushed { OnOk result (out.new.items ≡ out.old.items ++ text_of_full bytes) }
     ensures kept { OnErr result (out.new.items ≡ out.old.items) }

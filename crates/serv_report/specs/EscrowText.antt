@@ -33,7 +33,8 @@ text_of_balances_in a k =
 
 -- month k of the year that begins with that month
 unfoldable pub text_of_month_of : ℕ → Analysis → ℕ → List ℕ
-text_of_month_of from a k = ended (codes "month " ++ text_of_month (from + (k - 1)) ++ text_of_balances_in a k)
+text_of_month_of from a k = ended
+    (codes "month " ++ text_of_month (from + (k - 1)) ++ text_of_balances_in a k)
 
 -- what a line begins with that speaks of a loan's year
 abbrev pub text_of_year : ℕ → ℕ → List ℕ

@@ -51,7 +51,8 @@ text_of_sent lines = ended
     (codes "total" ++ signed_field (codes "interest") (total_by interest_sent lines)
     ++ signed_field (codes "principal") (total_by principal_sent lines))
 
--- the report of a month: its lines, its adjustments, and what they send
+-- the report of a month: its lines, its adjustments in the order in which they were recorded, and what
+-- all lines send
 unfoldable pub text_of_report : Sealed → List ℕ
 text_of_report r =
     text_of_heading (codes "report ") r.month (codes "lines") (length r.lines)
@@ -65,7 +66,8 @@ text_of_loan l = ended (numbered (codes "loan ") l.loan ++ balances l.upb l.bala
 -- the balances of all loans
 unfoldable pub text_of_all : List ReportLine → List ℕ
 text_of_all lines = ended
-    (codes "total" ++ balances (total_by (λ (l : ReportLine). l.upb) lines) (total_by (λ (l : ReportLine). l.balance) lines))
+    (codes "total"
+    ++ balances (total_by (λ (l : ReportLine). l.upb) lines) (total_by (λ (l : ReportLine). l.balance) lines))
 
 -- the trial balances of a month: those of each line of its report, and of all
 unfoldable pub text_of_trial : Sealed → List ℕ

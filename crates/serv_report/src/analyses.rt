@@ -39,7 +39,8 @@ pub fn push_escrow(
     analysis: &Analysis,
 ) -> Result<(), OutOfMemory>
     requires year { HasYear figures.now.from }
-    ensures pushed { OnOk result (out.new.items ≡ out.old.items ++ text_of_escrow loan figures.now analysis.now) }
+    ensures pushed { OnOk result (out.new.items ≡ out.old.items
+        ++ text_of_escrow loan figures.now analysis.now) }
     ensures kept { OnErr result (out.new.items ≡ out.old.items) }
 {
     let start = out.len();
@@ -56,7 +57,8 @@ pub(crate) fn append_escrow(
     analysis: &Analysis,
 ) -> Result<(), OutOfMemory>
     requires year { HasYear figures.now.from }
-    ensures pushed { OnOk result (out.new.items ≡ out.old.items ++ text_of_escrow loan figures.now analysis.now) }
+    ensures pushed { OnOk result (out.new.items ≡ out.old.items
+        ++ text_of_escrow loan figures.now analysis.now) }
     ensures kept { OnErr result (Keeps out.old.items out.new.items) }
 {
     push_figures(out, loan, figures)?;
@@ -92,7 +94,8 @@ fn push_year(out: &mut Vec<u8>, loan: u32, from: Month) -> Result<(), OutOfMemor
 #[tactic(auto, using(serv_line::proofs::KeepLemmas::keeps))]
 fn push_months(out: &mut Vec<u8>, from: Month, analysis: &Analysis) -> Result<(), OutOfMemory>
     requires year { HasYear from }
-    ensures pushed { OnOk result (out.new.items ≡ out.old.items ++ flat_map (text_of_month_of from analysis.now) months) }
+    ensures pushed { OnOk result (out.new.items ≡ out.old.items
+        ++ flat_map (text_of_month_of from analysis.now) months) }
     ensures kept { OnErr result (Keeps out.old.items out.new.items) }
 {
     for place in 0..12 {
@@ -111,7 +114,8 @@ fn push_month(
 ) -> Result<(), OutOfMemory>
     requires year { HasYear from }
     requires place { place < 12 }
-    ensures pushed { OnOk result (out.new.items ≡ out.old.items ++ text_of_month_of from analysis.now (place + 1)) }
+    ensures pushed { OnOk result (out.new.items ≡ out.old.items
+        ++ text_of_month_of from analysis.now (place + 1)) }
     ensures kept { OnErr result (Keeps out.old.items out.new.items) }
 {
     push_bytes(out, b"month ")?;
@@ -124,7 +128,8 @@ fn push_month(
 #[tactic(auto, using(serv_line::proofs::KeepLemmas::keeps), unfolding(crate::specs::EscrowText::text_of_balances_in))]
 fn push_balances(out: &mut Vec<u8>, analysis: &Analysis, place: usize) -> Result<(), OutOfMemory>
     requires { place < 12 }
-    ensures pushed { OnOk result (out.new.items ≡ out.old.items ++ text_of_balances_in analysis.now (place + 1)) }
+    ensures pushed { OnOk result (out.new.items ≡ out.old.items
+        ++ text_of_balances_in analysis.now (place + 1)) }
     ensures kept { OnErr result (Keeps out.old.items out.new.items) }
 {
     push_paid(out, analysis, place)?;
@@ -154,7 +159,8 @@ fn target_in(analysis: &Analysis, place: usize) -> Cents
 #[tactic(auto, using(serv_line::proofs::KeepLemmas::keeps), unfolding(serv_line::specs::Replies::signed_field))]
 fn push_paid(out: &mut Vec<u8>, analysis: &Analysis, place: usize) -> Result<(), OutOfMemory>
     requires { place < 12 }
-    ensures pushed { OnOk result (out.new.items ≡ out.old.items ++ signed_field (codes "paid") (paid_in analysis.now (place + 1))) }
+    ensures pushed { OnOk result (out.new.items ≡ out.old.items
+        ++ signed_field (codes "paid") (paid_in analysis.now (place + 1))) }
     ensures kept { OnErr result (Keeps out.old.items out.new.items) }
 {
     push_bytes(out, b" paid ")?;

@@ -99,7 +99,8 @@ fn push_heading(
     counted: &[u8],
     count: usize,
 ) -> Result<(), OutOfMemory>
-    ensures pushed { OnOk result (out.new.items ≡ out.old.items ++ text_of_heading name.now month counted.now count) }
+    ensures pushed { OnOk result (out.new.items ≡ out.old.items
+        ++ text_of_heading name.now month counted.now count) }
     ensures kept { OnErr result (Keeps out.old.items out.new.items) }
 {
     push_bytes(out, name)?;
@@ -171,7 +172,8 @@ fn push_balances(out: &mut Vec<u8>, line: &ReportLine) -> Result<(), OutOfMemory
 /// Appends the adjustments that a report sends.
 #[tactic(auto, using(serv_line::proofs::KeepLemmas::keeps))]
 fn push_adjustments(out: &mut Vec<u8>, adjustments: &[Adjustment]) -> Result<(), OutOfMemory>
-    ensures pushed { OnOk result (out.new.items ≡ out.old.items ++ flat_map text_of_adjustment adjustments.now) }
+    ensures pushed { OnOk result (out.new.items ≡ out.old.items
+        ++ flat_map text_of_adjustment adjustments.now) }
     ensures kept { OnErr result (Keeps out.old.items out.new.items) }
 {
     for adjustment in adjustments {

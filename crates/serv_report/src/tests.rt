@@ -272,7 +272,11 @@ fn rows_have_their_lines(rt: HostRuntime) -> Result<(), Fail> {
             row(3, Part::Collected, 119_910),
             row(3, Part::Fee, 4_167),
         ],
-        b"rows 3 count 3\nrow 1 Received Borrower T 1199.10\nrow 1 Collected T P 1199.10\nrow 1 Fee P Servicer 41.67\nend\n",
+        b"rows 3 count 3\n\
+row 1 Received Borrower T 1199.10\n\
+row 1 Collected T P 1199.10\n\
+row 1 Fee P Servicer 41.67\n\
+end\n",
     )?;
     // An amount that goes the other way keeps the names of both sides.
     rows_are_written(
@@ -285,7 +289,12 @@ fn rows_have_their_lines(rt: HostRuntime) -> Result<(), Fail> {
             row(13, Part::Fee, 4_163),
             row(13, Part::PiAdvance, -115_747),
         ],
-        b"rows 13 count 4\nrow 1 Received Borrower T 1199.10\nrow 1 Collected T P 1199.10\nrow 1 Fee P Servicer 41.63\nrow 1 PiAdvance Servicer P -1157.47\nend\n",
+        b"rows 13 count 4\n\
+row 1 Received Borrower T 1199.10\n\
+row 1 Collected T P 1199.10\n\
+row 1 Fee P Servicer 41.63\n\
+row 1 PiAdvance Servicer P -1157.47\n\
+end\n",
     )?;
     rows_are_written(&rt, rt.alloc(), 1, &[], b"rows 1 count 0\nend\n")?;
     Ok(())
@@ -331,7 +340,20 @@ const THREE_BILLS: Analysis = Analysis {
 };
 
 const ESCROW_TEXT: &[u8] =
-    b"escrow 2 from 2024-07 base 130.00 cushion 260.00 opening 1040.00 balance 1090.00 surplus 50.00 short 0.00 deficient 0.00 pay 130.00\nmonth 2024-07 paid 500.00 trial -370.00 target 670.00\nmonth 2024-08 paid 0.00 trial -240.00 target 800.00\nmonth 2024-09 paid 360.00 trial -470.00 target 570.00\nmonth 2024-10 paid 0.00 trial -340.00 target 700.00\nmonth 2024-11 paid 0.00 trial -210.00 target 830.00\nmonth 2024-12 paid 700.00 trial -780.00 target 260.00\nmonth 2025-01 paid 0.00 trial -650.00 target 390.00\nmonth 2025-02 paid 0.00 trial -520.00 target 520.00\nmonth 2025-03 paid 0.00 trial -390.00 target 650.00\nmonth 2025-04 paid 0.00 trial -260.00 target 780.00\nmonth 2025-05 paid 0.00 trial -130.00 target 910.00\nmonth 2025-06 paid 0.00 trial 0.00 target 1040.00\nend\n";
+    b"escrow 2 from 2024-07 base 130.00 cushion 260.00 opening 1040.00 balance 1090.00 surplus 50.00 short 0.00 deficient 0.00 pay 130.00\n\
+month 2024-07 paid 500.00 trial -370.00 target 670.00\n\
+month 2024-08 paid 0.00 trial -240.00 target 800.00\n\
+month 2024-09 paid 360.00 trial -470.00 target 570.00\n\
+month 2024-10 paid 0.00 trial -340.00 target 700.00\n\
+month 2024-11 paid 0.00 trial -210.00 target 830.00\n\
+month 2024-12 paid 700.00 trial -780.00 target 260.00\n\
+month 2025-01 paid 0.00 trial -650.00 target 390.00\n\
+month 2025-02 paid 0.00 trial -520.00 target 520.00\n\
+month 2025-03 paid 0.00 trial -390.00 target 650.00\n\
+month 2025-04 paid 0.00 trial -260.00 target 780.00\n\
+month 2025-05 paid 0.00 trial -130.00 target 910.00\n\
+month 2025-06 paid 0.00 trial 0.00 target 1040.00\n\
+end\n";
 
 #[test]
 fn an_analysis_has_its_months(rt: HostRuntime) -> Result<(), Fail> {
@@ -403,7 +425,11 @@ fn the_last_year_that_is_spelled_begins_with_2140(rt: HostRuntime) -> Result<(),
     let text = escrow(rt.alloc(), 9, &figures, &analysis)?;
     // What a month pays out may need more than 64 bits.
     let wanted =
-        b"escrow 9 from 2140-01 base 0.00 cushion 0.00 opening 0.01 balance -0.01 surplus 0.00 short 0.01 deficient 0.01 pay 0.00\nmonth 2140-01 paid 184467440737095516.14 trial -92233720368547758.07 target 0.01\nmonth 2140-02 paid -92233720368547758.07 trial 92233720368547758.07 target 0.01\nmonth 2140-03 paid 276701161105643274.21 trial -92233720368547758.07 target 0.01\nmonth 2140-04 paid 0.00 trial 0.00 target 0.01\n";
+        b"escrow 9 from 2140-01 base 0.00 cushion 0.00 opening 0.01 balance -0.01 surplus 0.00 short 0.01 deficient 0.01 pay 0.00\n\
+month 2140-01 paid 184467440737095516.14 trial -92233720368547758.07 target 0.01\n\
+month 2140-02 paid -92233720368547758.07 trial 92233720368547758.07 target 0.01\n\
+month 2140-03 paid 276701161105643274.21 trial -92233720368547758.07 target 0.01\n\
+month 2140-04 paid 0.00 trial 0.00 target 0.01\n";
     assert!(rt; text.as_slice().starts_with(wanted), "{text:?}");
     Ok(())
 }

@@ -30,7 +30,8 @@ pub(crate) fn push_signed_total(
     lines: &[ReportLine],
     column: Column,
 ) -> Result<(), OutOfMemory>
-    ensures pushed { OnOk result (out.new.items ≡ out.old.items ++ signed_field name.now (total_by (amount_in column) lines.now)) }
+    ensures pushed { OnOk result (out.new.items ≡ out.old.items
+        ++ signed_field name.now (total_by (amount_in column) lines.now)) }
     ensures kept { OnErr result (Keeps out.old.items out.new.items) }
 {
     push_word(out, name)?;
@@ -46,7 +47,8 @@ pub(crate) fn push_amount_total(
     lines: &[ReportLine],
     column: Column,
 ) -> Result<(), OutOfMemory>
-    ensures pushed { OnOk result (out.new.items ≡ out.old.items ++ amount_field name.now (total_by (amount_in column) lines.now)) }
+    ensures pushed { OnOk result (out.new.items ≡ out.old.items
+        ++ amount_field name.now (total_by (amount_in column) lines.now)) }
     ensures kept { OnErr result (Keeps out.old.items out.new.items) }
 {
     push_word(out, name)?;

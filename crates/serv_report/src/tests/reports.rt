@@ -161,8 +161,15 @@ fn a_late_payment_is_sent_as_an_adjustment(rt: HostRuntime) -> Result<(), Fail> 
         &rt,
         rt.alloc(),
         &april(rt.alloc(), 13, &was, &is)?,
-        b"report 2024-04 lines 1\nline 1 due 0.00 0.00 adjusted 957.37 200.10 upb 199600.80 balance 199600.80\nadjust 13 1 2024-03 957.37 200.10\ntotal interest 957.37 principal 200.10\nend\n",
-        b"trial 2024-04 loans 1\nloan 1 upb 199600.80 balance 199600.80\ntotal upb 199600.80 balance 199600.80\nend\n",
+        b"report 2024-04 lines 1\n\
+line 1 due 0.00 0.00 adjusted 957.37 200.10 upb 199600.80 balance 199600.80\n\
+adjust 13 1 2024-03 957.37 200.10\n\
+total interest 957.37 principal 200.10\n\
+end\n",
+        b"trial 2024-04 loans 1\n\
+loan 1 upb 199600.80 balance 199600.80\n\
+total upb 199600.80 balance 199600.80\n\
+end\n",
     )?;
     Ok(())
 }
@@ -178,8 +185,16 @@ fn a_reversal_is_sent_as_adjustments_below_zero(rt: HostRuntime) -> Result<(), F
         &rt,
         rt.alloc(),
         &april(rt.alloc(), 14, &was, &is)?,
-        b"report 2024-04 lines 1\nline 1 due 0.00 0.00 adjusted -957.37 -200.10 upb 199800.90 balance 199800.90\nadjust 14 1 2024-02 -958.33 -199.10\nadjust 14 1 2024-03 0.96 -1.00\ntotal interest -957.37 principal -200.10\nend\n",
-        b"trial 2024-04 loans 1\nloan 1 upb 199800.90 balance 199800.90\ntotal upb 199800.90 balance 199800.90\nend\n",
+        b"report 2024-04 lines 1\n\
+line 1 due 0.00 0.00 adjusted -957.37 -200.10 upb 199800.90 balance 199800.90\n\
+adjust 14 1 2024-02 -958.33 -199.10\n\
+adjust 14 1 2024-03 0.96 -1.00\n\
+total interest -957.37 principal -200.10\n\
+end\n",
+        b"trial 2024-04 loans 1\n\
+loan 1 upb 199800.90 balance 199800.90\n\
+total upb 199800.90 balance 199800.90\n\
+end\n",
     )?;
     Ok(())
 }
