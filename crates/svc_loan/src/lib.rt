@@ -13,3 +13,10 @@ pub use loan::Loan;
 pub use loans::Loans;
 pub use moved::Moved;
 pub use types::Types;
+
+#[cfg(test)]
+mod calls_tests;
+#[cfg(test)]
+mod loans_tests;
+#[cfg(test)]
+mod tests;
