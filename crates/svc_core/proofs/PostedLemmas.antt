@@ -1,0 +1,69 @@
+-- One command more under a key that no other has.
+use Rattle.std.proofs.Common.{◌≡◌, ℕ, zero, suc, ◌+◌, ◌-◌, ◌≤◌, ◌<◌, get_or, true, false, cond, List, [], ◌∷◌, ◌++◌, length, arith, refl, sym, ap, ◌∙◌}
+use Rattle.std.proofs.lemmas.Bool.Decides.{Decides-eqb}
+use Rattle.std.proofs.lemmas.Slice.Eq.{slice_eq-Decides}
+use Rattle.std.specs.Prelude.{Option, Some, None, if◌then◌else◌}
+use Rattle.svc_types.specs.declared.requests.Command.{Command}
+use Rattle.svc_world.specs.World.{Accepted, accepted}
+use Rattle.svc_world.specs.Judging.{is_key, nth_accepted}
+use Rattle.svc_core.specs.Posted.{number_from, number_of, history_of}
+
+-- what is found after one command more: what was found before it, else that command
+after_push : ℕ → Accepted → List ℕ → Option ℕ → Option ℕ
+after_push n a key None = if is_key a.key key then Some n else None
+after_push n a key (Some k) = Some k
+
+number_push : (n : ℕ) (h : List Accepted) (a : Accepted) (key : List ℕ) → number_from n (h ++ a ∷ []) key ≡ after_push (n + length h) a key (number_from n h key)
+unfolding after_push
+number_push n [] a key = let same : n + 0 ≡ n = omega arith in ap (λ m. if is_key a.key key then Some m else None) (sym same)
+number_push n (x ∷ h) a key =
+    let rest = number_push (n + 1) h a key in
+    let place : n + 1 + length h ≡ n + length (x ∷ h) = omega arith in
+    elim (is_key x.key key) as (λ v. (if v then Some n else number_from (n + 1) (h ++ a ∷ []) key) ≡ after_push (n + length (x ∷ h)) a key (if v then Some n else number_from (n + 1) h key)) [
+      | true ↦ refl
+      | false ↦ rest ∙ ap (λ m. after_push m a key (number_from (n + 1) h key)) place
+    ]
+
+pub history_push : (ps : List (List ℕ × Command)) (p : List ℕ × Command) → history_of (ps ++ p ∷ []) ≡ history_of ps ++ accepted p.0 p.1 ∷ []
+history_push [] p = refl
+history_push (q ∷ qs) p = ap (λ h. accepted q.0 q.1 ∷ h) (history_push qs p)
+
+same_key : (a b : List ℕ) → is_key a b ≡ true → a ≡ b
+same_key a b h = (slice_eq-Decides Decides-eqb a b (is_key a b) refl).0 h
+
+-- the look-up after a key was put in with the next number
+pub look_up_push : (look_up : List ℕ → Option ℕ) (h : List Accepted) (key : List ℕ) (c : Command) (n : ℕ) (q : List ℕ) → ((k : List ℕ) → look_up k ≡ number_of h k) → number_of h key ≡ None → n ≡ length h + 1 → cond (is_key key q) (Some n) (look_up q) ≡ number_of (h ++ accepted key c ∷ []) q
+unfolding after_push
+look_up_push look_up h key c n q found none is =
+    let push = number_push 1 h (accepted key c) q in
+    let place : 1 + length h ≡ n = omega arith in
+    let push' = push ∙ ap (λ m. after_push m (accepted key c) q (number_of h q)) place in
+    elim (is_key key q) as (λ v. is_key key q ≡ v → cond v (Some n) (look_up q) ≡ number_of (h ++ accepted key c ∷ []) q) [
+      | true ↦ λ e.
+          let same = same_key key q e in
+          let absent : number_of h q ≡ None = ap (number_of h) (sym same) ∙ none in
+          sym (push' ∙ ap (after_push n (accepted key c) q) absent ∙ ap (λ v. if v then Some n else None) e)
+      | false ↦ λ e. found q ∙ sym (push' ∙ kept n (accepted key c) q (number_of h q) e)
+    ] refl
+  where
+    kept : (n : ℕ) (a : Accepted) (q : List ℕ) (o : Option ℕ) → is_key a.key q ≡ false → after_push n a q o ≡ o
+    kept n a q None e = ap (λ v. if v then Some n else None) e
+    kept n a q (Some k) e = refl
+
+-- the command with a number
+pub nth_some : (ps : List (List ℕ × Command)) (n : ℕ) (d : List ℕ × Command) → 1 ≤ n → n ≤ length ps → Some (accepted (get_or ps (n - 1) d).0 (get_or ps (n - 1) d).1) ≡ nth_accepted (history_of ps) n
+nth_some [] n d some few = absurd (omega arith)
+nth_some (p ∷ ps) zero d some few = absurd (omega arith)
+nth_some (p ∷ ps) (suc zero) d some few = refl
+nth_some (p ∷ ps) (suc (suc n)) d some few =
+    let e : suc (suc n) - 1 ≡ suc n = omega arith in
+    let e' : suc n - 1 ≡ n = omega arith in
+    ap (λ i. Some (accepted (get_or (p ∷ ps) i d).0 (get_or (p ∷ ps) i d).1)) e
+    ∙ sym (ap (λ i. Some (accepted (get_or ps i d).0 (get_or ps i d).1)) e')
+    ∙ nth_some ps (suc n) d (omega arith) (omega arith)
+
+pub nth_none : (ps : List (List ℕ × Command)) (n : ℕ) → length ps < n → nth_accepted (history_of ps) n ≡ None
+nth_none ps zero lt = absurd (omega arith)
+nth_none [] (suc n) lt = refl
+nth_none (p ∷ ps) (suc zero) lt = absurd (omega arith)
+nth_none (p ∷ ps) (suc (suc n)) lt = nth_none ps (suc n) (omega arith)

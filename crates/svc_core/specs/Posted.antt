@@ -1,0 +1,38 @@
+-- The accepted commands with their replies, and the place of a key among them.
+use Rattle.std.specs.Prelude.{◌≡◌, ℕ, ◌+◌, List, [], ◌∷◌, length, map, Option, Some, None, if◌then◌else◌}
+use Rattle.svc_types.specs.declared.requests.Command.{Command}
+use Rattle.svc_types.specs.declared.replies.Extra.{Extra}
+use Rattle.svc_types.specs.declared.replies.Reply.{Reply}
+use Rattle.svc_world.specs.World.{Accepted, accepted}
+use Rattle.svc_world.specs.Judging.{is_key}
+
+-- a history of accepted commands with the reply to each, and for how many more there is room
+pub record PostedCommands : Type 0 where
+  pub history : List Accepted
+  pub replies : List Reply
+  pub room : ℕ
+
+-- the number of the command under a key, among some of which the first has number n
+abbrev pub number_from : ℕ → List Accepted → List ℕ → Option ℕ
+number_from n [] key = None
+number_from n (a ∷ more) key = if is_key a.key key then Some n else number_from (n + 1) more key
+
+-- the number of the command under a key, from 1
+abbrev pub number_of : List Accepted → List ℕ → Option ℕ
+number_of h key = number_from 1 h key
+
+-- commands with their keys, as a history has them
+abbrev pub history_of : List (List ℕ × Command) → List Accepted
+history_of ps = map (λ p. accepted p.0 p.1) ps
+
+-- each key is found under the number of its command, and each command has a reply
+pub record AreIndexed (look_up : List ℕ → Option ℕ) (h : List Accepted) (replies : List Reply) : Type 0 where
+  pub found : (key : List ℕ) → look_up key ≡ number_of h key
+  pub replied : length replies ≡ length h
+
+-- the most commands of a history
+abbrev pub most_commands : ℕ
+most_commands = 1_000_000
+
+abbrev pub reply : ℕ → Extra → Reply
+reply number extra = record { number = number; extra = extra }

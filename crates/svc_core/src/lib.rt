@@ -1,0 +1,9 @@
+//! The core of the servicer.
+#![tactic(auto)]
+
+mod posted;
+
+pub use posted::Posted;
+
+#[cfg(test)]
+mod tests;

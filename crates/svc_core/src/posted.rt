@@ -1,0 +1,119 @@
+//! The commands that were accepted, and where each key stands.
+
+ghost use Rattle.std.specs.Prelude.{◌≡◌, ◌+◌, ◌-◌, ◌≤◌, ◌<◌, ◌∷◌, ◌++◌, [], length, None, OnOk, slice_get, Some};
+ghost use Rattle.std.specs.Option.{option_map};
+ghost use Rattle.svc_world.specs.World.{accepted};
+ghost use Rattle.svc_world.specs.Judging.{nth_accepted};
+ghost use Rattle.svc_core.specs.Posted.{number_of, most_commands, reply};
+
+use std::alloc::Global;
+use std::collections::HashMap;
+use std::marker::Model;
+use svc_base::OutOfMemory;
+use svc_types::{Command, Extra, Key, Reply};
+
+/// The accepted commands by number, from 1, each with its key and the reply that was given. A key is
+/// found by one look-up.
+#[derive(Drop)]
+pub struct Posted {
+    numbers: HashMap<Key, u32>,
+    commands: Vec<(Key, Command)>,
+    replies: Vec<Reply>,
+}
+
+impl Model for Posted {
+    ghost use Rattle.std.specs.Prelude.{◌-◌, min, vec_len, vec_capacity};
+    ghost use Rattle.std.specs.HashMap.{get, spare};
+    ghost use Rattle.svc_world.specs.Judging.{is_key};
+    ghost use Rattle.svc_core.specs.Posted.{PostedCommands, AreIndexed, history_of};
+
+    ghost Value = { PostedCommands };
+
+    ghost view = { λ p. record {
+      history = history_of p.commands.items;
+      replies = p.replies.items;
+      room = min (spare p.numbers)
+          (min (vec_capacity p.commands - vec_len p.commands) (vec_capacity p.replies - vec_len p.replies));
+    } };
+
+    ghost invariant = { λ p. AreIndexed (get is_key p.numbers) (history_of p.commands.items) p.replies.items };
+}
+
+impl Posted {
+    /// No command.
+    pub fn new(alloc: Global) -> Posted
+        ensures history { result.history ≡ [] }
+        ensures replies { result.replies ≡ [] }
+    {
+        Posted {
+            numbers: HashMap::new(alloc),
+            commands: Vec::new(alloc),
+            replies: Vec::new(alloc),
+        }
+    }
+
+    /// How many commands were accepted.
+    pub fn count(&self) -> usize
+        ensures { result ≡ length self.now.history }
+    {
+        self.commands.len()
+    }
+
+    /// The number of the command under a key.
+    pub fn number_of(&self, key: &Key) -> Option<u32>
+        ensures { result ≡ number_of self.now.history key.now }
+    {
+        self.numbers.get(key).copied()
+    }
+
+    /// Makes room for one more command; fails for want of memory alone.
+    pub fn reserve(&mut self) -> Result<(), OutOfMemory>
+        ensures history { self.new.history ≡ self.old.history }
+        ensures replies { self.new.replies ≡ self.old.replies }
+        ensures room { OnOk result (1 ≤ self.new.room) }
+    {
+        self.numbers.reserve(1)?;
+        self.commands.reserve(1)?;
+        self.replies.reserve(1)?;
+        Ok(())
+    }
+
+    /// Adds a command under a key that no other has, and what its reply says beside its number, for which
+    /// there is room.
+    pub fn push(&mut self, key: &Key, command: &Command, extra: Extra)
+        requires key { number_of self.old.history key.now ≡ None }
+        requires few { length self.old.history < most_commands }
+        requires room { 1 ≤ self.old.room }
+        ensures history { self.new.history ≡ self.old.history ++ accepted key.now command.now ∷ [] }
+        ensures replies { self.new.replies
+            ≡ self.old.replies ++ reply (length self.old.history + 1) extra ∷ [] }
+    {
+        let number = self.commands.len() as u32 + 1;
+        match self.numbers.insert(*key, number) {
+            Ok(_) => {}
+            Err(_) => unreachable!(),
+        }
+        self.commands.push_reserved((*key, *command));
+        self.replies.push_reserved(Reply { number, extra });
+    }
+
+    /// The command with a number, from 1, and its key.
+    pub fn command(&self, number: u32) -> Option<(Key, Command)>
+        ensures { option_map (λ p. accepted p.0 p.1) result ≡ nth_accepted self.now.history number }
+    {
+        let number = number as usize;
+        if number < 1 || self.commands.len() < number {
+            return None;
+        }
+        Some(self.commands[number - 1])
+    }
+
+    /// The reply to the command with a number, from 1.
+    pub fn reply(&self, number: u32) -> Reply
+        requires some { 1 ≤ number }
+        requires few { number ≤ length self.now.history }
+        ensures { Some result ≡ slice_get self.now.replies (number - 1) }
+    {
+        self.replies[number as usize - 1]
+    }
+}
