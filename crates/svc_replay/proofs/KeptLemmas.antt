@@ -1,7 +1,7 @@
 -- What the fields of an account keep.
 use Rattle.std.proofs.Common.{◌≡◌, ℕ, zero, suc, ◌+◌, ◌≤◌, ◌<◌, true, false, cond, List, [], ◌∷◌, ◌++◌, length, map, get_or, set, arith, refl, sym, ap, subst, ◌∙◌}
 use Rattle.std.specs.Prelude.{◌==◌, ◌||◌, ◌≢◌, not, is_some, Option, Some, None}
-use Rattle.std.specs.List.{All, AllPairs, filter, find}
+use Rattle.std.specs.List.{All, AllPairs, Contains, filter, find}
 use Rattle.std.specs.Option.{option_map}
 use Rattle.std.proofs.lemmas.Bool.Decides.{nat_tests}
 use Rattle.svc_base.specs.Calendar.{month_of, IsDay}
@@ -15,7 +15,8 @@ use Rattle.svc_spec.specs.Months.{cost_of_month, counted}
 use Rattle.svc_spec.proofs.AccountLemmas.{live_after_post, live_after_reversal, live_few, live_entries_fold, begun_account, posted_account, reversed_account, not_yet_reversed}
 use Rattle.svc_spec.proofs.FindLemmas.{find_there}
 use Rattle.svc_spec.proofs.CostLemmas.{refold_within}
-use Rattle.svc_replay.specs.Kept.{IsKept, IsPlaceOf, reversers_of}
+use Rattle.svc_replay.specs.Kept.{IsKept, IsPlaceOf, differ, reversers_of}
+use Rattle.svc_replay.proofs.RemoveLemmas.{live_differ, live_there}
 
 -- ---- what reversed an entry
 
@@ -34,6 +35,14 @@ said_none (r ∷ rs) n h =
       | true ↦ λ e. let named : true ≡ false = rw e at h in cc
       | false ↦ λ e. said_none rs n (rw e at h)
     ] refl
+
+unsaid : (rs : List (ℕ × ℕ)) (n : ℕ) → said_of rs n ≡ None → is_reversed rs n ≡ false
+unsaid [] n h = refl
+unsaid (r ∷ rs) n h =
+    elim (r.0 == n) as (λ v. option_map (λ (x : ℕ × ℕ). x.1) (cond v (Some r) (find (λ x. x.0 == n) rs)) ≡ None → (v || is_reversed rs n) ≡ false) [
+      | true ↦ λ some. let wrong : Some r.1 ≡ None = some in cc
+      | false ↦ λ none. unsaid rs n none
+    ] h
 
 -- one more reversal says nothing of other numbers
 said_other : (rs : List (ℕ × ℕ)) (number by n : ℕ) → (number == n) ≡ false → said_of (rs ++ (number, by) ∷ []) n ≡ said_of rs n
@@ -149,6 +158,9 @@ kept_steps b d old new h after until steps = omega (arith, refold_within b d h a
 pub kept_order : (a : Account) (l l' : List Entry) (by : List (Option ℕ)) → IsKept a l by → l' ≡ l → AllPairs follows l'
 kept_order a l l' by h same = subst (AllPairs follows) (sym (same ∙ h.live)) (live_order a.entries a.reversals)
 
+pub kept_differ : (a : Account) (l l' : List Entry) (by : List (Option ℕ)) → IsKept a l by → l' ≡ l → AllPairs differ l'
+kept_differ a l l' by h same = subst (AllPairs differ) (sym (same ∙ h.live)) (live_differ a.entries a.reversals h.account.rising)
+
 -- an entry is posted: it stands last by number, and in its place among the live ones
 pub kept_posted : (a b : Account) (e : Entry) (l l' es : List Entry) (by by' : List (Option ℕ)) → IsKept a l by → b ≡ a → MayPost b e → IsDay e.day → length a.entries < 4_096 → es ≡ a.entries ++ e ∷ [] → by' ≡ by ++ None ∷ [] → l' ≡ placed e l → IsKept (record { terms = a.terms; entries = es; reversals = a.reversals; today = a.today }) l' by'
 kept_posted a b e l l' es by by' h same may is room more noted place =
@@ -187,3 +199,32 @@ noted_at a l noted_by number i o e h place is =
 -- where no entry has the number, no reversal names it
 pub none_noted : (a : Account) (number : ℕ) → IsAccount a → entry_of a number ≡ None → reverser_of a number ≡ None
 none_noted a number h none = said_none a.reversals number (none_named a.reversals a.entries number h.named none)
+
+-- ---- a number that has a place among the entries
+
+pub entry_here : {a b : Account} {l : List Entry} {by : List (Option ℕ)} (number i : ℕ) (xs : List Entry) → IsKept a l by → b ≡ a → xs ≡ a.entries → IsPlaceOf number xs (Some i) → (e : Entry) × (entry_of b number ≡ Some e)
+entry_here {a} number i xs h same is place =
+    let place' : IsPlaceOf number a.entries (Some i) = subst (λ ys. IsPlaceOf number ys (Some i)) is place in
+    let e = any_entry a i place'.0 in
+    (get_or a.entries i e, ap (λ x. entry_of x number) same ∙ place_there a number i e h.account place')
+
+pub known_here : {a b : Account} {l : List Entry} {by : List (Option ℕ)} (number i : ℕ) (xs : List Entry) → IsKept a l by → b ≡ a → xs ≡ a.entries → IsPlaceOf number xs (Some i) → entry_of b number ≡ None → ⊥
+known_here number i xs h same is place none =
+    let there = entry_here number i xs h same is place in
+    let wrong : None ≡ Some there.0 = sym none ∙ there.1 in
+    cc
+
+pub reverser_here : {a b : Account} {l : List Entry} {by : List (Option ℕ)} (number i : ℕ) (xs : List Entry) (o : Option ℕ) → IsKept a l by → b ≡ a → xs ≡ a.entries → IsPlaceOf number xs (Some i) → o ≡ get_or by i o → reverser_of b number ≡ o
+reverser_here {a} {b} {l} {by} number i xs o h same is place noted =
+    let place' : IsPlaceOf number a.entries (Some i) = subst (λ ys. IsPlaceOf number ys (Some i)) is place in
+    ap (λ x. reverser_of x number) same ∙ sym (noted_at a l by number i o (any_entry a i place'.0) h place' noted)
+
+-- where no reversal names it, the entry is among the live ones
+pub live_here : {a b : Account} {l : List Entry} {by : List (Option ℕ)} (number i : ℕ) (xs l' : List Entry) (e : Entry) → IsKept a l by → b ≡ a → xs ≡ a.entries → IsPlaceOf number xs (Some i) → l' ≡ l → None ≡ get_or by i None → e ≡ get_or a.entries i e → Contains l' e
+live_here {a} {b} {l} {by} number i xs l' e h same is place kept free at =
+    let place' : IsPlaceOf number a.entries (Some i) = subst (λ ys. IsPlaceOf number ys (Some i)) is place in
+    let none = reverser_here number i xs None h same is place free in
+    let none' : said_of a.reversals number ≡ None = rw same at none in
+    let named : e.number ≡ number = ap (λ (x : Entry). x.number) at ∙ place'.1 e in
+    let unnamed : is_reversed a.reversals e.number ≡ false = unsaid a.reversals e.number (rw named none') in
+    subst (λ zs. Contains zs e) (sym (kept ∙ h.live)) (live_there a.entries a.reversals e i place'.0 (sym at) unnamed)

@@ -3,3 +3,4 @@ pub mod AfterLemmas
 pub mod EntryLemmas
 pub mod KeptLemmas
 pub mod PlainLemmas
+pub mod RemoveLemmas

@@ -1,5 +1,5 @@
 -- What an implementation of a loan's books keeps: its account, and for how much more it has room.
-use Rattle.std.specs.Prelude.{◌≡◌, ℕ, ◌+◌, ◌≤◌, ◌<◌, ◌==◌, Option, None, Some, List, length, get_or, map}
+use Rattle.std.specs.Prelude.{◌≡◌, ◌≢◌, ℕ, ◌+◌, ◌≤◌, ◌<◌, ◌==◌, Option, None, Some, List, length, get_or, map}
 use Rattle.std.specs.List.{find}
 use Rattle.svc_types.specs.declared.terms.Terms.{Terms}
 use Rattle.svc_types.specs.declared.books.Books.{Books}
@@ -47,6 +47,10 @@ pub record IsKept (a : Account) (ordered : List Entry) (by : List (Option ℕ)) 
   pub account : IsAccount a
   pub live : ordered ≡ live_of a
   pub reversed : by ≡ reversers_of a
+
+-- two entries have different numbers
+abbrev pub differ : Entry → Entry → Type 0
+differ a b = a.number ≢ b.number
 
 -- the place of the entry with a number, where there is one
 abbrev pub IsPlaceOf : ℕ → List Entry → Option ℕ → Type 0

@@ -1,14 +1,15 @@
 //! The account of a loan: its entries and reversals, and the live entries in order.
 
 ghost use Rattle.std.specs.Prelude.{◌≡◌, ◌+◌, ◌≤◌, ◌<◌, nat_lt, length, None, IfSome, IsErrOf, OnOk, OnErr};
-ghost use Rattle.std.specs.Prelude.{IfErr};
-ghost use Rattle.std.specs.List.{AllPairs};
+ghost use Rattle.std.specs.Prelude.{IfErr, ◌==◌, not, false};
+ghost use Rattle.std.specs.List.{AllPairs, Contains, filter, remove};
+ghost use Rattle.svc_types.specs.Live.{is_before};
 ghost use Rattle.svc_base.specs.Calendar.{month_of as month_number, months_end};
 ghost use Rattle.svc_spec.specs.Accounts as rule;
 ghost use Rattle.svc_spec.specs.Books.{AreBooks};
 ghost use Rattle.svc_spec.specs.Months.{cost_of_month, counted};
 ghost use Rattle.svc_replay.specs.Faults.{most_entries, IsPostFault, IsReverseFault};
-ghost use Rattle.svc_replay.specs.Kept.{IsLoweredBy, IsPlaceOf, nothing, one_entry, one_reversal};
+ghost use Rattle.svc_replay.specs.Kept.{IsLoweredBy, IsPlaceOf, differ, nothing, one_entry, one_reversal};
 
 use crate::fault::BookFault;
 use crate::folding::refold;
@@ -16,7 +17,7 @@ use std::alloc::Global;
 use std::marker::Model;
 use std::sync::ledger::Ledger;
 use svc_base::{Day, OutOfMemory, Steps};
-use svc_types::{Books, Entry, Terms, place_of};
+use svc_types::{Books, Entry, Terms, before, place_of};
 
 /// The most entries of a loan, reversed ones counted.
 const MOST_ENTRIES: usize = 4_096;
@@ -143,7 +144,8 @@ impl LoanAccount {
         }
         self.reversals.push((number, by))?;
         self.reversers[place] = Some(by);
-        self.live.retain(|entry| number != entry.number);
+        let reversed = self.entries[place];
+        self.live.remove(place_among(&self.live, &reversed));
         Ok(())
     }
 
@@ -227,6 +229,19 @@ fn place_with(entries: &[Entry], number: u32) -> Option<usize>
         return Some(place);
     }
     None
+}
+
+/// The place of an entry among entries in order, of which it is one: what they are without it are those
+/// with other numbers.
+fn place_among(ordered: &[Entry], entry: &Entry) -> usize
+    requires order { AllPairs (λ a b. is_before b a ≡ false) ordered.now }
+    requires apart { AllPairs differ ordered.now }
+    requires there { Contains ordered.now entry.now }
+    ensures bound { result < length ordered.now }
+    ensures others { remove ordered.now result
+        ≡ filter (λ other. not (entry.now.number == other.number)) ordered.now }
+{
+    ordered.partition_point(|other| before(other, entry))
 }
 
 /// Whether an entry has a lower number.

@@ -1,96 +1,68 @@
 use Rattle.std.proofs.Common.{◌≡◌, true, refl, sym, ap, ◌∙◌, rules}
-use Rattle.std.specs.Prelude.{◌==◌, not, is_some, None, Some}
-use Rattle.std.proofs.lemmas.Fn.{filter_same}
+use Rattle.std.specs.Prelude.{is_some, None, Some}
+use Rattle.svc_types.specs.declared.account.Entry.{Entry}
 use Rattle.svc_spec.specs.Accounts.{Account, entry_of, reverser_of}
 use Rattle.svc_replay.specs.Kept.{Kept, IsPlaceOf}
-use Rattle.svc_replay.proofs.KeptLemmas.{kept_reversed, place_there, noted_at, found_some, any_entry}
+use Rattle.svc_replay.proofs.KeptLemmas.{kept_reversed, kept_order, kept_differ, entry_here, known_here, reverser_here, live_here, found_some, any_entry}
+use Rattle.svc_replay.proofs.RemoveLemmas.{left_without}
 use Rattle.svc_replay.proofs.account.LoanAccount.reverse.Goals as goal
 
 pub returns-in-Some-index-clause-unknown : goal.returns-in-Some-index-clause-unknown
-returns-in-Some-index-clause-unknown c none =
-    let a : Account = record { terms = c.self.inside.terms; entries = c.self.inside.entries.items; reversals = c.self.inside.reversals.items; today = c.self.inside.today } in
-    let same : c.args.self.now.account ≡ a = ap (λ (k : Kept). k.account) (sym c.self.view_is) in
-    let place : IsPlaceOf c.args.number a.entries (Some c.in-Some.place) = rw c.deref.ensures.value at c.in-Some.ensures in
-    let there = place_there a c.args.number c.in-Some.place (any_entry a c.in-Some.place place.0) c.self.invariant.account place in
-    absurd (let none' : entry_of a c.args.number ≡ None = rw same at none in cc)
+returns-in-Some-index-clause-unknown c none = absurd (known_here c.args.number c.in-Some.place c.deref.result.now c.self.invariant (ap (λ (k : Kept). k.account) (sym c.self.view_is)) c.deref.ensures.value c.in-Some.ensures none)
 
 pub returns-in-Some-index-clause-again : goal.returns-in-Some-index-clause-again
 returns-in-Some-index-clause-again c =
-    let a : Account = record { terms = c.self.inside.terms; entries = c.self.inside.entries.items; reversals = c.self.inside.reversals.items; today = c.self.inside.today } in
-    let same : c.args.self.now.account ≡ a = ap (λ (k : Kept). k.account) (sym c.self.view_is) in
-    let place : IsPlaceOf c.args.number a.entries (Some c.in-Some.place) = rw c.deref.ensures.value at c.in-Some.ensures in
-    let e = any_entry a c.in-Some.place place.0 in
-    let there = place_there a c.args.number c.in-Some.place e c.self.invariant.account place in
-    let noted : reverser_of a c.args.number ≡ Some c.in-Some-index.earlier = sym (noted_at a c.self.inside.live.items c.self.inside.reversers.items c.args.number c.in-Some.place c.index.result.now e c.self.invariant place c.index.ensures) ∙ c.in-Some-index.is in
-    rw (same, there, noted) refl
+    let there = entry_here c.args.number c.in-Some.place c.deref.result.now c.self.invariant (ap (λ (k : Kept). k.account) (sym c.self.view_is)) c.deref.ensures.value c.in-Some.ensures in
+    let noted : reverser_of c.args.self.now.account c.args.number ≡ Some c.in-Some-index.earlier = reverser_here c.args.number c.in-Some.place c.deref.result.now c.index.result.now c.self.invariant (ap (λ (k : Kept). k.account) (sym c.self.view_is)) c.deref.ensures.value c.in-Some.ensures c.index.ensures ∙ c.in-Some-index.is in
+    rw (there.1, noted) refl
 
 pub returns-in-Some-index-clause-fault : goal.returns-in-Some-index-clause-fault
 returns-in-Some-index-clause-fault c =
-    let a : Account = record { terms = c.self.inside.terms; entries = c.self.inside.entries.items; reversals = c.self.inside.reversals.items; today = c.self.inside.today } in
-    let same : c.args.self.now.account ≡ a = ap (λ (k : Kept). k.account) (sym c.self.view_is) in
-    let place : IsPlaceOf c.args.number a.entries (Some c.in-Some.place) = rw c.deref.ensures.value at c.in-Some.ensures in
-    let e = any_entry a c.in-Some.place place.0 in
-    let there = place_there a c.args.number c.in-Some.place e c.self.invariant.account place in
-    let noted : reverser_of a c.args.number ≡ Some c.in-Some-index.earlier = sym (noted_at a c.self.inside.live.items c.self.inside.reversers.items c.args.number c.in-Some.place c.index.result.now e c.self.invariant place c.index.ensures) ∙ c.in-Some-index.is in
-    rw (same, there, noted) (refl, refl)
+    let there = entry_here c.args.number c.in-Some.place c.deref.result.now c.self.invariant (ap (λ (k : Kept). k.account) (sym c.self.view_is)) c.deref.ensures.value c.in-Some.ensures in
+    let noted : reverser_of c.args.self.now.account c.args.number ≡ Some c.in-Some-index.earlier = reverser_here c.args.number c.in-Some.place c.deref.result.now c.index.result.now c.self.invariant (ap (λ (k : Kept). k.account) (sym c.self.view_is)) c.deref.ensures.value c.in-Some.ensures c.index.ensures ∙ c.in-Some-index.is in
+    rw (there.1, noted) (refl, refl)
 
 pub returns-in_err-push-clause-unknown : goal.returns-in_err-push-clause-unknown
-returns-in_err-push-clause-unknown c none =
-    let a : Account = record { terms = c.self.inside.terms; entries = c.self.inside.entries.items; reversals = c.self.inside.reversals.items; today = c.self.inside.today } in
-    let same : c.args.self.now.account ≡ a = ap (λ (k : Kept). k.account) (sym c.self.view_is) in
-    let place : IsPlaceOf c.args.number a.entries (Some c.in-Some.place) = rw c.deref.ensures.value at c.in-Some.ensures in
-    let e = any_entry a c.in-Some.place place.0 in
-    let there = place_there a c.args.number c.in-Some.place e c.self.invariant.account place in
-    absurd (let none' : entry_of a c.args.number ≡ None = rw same at none in cc)
+returns-in_err-push-clause-unknown c none = absurd (known_here c.args.number c.in-Some.place c.deref.result.now c.self.invariant (ap (λ (k : Kept). k.account) (sym c.self.view_is)) c.deref.ensures.value c.in-Some.ensures none)
 
 pub returns-in_err-push-clause-again : goal.returns-in_err-push-clause-again
 returns-in_err-push-clause-again c =
-    let a : Account = record { terms = c.self.inside.terms; entries = c.self.inside.entries.items; reversals = c.self.inside.reversals.items; today = c.self.inside.today } in
-    let same : c.args.self.now.account ≡ a = ap (λ (k : Kept). k.account) (sym c.self.view_is) in
-    let place : IsPlaceOf c.args.number a.entries (Some c.in-Some.place) = rw c.deref.ensures.value at c.in-Some.ensures in
-    let e = any_entry a c.in-Some.place place.0 in
-    let there = place_there a c.args.number c.in-Some.place e c.self.invariant.account place in
-    let free : reverser_of a c.args.number ≡ None = sym (noted_at a c.self.inside.live.items c.self.inside.reversers.items c.args.number c.in-Some.place c.index.result.now e c.self.invariant place c.index.ensures) ∙ c.in_default-index.is in
-    rw (same, there, free) tt
+    let there = entry_here c.args.number c.in-Some.place c.deref.result.now c.self.invariant (ap (λ (k : Kept). k.account) (sym c.self.view_is)) c.deref.ensures.value c.in-Some.ensures in
+    let free : reverser_of c.args.self.now.account c.args.number ≡ None = reverser_here c.args.number c.in-Some.place c.deref.result.now c.index.result.now c.self.invariant (ap (λ (k : Kept). k.account) (sym c.self.view_is)) c.deref.ensures.value c.in-Some.ensures c.index.ensures ∙ c.in_default-index.is in
+    rw (there.1, free) tt
 
 pub returns-in_err-push-clause-fault : goal.returns-in_err-push-clause-fault
 returns-in_err-push-clause-fault c =
-    let a : Account = record { terms = c.self.inside.terms; entries = c.self.inside.entries.items; reversals = c.self.inside.reversals.items; today = c.self.inside.today } in
-    let same : c.args.self.now.account ≡ a = ap (λ (k : Kept). k.account) (sym c.self.view_is) in
-    let place : IsPlaceOf c.args.number a.entries (Some c.in-Some.place) = rw c.deref.ensures.value at c.in-Some.ensures in
-    let e = any_entry a c.in-Some.place place.0 in
-    let there = place_there a c.args.number c.in-Some.place e c.self.invariant.account place in
-    let free : reverser_of a c.args.number ≡ None = sym (noted_at a c.self.inside.live.items c.self.inside.reversers.items c.args.number c.in-Some.place c.index.result.now e c.self.invariant place c.index.ensures) ∙ c.in_default-index.is in
-    let some : is_some (entry_of c.args.self.now.account c.args.number) ≡ true = rw same (found_some (entry_of a c.args.number) _ there) in
-    let none : reverser_of c.args.self.now.account c.args.number ≡ None = rw same free in
+    let there = entry_here c.args.number c.in-Some.place c.deref.result.now c.self.invariant (ap (λ (k : Kept). k.account) (sym c.self.view_is)) c.deref.ensures.value c.in-Some.ensures in
+    let free : reverser_of c.args.self.now.account c.args.number ≡ None = reverser_here c.args.number c.in-Some.place c.deref.result.now c.index.result.now c.self.invariant (ap (λ (k : Kept). k.account) (sym c.self.view_is)) c.deref.ensures.value c.in-Some.ensures c.index.ensures ∙ c.in_default-index.is in
+    let some : is_some (entry_of c.args.self.now.account c.args.number) ≡ true = found_some (entry_of c.args.self.now.account c.args.number) there.0 there.1 in
     search rules
 
 pub returns-clause-unknown : goal.returns-clause-unknown
-returns-clause-unknown c none =
-    let a : Account = record { terms = c.self.inside.terms; entries = c.self.inside.entries.items; reversals = c.self.inside.reversals.items; today = c.self.inside.today } in
-    let same : c.args.self.now.account ≡ a = ap (λ (k : Kept). k.account) (sym c.self.view_is) in
-    let place : IsPlaceOf c.args.number a.entries (Some c.in-Some.place) = rw c.deref.ensures.value at c.in-Some.ensures in
-    let e = any_entry a c.in-Some.place place.0 in
-    let there = place_there a c.args.number c.in-Some.place e c.self.invariant.account place in
-    absurd (let none' : entry_of a c.args.number ≡ None = rw same at none in cc)
+returns-clause-unknown c none = absurd (known_here c.args.number c.in-Some.place c.deref.result.now c.self.invariant (ap (λ (k : Kept). k.account) (sym c.self.view_is)) c.deref.ensures.value c.in-Some.ensures none)
 
 pub returns-clause-again : goal.returns-clause-again
 returns-clause-again c =
-    let a : Account = record { terms = c.self.inside.terms; entries = c.self.inside.entries.items; reversals = c.self.inside.reversals.items; today = c.self.inside.today } in
-    let same : c.args.self.now.account ≡ a = ap (λ (k : Kept). k.account) (sym c.self.view_is) in
-    let place : IsPlaceOf c.args.number a.entries (Some c.in-Some.place) = rw c.deref.ensures.value at c.in-Some.ensures in
-    let e = any_entry a c.in-Some.place place.0 in
-    let there = place_there a c.args.number c.in-Some.place e c.self.invariant.account place in
-    let free : reverser_of a c.args.number ≡ None = sym (noted_at a c.self.inside.live.items c.self.inside.reversers.items c.args.number c.in-Some.place c.index.result.now e c.self.invariant place c.index.ensures) ∙ c.in_default-index.is in
-    rw (same, there, free) tt
+    let there = entry_here c.args.number c.in-Some.place c.deref.result.now c.self.invariant (ap (λ (k : Kept). k.account) (sym c.self.view_is)) c.deref.ensures.value c.in-Some.ensures in
+    let free : reverser_of c.args.self.now.account c.args.number ≡ None = reverser_here c.args.number c.in-Some.place c.deref.result.now c.index.result.now c.self.invariant (ap (λ (k : Kept). k.account) (sym c.self.view_is)) c.deref.ensures.value c.in-Some.ensures c.index.ensures ∙ c.in_default-index.is in
+    rw (there.1, free) tt
+
+pub place_among-requires-clause-order : goal.place_among-requires-clause-order
+place_among-requires-clause-order c = kept_order _ c.self.inside.live.items c.deref-2.result.now c.self.inside.reversers.items c.self.invariant c.deref-2.ensures.value
+
+pub place_among-requires-clause-apart : goal.place_among-requires-clause-apart
+place_among-requires-clause-apart c = kept_differ _ c.self.inside.live.items c.deref-2.result.now c.self.inside.reversers.items c.self.invariant c.deref-2.ensures.value
+
+pub place_among-requires-clause-there : goal.place_among-requires-clause-there
+place_among-requires-clause-there c =
+    live_here c.args.number c.in-Some.place c.deref.result.now c.deref-2.result.now c.index-2.result.now c.self.invariant (ap (λ (k : Kept). k.account) (sym c.self.view_is)) c.deref.ensures.value c.in-Some.ensures c.deref-2.ensures.value (rw c.in_default-index.is at c.index.ensures) c.index-2.ensures
 
 pub invariant_of-self-2 : goal.invariant_of-self-2
 invariant_of-self-2 c =
     let a : Account = record { terms = c.self.inside.terms; entries = c.self.inside.entries.items; reversals = c.self.inside.reversals.items; today = c.self.inside.today } in
     let same : c.args.self.now.account ≡ a = ap (λ (k : Kept). k.account) (sym c.self.view_is) in
     let place : IsPlaceOf c.args.number a.entries (Some c.in-Some.place) = rw c.deref.ensures.value at c.in-Some.ensures in
-    let e = any_entry a c.in-Some.place place.0 in
-    let there = place_there a c.args.number c.in-Some.place e c.self.invariant.account place in
-    let free : reverser_of a c.args.number ≡ None = sym (noted_at a c.self.inside.live.items c.self.inside.reversers.items c.args.number c.in-Some.place c.index.result.now e c.self.invariant place c.index.ensures) ∙ c.in_default-index.is in
-    let left = filter_same _ (λ e. not (c.args.number == e.number)) _ (λ x b f' called. search rules) c.self.inside.live.items c.retain.new.self.items c.retain.ensures.filtered in
-    kept_reversed a c.args.self.now.account c.args.number c.args.by c.in-Some.place c.self.inside.live.items c.retain.new.self.items c.push.new.self.items c.self.inside.reversers.items _ c.self.invariant same place free c.in_ok-push.ensures.items left refl e
+    let free : reverser_of a c.args.number ≡ None = reverser_here c.args.number c.in-Some.place c.deref.result.now c.index.result.now c.self.invariant refl c.deref.ensures.value c.in-Some.ensures c.index.ensures ∙ c.in_default-index.is in
+    let named : c.index-2.result.now.number ≡ c.args.number = ap (λ (x : Entry). x.number) c.index-2.ensures ∙ place.1 c.index-2.result.now in
+    let left = left_without c.self.inside.live.items c.deref-2.result.now c.remove.new.self.items c.index-2.result.now.number c.args.number c.place_among.result named c.deref-2.ensures.value c.remove.ensures.items c.place_among.ensures.others in
+    kept_reversed a c.args.self.now.account c.args.number c.args.by c.in-Some.place c.self.inside.live.items c.remove.new.self.items c.push.new.self.items c.self.inside.reversers.items _ c.self.invariant same place free c.in_ok-push.ensures.items left refl (any_entry a c.in-Some.place place.0)
