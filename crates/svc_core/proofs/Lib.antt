@@ -1,1 +1,2 @@
 pub mod PostedLemmas
+pub mod CashLemmas

@@ -1,1 +1,2 @@
 pub mod Posted
+pub mod Cash

@@ -1,6 +1,7 @@
 //! The core of the servicer.
 #![tactic(auto)]
 
+mod cash;
 mod posted;
 
 pub use posted::Posted;
