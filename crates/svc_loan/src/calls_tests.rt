@@ -1,6 +1,6 @@
 //! Each call of a loan once, with ample memory, for both ways of keeping books.
 
-ghost use Rattle.std.specs.Prelude.{◌≡◌, [], ◌+◌, ◌-◌, ◌*◌, ◌<◌, ◌≤◌, pos, true, IsTrue, IfOk, OnOk};
+ghost use Rattle.std.specs.Prelude.{◌≡◌, ◌+◌, ◌*◌, ◌<◌, pos, true, IsTrue, IfOk, OnOk};
 ghost use Rattle.std.specs.List.{list_any};
 ghost use Rattle.svc_spec.specs.Books.{IsAct};
 ghost use Rattle.escrow_lines.specs.BillLists.{has_id};
@@ -70,7 +70,6 @@ fn with_entries<B: LoanBooks, L: Ledger>(
 ) -> Result<Loan<B>, Fail>
     ensures boarded { IfOk result (λ l. l.held.account.terms.boarded ≡ 31 * (12 * 2023 + 11) + 14) }
     ensures today { IfOk result (λ l. l.held.account.today ≡ 31 * (12 * 2024 + 3)) }
-    ensures lines { IfOk result (λ l. l.held.lines ≡ []) }
     ensures closed { IfOk result (λ l. l.closed ≡ 0) }
     ensures remitted { IfOk result (λ l. l.remitted ≡ pos 0) }
     ensures ready { IfOk result (IsReady (31 * (12 * 2024 + 3))) }

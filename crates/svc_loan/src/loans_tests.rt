@@ -1,6 +1,6 @@
 //! All loans: many of them, and each call on one of them.
 
-ghost use Rattle.std.specs.Prelude.{◌≡◌, ◌∷◌, [], ◌+◌, ◌-◌, ◌*◌, ◌<◌, ◌≤◌, pos, IfOk};
+ghost use Rattle.std.specs.Prelude.{◌≡◌, ◌∷◌, [], ◌+◌, ◌*◌, ◌<◌, ◌≤◌, pos, IfOk};
 ghost use Rattle.svc_loan.specs.Kept.{IsReady};
 
 use crate::calls_tests::{has_line, tax};

@@ -12,6 +12,7 @@ ghost use Rattle.svc_world.specs.LoanDues.{type_change};
 use crate::Loan;
 use std::alloc::Global;
 use std::marker::Brand;
+use std::process::Abort;
 use std::sync::ledger::{Blank, Ledger};
 use std::test::Fail;
 use svc_base::{Cents, Day, Month, Steps, month_of};
@@ -420,64 +421,50 @@ const fn dues(from_february: [(Cents, Cents); 4]) -> Dues {
     [NONE, NONE, february, march, april, may]
 }
 
-#[test]
-fn dues_of_closed_months_follow_what_happens(rt: HostRuntime) -> Result<(), Fail> {
+/// What happens, to a loan of which type, and the dues before and after the last of it.
+type Row = (Case, RemitType, Dues, Dues);
+
+fn rows_of_payments() -> [Row; 6] {
     use RemitType::{AA, SS};
     let two = dues([FEBRUARY, MARCH, NONE, NONE]);
     let one = dues([FEBRUARY, NONE, NONE, NONE]);
-    let two_months = (191_474, 0);
-    let rows = [
+    let late = dues([NONE, FEBRUARY, NONE, NONE]);
+    let curtailed = dues([CURTAILED, AFTER_CURTAILMENT, NONE, NONE]);
+    [
         (Case::LatePayment, SS, two, two),
         (Case::LatePayment, AA, one, two),
         (Case::Reversal, SS, two, two),
-        (Case::Reversal, AA, two, dues([NONE, FEBRUARY, NONE, NONE])),
+        (Case::Reversal, AA, two, late),
+        (Case::Curtailment, SS, curtailed, two),
         (Case::Payoff, SS, dues([PAID_OFF, NONE, NONE, NONE]), two),
-        (
-            Case::Payoff,
-            AA,
-            dues([PAID_OFF_AS_COLLECTED, NONE, NONE, NONE]),
-            one,
-        ),
-        (
-            Case::Satisfied,
-            SS,
-            dues([PAID_OFF, NONE, NONE, NONE]),
-            dues([PAID_OFF, (47_869, 0), NONE, NONE]),
-        ),
-        (
-            Case::Curtailment,
-            SS,
-            dues([CURTAILED, AFTER_CURTAILMENT, NONE, NONE]),
-            two,
-        ),
-        (
-            Case::ToScheduled,
-            AA,
-            dues([FEBRUARY, NONE, two_months, NONE]),
-            dues([FEBRUARY, MARCH, (191_474 - 95_832, 0), NONE]),
-        ),
-        (
-            Case::AndBack,
-            AA,
-            dues([FEBRUARY, NONE, two_months, NONE]),
-            dues([FEBRUARY, NONE, two_months, (-191_474, 0)]),
-        ),
-        (
-            Case::ChangedAfterClosing,
-            AA,
-            one,
-            dues([FEBRUARY, NONE, two_months, NONE]),
-        ),
-        (
-            Case::ChangedTwice,
-            AA,
-            dues([FEBRUARY, NONE, two_months, NONE]),
-            one,
-        ),
-    ];
-    for (case, kind, before, after) in rows {
-        let plain = dues_in::<Plain, Brand>(rt.alloc(), Blank::new(1), case, kind)?;
-        let checked = dues_in::<Checked, Brand>(rt.alloc(), Blank::new(1), case, kind)?;
+    ]
+}
+
+fn rows_of_types() -> [Row; 6] {
+    use RemitType::{AA, SS};
+    let one = dues([FEBRUARY, NONE, NONE, NONE]);
+    let collected = dues([PAID_OFF_AS_COLLECTED, NONE, NONE, NONE]);
+    let paid_off = dues([PAID_OFF, NONE, NONE, NONE]);
+    let satisfied = dues([PAID_OFF, (47_869, 0), NONE, NONE]);
+    let changed = dues([FEBRUARY, NONE, (191_474, 0), NONE]);
+    let paid = dues([FEBRUARY, MARCH, (191_474 - 95_832, 0), NONE]);
+    let back = dues([FEBRUARY, NONE, (191_474, 0), (-191_474, 0)]);
+    [
+        (Case::Payoff, AA, collected, one),
+        (Case::Satisfied, SS, paid_off, satisfied),
+        (Case::ToScheduled, AA, changed, paid),
+        (Case::AndBack, AA, changed, back),
+        (Case::ChangedAfterClosing, AA, one, changed),
+        (Case::ChangedTwice, AA, changed, one),
+    ]
+}
+
+/// Runs rows for both ways of keeping books.
+fn check_rows(rt: &impl Abort, alloc: Global, rows: &[Row]) -> Result<(), Fail> {
+    for row in rows {
+        let (case, kind, before, after) = *row;
+        let plain = dues_in::<Plain, Brand>(alloc, Blank::new(1), case, kind)?;
+        let checked = dues_in::<Checked, Brand>(alloc, Blank::new(1), case, kind)?;
         assert_eq!(rt;
             plain,
             (before, after),
@@ -490,4 +477,10 @@ fn dues_of_closed_months_follow_what_happens(rt: HostRuntime) -> Result<(), Fail
         );
     }
     Ok(())
+}
+
+#[test]
+fn dues_of_closed_months_follow_what_happens(rt: HostRuntime) -> Result<(), Fail> {
+    check_rows(&rt, rt.alloc(), &rows_of_payments())?;
+    check_rows(&rt, rt.alloc(), &rows_of_types())
 }

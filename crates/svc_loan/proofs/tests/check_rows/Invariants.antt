@@ -1,4 +1,4 @@
-use Rattle.svc_loan.proofs.tests.dues_of_closed_months_follow_what_happens.Given as goal
+use Rattle.svc_loan.proofs.tests.check_rows.Given as goal
 
 abbrev pub ghosts-dues_in : goal.ghosts-dues_in
 ghosts-dues_in g a = record { name = a.blank.name; parts = a.blank.parts }
