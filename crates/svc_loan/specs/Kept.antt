@@ -26,10 +26,6 @@ pub record KeptTypes : Type 0 where
   pub changes : List TypeChange
   pub room : ℕ
 
--- the most changes of type of a loan
-abbrev pub most_types : ℕ
-most_types = 64
-
 -- a loan of these parts
 abbrev pub held_of : ℕ → Account → List Line → List TypeChange → Held
 held_of id a lines types = record { id = id; account = a; lines = lines; types = types }
