@@ -4,9 +4,10 @@ use Rattle.std.proofs.lemmas.Bool.Decides.{Decides-eqb}
 use Rattle.std.proofs.lemmas.Slice.Eq.{slice_eq-Decides}
 use Rattle.std.specs.Prelude.{Option, Some, None, if◌then◌else◌}
 use Rattle.svc_types.specs.declared.requests.Command.{Command}
-use Rattle.svc_world.specs.World.{Accepted, accepted}
-use Rattle.svc_world.specs.Judging.{is_key, nth_accepted}
-use Rattle.svc_core.specs.Posted.{number_from, number_of, history_of}
+use Rattle.svc_types.specs.declared.replies.Reply.{Reply}
+use Rattle.svc_world.specs.World.{World, Accepted, accepted, after, world_from}
+use Rattle.svc_world.specs.Judging.{is_key, nth_accepted, reply_of, known_from}
+use Rattle.svc_core.specs.Posted.{number_from, number_of, history_of, known_as, known_among, replies_from}
 
 -- what is found after one command more: what was found before it, else that command
 after_push : ℕ → Accepted → List ℕ → Option ℕ → Option ℕ
@@ -67,3 +68,62 @@ nth_none ps zero lt = absurd (omega arith)
 nth_none [] (suc n) lt = refl
 nth_none (p ∷ ps) (suc zero) lt = absurd (omega arith)
 nth_none (p ∷ ps) (suc (suc n)) lt = nth_none ps (suc n) (omega arith)
+
+-- ---- what a key finds
+
+pub known_of : (n : ℕ) (w : World) (h : List Accepted) (key : List ℕ) → known_from n w h key ≡ known_among h (replies_from n w h) key
+unfolding known_from replies_from
+known_of n w [] key = refl
+known_of n w (a ∷ more) key =
+    let rest = known_of (n + 1) (after (n + 1) w a.command) more key in
+    ap (λ o. if is_key a.key key then Some (known_as a.command (reply_of (n + 1) w a.command)) else o) rest
+
+pub replies_push : (n : ℕ) (w : World) (h : List Accepted) (a : Accepted) → replies_from n w (h ++ a ∷ []) ≡ replies_from n w h ++ reply_of (n + length h + 1) (world_from n w h) a.command ∷ []
+unfolding replies_from world_from
+replies_push n w [] a =
+    let same : n + 1 ≡ n + 0 + 1 = omega arith in
+    ap (λ k. reply_of k w a.command ∷ []) same
+replies_push n w (x ∷ h) a =
+    let next = after (n + 1) w x.command in
+    let same : n + 1 + length h + 1 ≡ n + suc (length h) + 1 = omega arith in
+    ap (λ rs. reply_of (n + 1) w x.command ∷ rs) (replies_push (n + 1) next h a ∙ ap (λ k. replies_from (n + 1) next h ++ reply_of k (world_from (n + 1) next h) a.command ∷ []) same)
+
+-- the command and the reply at the place of a key
+pub known_at_place : (n : ℕ) (h : List Accepted) (rs : List Reply) (key : List ℕ) (m : ℕ) (a : Accepted) (r : Reply) → length rs ≡ length h → number_from n h key ≡ Some m → known_among h rs key ≡ Some (known_as (get_or h (m - n) a).command (get_or rs (m - n) r))
+known_at_place n [] rs key m a r same found = absurd (cc)
+known_at_place n (x ∷ h) [] key m a r same found = absurd (let e : 0 ≡ suc (length h) = same in omega arith)
+known_at_place n (x ∷ h) (q ∷ rs) key m a r same found =
+    elim (is_key x.key key) as (λ v. (if v then Some n else number_from (n + 1) h key) ≡ Some m → (if v then Some (known_as x.command q) else known_among h rs key) ≡ Some (known_as (get_or (x ∷ h) (m - n) a).command (get_or (q ∷ rs) (m - n) r))) [
+      | true ↦ λ e.
+          let is : n ≡ m = cc in
+          let zero' : m - n ≡ 0 = omega arith in
+          sym (ap (λ i. Some (known_as (get_or (x ∷ h) i a).command (get_or (q ∷ rs) i r))) zero')
+      | false ↦ λ e.
+          let above = number_above (n + 1) h key m e in
+          let back : suc (m - (n + 1)) ≡ m - n = omega arith in
+          known_at_place (n + 1) h rs key m a r (omega (arith, same)) e ∙ ap (λ i. Some (known_as (get_or (x ∷ h) i a).command (get_or (q ∷ rs) i r))) back
+    ] found
+  where
+    number_above : (n : ℕ) (h : List Accepted) (key : List ℕ) (m : ℕ) → number_from n h key ≡ Some m → n ≤ m
+    number_above n [] key m e = absurd (cc)
+    number_above n (x ∷ h) key m e = elim (is_key x.key key) as (λ v. (if v then Some n else number_from (n + 1) h key) ≡ Some m → n ≤ m) [
+      | true ↦ λ is. let same : n ≡ m = cc in omega arith
+      | false ↦ λ is. let rest = number_above (n + 1) h key m is in omega arith
+    ] e
+
+pub known_nothing : (n : ℕ) (h : List Accepted) (rs : List Reply) (key : List ℕ) → number_from n h key ≡ None → known_among h rs key ≡ None
+known_nothing n [] rs key found = refl
+known_nothing n (x ∷ h) [] key found = refl
+known_nothing n (x ∷ h) (q ∷ rs) key found =
+    elim (is_key x.key key) as (λ v. (if v then Some n else number_from (n + 1) h key) ≡ None → (if v then Some (known_as x.command q) else known_among h rs key) ≡ None) [
+      | true ↦ λ e. absurd (cc)
+      | false ↦ λ e. known_nothing (n + 1) h rs key e
+    ] found
+
+-- the number under a key is that of a command
+pub number_within : (n : ℕ) (h : List Accepted) (key : List ℕ) (m : ℕ) → number_from n h key ≡ Some m → (n ≤ m) × (m < n + length h)
+number_within n [] key m e = absurd (cc)
+number_within n (x ∷ h) key m e = elim (is_key x.key key) as (λ v. (if v then Some n else number_from (n + 1) h key) ≡ Some m → (n ≤ m) × (m < n + suc (length h))) [
+  | true ↦ λ is. let same : n ≡ m = cc in (omega arith, omega arith)
+  | false ↦ λ is. let rest = number_within (n + 1) h key m is in let low = rest.0 in let high = rest.1 in (omega arith, omega arith)
+] e

@@ -3,8 +3,8 @@ use Rattle.std.specs.Prelude.{◌≡◌, ℕ, ◌+◌, List, [], ◌∷◌, leng
 use Rattle.svc_types.specs.declared.requests.Command.{Command}
 use Rattle.svc_types.specs.declared.replies.Extra.{Extra}
 use Rattle.svc_types.specs.declared.replies.Reply.{Reply}
-use Rattle.svc_world.specs.World.{Accepted, accepted}
-use Rattle.svc_world.specs.Judging.{is_key}
+use Rattle.svc_world.specs.World.{World, Accepted, accepted, first_world, after}
+use Rattle.svc_world.specs.Judging.{Known, is_key, reply_of}
 
 -- a history of accepted commands with the reply to each, and for how many more there is room
 pub record PostedCommands : Type 0 where
@@ -36,3 +36,22 @@ most_commands = 1_000_000
 
 abbrev pub reply : ℕ → Extra → Reply
 reply number extra = record { number = number; extra = extra }
+
+-- a command, and the reply to it
+abbrev pub known_as : Command → Reply → Known
+known_as c r = record { command = c; reply = r }
+
+-- the command under a key with its reply
+abbrev pub known_among : List Accepted → List Reply → List ℕ → Option Known
+known_among [] rs key = None
+known_among (a ∷ h) [] key = None
+known_among (a ∷ h) (r ∷ rs) key = if is_key a.key key then Some (known_as a.command r) else known_among h rs key
+
+-- the replies to some commands, of which the first has number n + 1
+unfoldable pub replies_from : ℕ → World → List Accepted → List Reply
+replies_from n w [] = []
+replies_from n w (a ∷ more) = reply_of (n + 1) w a.command ∷ replies_from (n + 1) (after (n + 1) w a.command) more
+
+-- the replies to a history
+abbrev pub replies_to : List Accepted → List Reply
+replies_to h = replies_from 0 first_world h

@@ -2,8 +2,10 @@
 #![tactic(auto)]
 
 mod cash;
+mod laws;
 mod posted;
 
+pub use laws::replies_are_known;
 pub use posted::Posted;
 
 #[cfg(test)]

@@ -4,7 +4,7 @@ ghost use Rattle.std.specs.Prelude.{◌≡◌, ◌+◌, ◌-◌, ◌≤◌, ◌<
 ghost use Rattle.std.specs.Option.{option_map};
 ghost use Rattle.svc_world.specs.World.{accepted};
 ghost use Rattle.svc_world.specs.Judging.{nth_accepted};
-ghost use Rattle.svc_core.specs.Posted.{number_of, most_commands, reply};
+ghost use Rattle.svc_core.specs.Posted.{number_of, known_as, known_among, most_commands, reply};
 
 use std::alloc::Global;
 use std::collections::HashMap;
@@ -64,6 +64,21 @@ impl Posted {
         ensures { result ≡ number_of self.now.history key.now }
     {
         self.numbers.get(key).copied()
+    }
+
+    /// The command under a key, and the reply that was given.
+    pub fn known(&self, key: &Key) -> Option<(Command, Reply)>
+        ensures { option_map (λ p. known_as p.0 p.1) result
+            ≡ known_among self.now.history self.now.replies key.now }
+    {
+        let _ = &self.replies;
+        match self.number_of(key) {
+            Some(number) => {
+                let place = number as usize - 1;
+                Some((self.commands[place].1, self.replies[place]))
+            }
+            None => None,
+        }
     }
 
     /// Makes room for one more command; fails for want of memory alone.

@@ -50,6 +50,11 @@ fn commands_are_found_under_their_keys(rt: HostRuntime) -> Result<(), Fail> {
     assert!(rt; posted.number_of(&key(&rt, b"k1")) == Some(1));
     assert!(rt; posted.number_of(&key(&rt, b"k10")) == Some(2));
     assert!(rt; posted.number_of(&key(&rt, b"k2")).is_none());
+    let said = Reply {
+        number: 2,
+        extra: Extra::Plain,
+    };
+    assert_eq!(rt; posted.known(&key(&rt, b"k10")), Some((second, said)));
     assert!(rt; posted.command(2) == Some((key(&rt, b"k10"), second)));
     assert!(rt; posted.command(0).is_none());
     assert!(rt; posted.command(3).is_none());

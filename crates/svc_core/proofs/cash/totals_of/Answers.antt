@@ -1,5 +1,5 @@
-use Rattle.std.proofs.Common.{◌≡◌, w64, to_z, of_z, arith, sym, ap, subst, ◌∙◌}
-use Rattle.std.specs.Prelude.{ℤ, pos, neg_ℤ, ◌+ℤ◌, ◌≤ℤ◌}
+use Rattle.std.proofs.Common.{◌≡◌, w64, to_z, of_z, arith, ap, ◌∙◌}
+use Rattle.std.specs.Prelude.{◌+ℤ◌}
 use Rattle.std.proofs.lemmas.Int.{ints}
 use Rattle.svc_types.specs.declared.books.Books.{Books}
 use Rattle.advance_book.specs.Positions.{pi_advanced, pi_residual, escrow_advanced}

@@ -1,0 +1,54 @@
+use Rattle.std.proofs.Common.{◌≡◌, ◌-◌, length, vec_len, get_or, rules, arith, sym, ap, subst, ◌∙◌}
+use Rattle.std.proofs.Math.ListN.{get_or-map as get_mapped}
+use Rattle.std.specs.Prelude.{Some, None}
+use Rattle.std.proofs.lemmas.List.{length-map}
+use Rattle.svc_types.specs.declared.key.Key.{Key}
+use Rattle.svc_types.specs.declared.requests.Command.{Command}
+use Rattle.svc_types.specs.declared.replies.Reply.{Reply}
+use Rattle.svc_world.specs.World.{Accepted, accepted}
+use Rattle.svc_core.specs.Posted.{PostedCommands, number_of, known_as, known_among, history_of}
+use Rattle.svc_core.proofs.PostedLemmas.{known_at_place, known_nothing, number_within}
+use Rattle.svc_core.proofs.posted.Posted.known.Goals as goal
+
+-- the number that was found, from 1, is at most that of the last command
+found : (c : goal.In-Some) → number_of (history_of c.self.inside.commands.items) c.args.key.now ≡ Some c.in-Some.number
+found c = ap (λ (p : PostedCommands). number_of p.history c.args.key.now) c.self.view_is ∙ sym c.number_of.ensures ∙ c.in-Some.is
+
+pub overflow_sub-place : goal.overflow_sub-place
+overflow_sub-place c = (number_within 1 (history_of c.self.inside.commands.items) c.args.key.now c.in-Some.number (found c)).0
+
+pub index-requires : goal.index-requires
+index-requires c =
+    let ps = c.self.inside.commands.items in
+    let within = number_within 1 (history_of ps) c.args.key.now c.in-Some.number (found c) in
+    let low = within.0 in
+    let high = within.1 in
+    let count : vec_len c.self.inside.commands ≡ length ps = search rules in
+    omega (arith, low, high, count, length-map ps (λ (p : Key × Command). accepted p.0 p.1))
+
+pub index-requires-in-Some : goal.index-requires-in-Some
+index-requires-in-Some c =
+    let within = number_within 1 (history_of c.self.inside.commands.items) c.args.key.now c.in-Some.number (ap (λ (p : PostedCommands). number_of p.history c.args.key.now) c.self.view_is ∙ sym c.number_of.ensures ∙ c.in-Some.is) in
+    let low = within.0 in
+    let high = within.1 in
+    let count : vec_len c.self.inside.replies ≡ length c.self.inside.replies.items = search rules in
+    let replied = c.self.invariant.replied in
+    omega (arith, low, high, count, replied)
+
+pub returns-in-Some : goal.returns-in-Some
+returns-in-Some c =
+    let ps = c.self.inside.commands.items in
+    let rs = c.self.inside.replies.items in
+    let i = c.in-Some.number - 1 in
+    let x = c.index.result.now in
+    let r = c.index-in-Some.result.now in
+    let at = known_at_place 1 (history_of ps) rs c.args.key.now c.in-Some.number (accepted x.0 x.1) r c.self.invariant.replied (ap (λ (p : PostedCommands). number_of p.history c.args.key.now) c.self.view_is ∙ sym c.number_of.ensures ∙ c.in-Some.is) in
+    let command : (get_or (history_of ps) i (accepted x.0 x.1)).command ≡ x.1 = ap (λ (a : Accepted). a.command) (get_mapped (λ (p : Key × Command). accepted p.0 p.1) ps i x) ∙ ap (λ (p : Key × Command). p.1) (sym c.index.ensures) in
+    let said : get_or rs i r ≡ r = sym c.index-in-Some.ensures in
+    subst (λ (p : PostedCommands). Some (known_as x.1 r) ≡ known_among p.history p.replies c.args.key.now) c.self.view_is
+    (sym (at ∙ ap (λ (m : Command). Some (known_as m (get_or rs i r))) command ∙ ap (λ (q : Reply). Some (known_as x.1 q)) said))
+
+pub returns-in-None : goal.returns-in-None
+returns-in-None c =
+    let none : number_of c.args.self.now.history c.args.key.now ≡ None = sym c.number_of.ensures ∙ c.in-None.is in
+    sym (known_nothing 1 c.args.self.now.history c.args.self.now.replies c.args.key.now none)
