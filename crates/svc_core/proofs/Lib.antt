@@ -1,2 +1,3 @@
 pub mod PostedLemmas
 pub mod CashLemmas
+pub mod RuleLemmas

@@ -1,2 +1,3 @@
 pub mod Posted
 pub mod Cash
+pub mod State

@@ -1,9 +1,13 @@
 //! The core of the servicer.
 #![tactic(auto)]
 
+mod boarding;
 mod cash;
+mod closing;
 mod laws;
+mod others;
 mod posted;
+mod refusals;
 
 pub use laws::replies_are_known;
 pub use posted::Posted;
