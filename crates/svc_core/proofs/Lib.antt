@@ -1,3 +1,4 @@
 pub mod PostedLemmas
 pub mod CashLemmas
 pub mod RuleLemmas
+pub mod AnalysingLemmas

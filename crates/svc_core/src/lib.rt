@@ -1,6 +1,7 @@
 //! The core of the servicer.
 #![tactic(auto)]
 
+mod analysing;
 mod boarding;
 mod cash;
 mod closing;
