@@ -1,3 +1,7 @@
 pub mod Posted
 pub mod Cash
 pub mod State
+pub mod Scope
+pub mod Ready
+pub mod Costs
+pub mod Rows

@@ -8,7 +8,8 @@ ghost use Rattle.svc_world.specs.Analysing as world;
 ghost use Rattle.svc_world.specs.Refusals as rule;
 ghost use Rattle.svc_core.specs.State.{world_of};
 
-use crate::refusals::{State, refuse_adjustments};
+use crate::refusals::refuse_adjustments;
+use crate::state::State;
 use escrow_analysis::{Analysis, analyse};
 use escrow_resolve::{Parts, settle, split};
 use svc_apply::is_current;

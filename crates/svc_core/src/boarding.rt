@@ -8,7 +8,7 @@ ghost use Rattle.svc_world.specs.Held.{find_loan};
 ghost use Rattle.svc_world.specs.Refusals as rule;
 ghost use Rattle.svc_core.specs.State.{world_of};
 
-use crate::refusals::State;
+use crate::state::State;
 use svc_base::{Day, month_of};
 use svc_loan::Loans;
 use svc_replay::LoanBooks;

@@ -8,7 +8,7 @@ ghost use Rattle.svc_loan.specs.Loans.{held_in};
 ghost use Rattle.svc_world.specs.Refusals as rule;
 ghost use Rattle.svc_core.specs.State.{world_of};
 
-use crate::refusals::State;
+use crate::state::State;
 use period_adjust::Seals;
 use svc_base::{Month, last_day, month_of};
 use svc_loan::Loans;

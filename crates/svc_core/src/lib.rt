@@ -9,6 +9,8 @@ mod laws;
 mod others;
 mod posted;
 mod refusals;
+mod scope;
+mod state;
 
 pub use laws::replies_are_known;
 pub use posted::Posted;

@@ -5,7 +5,8 @@ ghost use Rattle.svc_base.specs.Calendar.{month_of as month_number};
 ghost use Rattle.svc_world.specs.Refusals as rule;
 ghost use Rattle.svc_core.specs.State.{world_of};
 
-use crate::refusals::{State, has_line, refuse_adjustments};
+use crate::refusals::{has_line, refuse_adjustments};
+use crate::state::State;
 use escrow_lines::Line;
 use svc_apply::available;
 use svc_base::{Cents, Month, month_of};

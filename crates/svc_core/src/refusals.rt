@@ -6,21 +6,14 @@ ghost use Rattle.svc_base.specs.Calendar.{month_of as month_number};
 ghost use Rattle.svc_world.specs.Refusals as rule;
 ghost use Rattle.svc_core.specs.State.{world_of};
 
+use crate::state::State;
 use period_adjust::Seals;
 use std::sync::ledger::Ledger;
 use svc_apply::payoff_due;
 use svc_base::{Cents, Day, Month, Steps, month_of};
-use svc_loan::{Loan, Loans};
+use svc_loan::Loan;
 use svc_replay::LoanBooks;
 use svc_types::{Limit, Refusal};
-
-/// What the core holds: the business day, all loans, and the reports.
-#[derive(Drop)]
-pub(crate) struct State<B: LoanBooks> {
-    pub(crate) today: Day,
-    pub(crate) loans: Loans<B>,
-    pub(crate) seals: Seals,
-}
 
 /// Why the business day is not set.
 pub(crate) fn refuse_day<B: LoanBooks>(state: &State<B>, day: Day) -> Option<Refusal>

@@ -23,10 +23,10 @@ use Rattle.svc_world.proofs.QuietWorlds.{IsQuiet, quiet_keeps, today_open}
 use Rattle.svc_world.proofs.EntryWorlds.{IsEntry, entry_change}
 
 -- an analysis brings in nothing
-brings_none : (x y : ℤ) (s : Settled) → (x +ℤ s.refund) ≤ℤ y → (x +ℤ refunded_by (Analyse s)) ≤ℤ (y +ℤ brought (Analyse s))
+pub brings_none : (x y : ℤ) (s : Settled) → (x +ℤ s.refund) ≤ℤ y → (x +ℤ refunded_by (Analyse s)) ≤ℤ (y +ℤ brought (Analyse s))
 brings_none x y s le = omega (arith, ints, le)
 
-analysed_entry : (n : ℕ) (w : World) (l : Held) (plan : Plan) → IsWorld n w → IsHeld n w.today l → length l.account.entries < 4_096 → HasRoom w (month_of w.today) → IsSettlement l plan → IsEntry w l w.today (Analyse (settlement_of l plan))
+pub analysed_entry : (n : ℕ) (w : World) (l : Held) (plan : Plan) → IsWorld n w → IsHeld n w.today l → length l.account.entries < 4_096 → HasRoom w (month_of w.today) → IsSettlement l plan → IsEntry w l w.today (Analyse (settlement_of l plan))
 analysed_entry n w l plan h held few room it =
     let after = held.limited.account.after in
     record { entries = few; since = subst (λ t. l.account.terms.boarded ≤ t) held.today after; until = omega arith; exists = h.today.exists; act = it.act; named = it.named; covered = brings_none (refunded l.account) (received l.account) (settlement_of l plan) it.covered; room = room }

@@ -38,19 +38,19 @@ use Rattle.svc_world.proofs.NamedLoans.{not_full}
 
 -- ---- terms without a fault
 
-both : (a b : Bool) → (a && b) ≡ true → (a ≡ true) × (b ≡ true)
+pub both : (a b : Bool) → (a && b) ≡ true → (a ≡ true) × (b ≡ true)
 both true true e = (refl, refl)
 both true false e = absurd (cc)
 both false b e = absurd (cc)
 
-within : (t : Terms) (f : TermFault) (fs : List TermFault) → first_missed t (f ∷ fs) ≡ None → (is_in_range t f ≡ true) × (first_missed t fs ≡ None)
+pub within : (t : Terms) (f : TermFault) (fs : List TermFault) → first_missed t (f ∷ fs) ≡ None → (is_in_range t f ≡ true) × (first_missed t fs ≡ None)
 within t f fs e =
     elim (is_in_range t f) as (λ v. is_in_range t f ≡ v → (if not v then Some f else find (λ x. not (is_in_range t x)) fs) ≡ None → (is_in_range t f ≡ true) × (first_missed t fs ≡ None)) [
       | true ↦ λ is none. (is, none)
       | false ↦ λ is none. absurd (cc)
     ] refl e
 
-is_sound : (t : Terms) → term_fault t ≡ None → IsSound t
+pub is_sound : (t : Terms) → term_fault t ≡ None → IsSound t
 is_sound t e =
     let w1 = within t Principal (RateRange ∷ FeeRange ∷ Payment ∷ Term ∷ FirstDue ∷ Grace ∷ Late ∷ Cushion ∷ EscrowPay ∷ []) e in
     let w2 = within t RateRange (FeeRange ∷ Payment ∷ Term ∷ FirstDue ∷ Grace ∷ Late ∷ Cushion ∷ EscrowPay ∷ []) w1.1 in
@@ -98,7 +98,7 @@ is_sound t e =
 
 -- ---- a new loan
 
-new_held : (n id : ℕ) (t : Terms) (w : World) → MayBegin t w.today → IsHeld (n + 1) w.today (boarded id t w.today)
+pub new_held : (n id : ℕ) (t : Terms) (w : World) → MayBegin t w.today → IsHeld (n + 1) w.today (boarded id t w.today)
 new_held n id t w may = record {
   limited = begun_limited t w.today may;
   today = refl;
@@ -108,7 +108,7 @@ new_held n id t w may = record {
   since = All-nil (λ (c : TypeChange). month_of t.boarded ≤ c.from);
 }
 
-there_boarded : (l : Held) (loans : List Held) (id month : ℕ) → find_loan l.id loans ≡ None → IsThere loans id month → IsThere (with_loan l loans) id month
+pub there_boarded : (l : Held) (loans : List Held) (id month : ℕ) → find_loan l.id loans ≡ None → IsThere loans id month → IsThere (with_loan l loans) id month
 there_boarded l loans id month none h =
     elim (l.id == id) as (λ v. (l.id == id) ≡ v → find_loan id (with_loan l loans) ≡ (if v then Some l else find_loan id loans) → IsThere (with_loan l loans) id month) [
       | true ↦ λ e found.
@@ -121,7 +121,7 @@ there_boarded l loans id month none h =
     clash : (o : Option Held) (l : Held) → o ≡ Some l → o ≡ None → ⊥
     clash o l some none = cc
 
-same_due_boarded : (l : Held) (loans : List Held) (id p : ℕ) → find_loan l.id loans ≡ None → p < boarded_month l → IsSameDue (due_by (find_loan id loans) p) (due_by (find_loan id (with_loan l loans)) p)
+pub same_due_boarded : (l : Held) (loans : List Held) (id p : ℕ) → find_loan l.id loans ≡ None → p < boarded_month l → IsSameDue (due_by (find_loan id loans) p) (due_by (find_loan id (with_loan l loans)) p)
 same_due_boarded l loans id p none lt =
     elim (l.id == id) as (λ v. (l.id == id) ≡ v → find_loan id (with_loan l loans) ≡ (if v then Some l else find_loan id loans) → IsSameDue (due_by (find_loan id loans) p) (due_by (find_loan id (with_loan l loans)) p)) [
       | true ↦ λ e found.
@@ -134,7 +134,7 @@ same_due_boarded l loans id p none lt =
     ] refl (find_boarded id l loans none)
 
 -- the first closed month is not after the month of a loan that is boarded after the last one
-first_before : (reports : List Sealed) (loans : List Held) (l : Held) → AreConsecutive reports → IfSome (last_month reports) (λ last. last < boarded_month l) → IfSome (first_month reports) (λ first. All (λ (k : Held). first ≤ boarded_month k) loans) → IfSome (first_month reports) (λ first. All (λ (k : Held). first ≤ boarded_month k) (with_loan l loans))
+pub first_before : (reports : List Sealed) (loans : List Held) (l : Held) → AreConsecutive reports → IfSome (last_month reports) (λ last. last < boarded_month l) → IfSome (first_month reports) (λ first. All (λ (k : Held). first ≤ boarded_month k) loans) → IfSome (first_month reports) (λ first. All (λ (k : Held). first ≤ boarded_month k) (with_loan l loans))
 first_before [] loans l c late h = tt
 first_before (r ∷ rs) loans l c late h =
     let end = month_after-last r rs c in
@@ -144,18 +144,18 @@ first_before (r ∷ rs) loans l c late h =
     after_last None first b le lt = omega (arith, le)
     after_last (Some last) first b le lt = omega (arith, le, lt)
 
-abbrev boarded_with : World → Held → Reporting → World
+abbrev pub boarded_with : World → Held → Reporting → World
 boarded_with w l s = record { today = w.today; loans = with_loan l w.loans; seals = s; remitted = w.remitted }
 
 -- the months that were closed are before the month of the loan
-closed_before : (n : ℕ) (w : World) (b p : ℕ) → IsWorld n w → IfSome (last_month w.seals.reports) (λ last. last < b) → p < month_after (last_month w.seals.reports) → p < b
+pub closed_before : (n : ℕ) (w : World) (b p : ℕ) → IsWorld n w → IfSome (last_month w.seals.reports) (λ last. last < b) → p < month_after (last_month w.seals.reports) → p < b
 closed_before n w b p h late lt = before (last_month w.seals.reports) late lt
   where
     before : (o : Option ℕ) → IfSome o (λ last. last < b) → p < month_after o → p < b
     before None late lt = absurd (omega (arith, lt))
     before (Some last) late lt = omega (arith, late, lt)
 
-board_world : (n : ℕ) (w : World) (l : Held) → IsWorld n w → n < 1_000_000 → length w.loans < 12_000 → find_loan l.id w.loans ≡ None → IfSome (last_month w.seals.reports) (λ last. last < boarded_month l) → IsHeld (n + 1) w.today l → IsWorld (n + 1) (boarded_with w l w.seals)
+pub board_world : (n : ℕ) (w : World) (l : Held) → IsWorld n w → n < 1_000_000 → length w.loans < 12_000 → find_loan l.id w.loans ≡ None → IfSome (last_month w.seals.reports) (λ last. last < boarded_month l) → IsHeld (n + 1) w.today l → IsWorld (n + 1) (boarded_with w l w.seals)
 board_world n w l h few room none late held =
     let r = h.reports in
     record {

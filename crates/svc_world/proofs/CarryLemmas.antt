@@ -33,19 +33,19 @@ use Rattle.svc_world.proofs.HoldingLemmas.{account_holdings}
 
 -- ---- what was collected by the end of a month
 
-start_interest : (t : Terms) → (start t).interest ≡ pos 0
+pub start_interest : (t : Terms) → (start t).interest ≡ pos 0
 unfolding start
 start_interest t = refl
 
-start_fee : (t : Terms) → (start t).fee ≡ pos 0
+pub start_fee : (t : Terms) → (start t).fee ≡ pos 0
 unfolding start
 start_fee t = refl
 
 -- interest less fee that the books have collected
-abbrev kept : Books → ℤ
+abbrev pub kept : Books → ℤ
 kept b = b.interest -ℤ b.fee
 
-kept_start : (t : Terms) → kept (start t) ≡ pos 0
+pub kept_start : (t : Terms) → kept (start t) ≡ pos 0
 kept_start t = omega (arith, ints, start_interest t, start_fee t)
 
 -- at the end of a month it is not above what was received
@@ -77,11 +77,11 @@ pub carried_none : (a : Account) (types : List TypeChange) → carried_to a type
 unfolding carried_to
 carried_none a types = refl
 
-actual_more : (t : Terms) (c : Carry) (m : LoanMonth) → (carried_after t c m).actual ≡ c.actual +ℤ (m.facts.interest -ℤ m.facts.fee)
+pub actual_more : (t : Terms) (c : Carry) (m : LoanMonth) → (carried_after t c m).actual ≡ c.actual +ℤ (m.facts.interest -ℤ m.facts.fee)
 unfolding carried_after
 actual_more t c m = refl
 
-passed_more : (t : Terms) (c : Carry) (m : LoanMonth) → (carried_after t c m).passed ≡ passed_by m.kind (carried_after t c m).actual (carried_after t c m).scheduled
+pub passed_more : (t : Terms) (c : Carry) (m : LoanMonth) → (carried_after t c m).passed ≡ passed_by m.kind (carried_after t c m).actual (carried_after t c m).scheduled
 unfolding carried_after
 passed_more t c m = refl
 
@@ -102,7 +102,7 @@ carried_kept a types (suc n) h =
     let now = ap (λ p. kept (books_at_end a p)) place in
     omega (arith, ints, before, more, now)
 
-facts_within : (t : Terms) (f : _) → AreFacts t f → AreWithin t f
+pub facts_within : (t : Terms) (f : _) → AreFacts t f → AreWithin t f
 facts_within t f h = record { upb_low = h.upb_low; upb_high = h.upb_high; curtailed_low = h.curtailed_low; curtailed_high = h.curtailed_high; interest_low = h.interest_low; interest_high = h.interest_high; fee_low = h.fee_low; fee_high = h.fee_high }
 
 -- the facts of all months lie within the limits
@@ -112,7 +112,7 @@ months_within a types (suc n) h =
     let here = facts_within a.terms (month_facts a (month_of a.terms.boarded + n)) (month_within a (month_of a.terms.boarded + n) h (omega arith)) in
     All-cons (λ (m : LoanMonth). AreWithin a.terms m.facts) (month_of_loan a types (month_of a.terms.boarded + n)) (first_months a types n) here (months_within a types n h)
 
-months_count : (a : Account) (types : List TypeChange) (n : ℕ) → length (first_months a types n) ≡ n
+pub months_count : (a : Account) (types : List TypeChange) (n : ℕ) → length (first_months a types n) ≡ n
 months_count a types zero = refl
 months_count a types (suc n) = omega (arith, months_count a types n)
 
@@ -123,12 +123,12 @@ pub record IsCarryWithin (t : Terms) (c : Carry) : Type 0 where
   pub scheduled : IsUpTo 40_960_000_000_000 c.scheduled
   pub passed : IsUpTo 40_960_000_000_000 c.passed
 
-passed_within : (m : ℕ) (kind : RemitType) (x y : ℤ) → IsUpTo m x → IsUpTo m y → IsUpTo m (passed_by kind x y)
+pub passed_within : (m : ℕ) (kind : RemitType) (x y : ℤ) → IsUpTo m x → IsUpTo m y → IsUpTo m (passed_by kind x y)
 passed_within m AA x y h k = h
 passed_within m SA x y h k = k
 passed_within m SS x y h k = k
 
-carried_passed : (m : ℕ) (a : Account) (types : List TypeChange) (n : ℕ) → IsUpTo m (carried_to a types n).actual → IsUpTo m (carried_to a types n).scheduled → IsUpTo m (carried_to a types n).passed
+pub carried_passed : (m : ℕ) (a : Account) (types : List TypeChange) (n : ℕ) → IsUpTo m (carried_to a types n).actual → IsUpTo m (carried_to a types n).scheduled → IsUpTo m (carried_to a types n).passed
 carried_passed m a types zero h k = rw (carried_none a types) (record { low = omega (arith, ints); high = omega (arith, ints) })
 carried_passed m a types (suc n) h k =
     let t = a.terms in
@@ -166,7 +166,7 @@ carry_sums t c h =
     record { actual_low = omega (arith, ints, a1); actual_high = omega (arith, ints, a2); scheduled_low = omega (arith, ints, s1); scheduled_high = omega (arith, ints, s2); passed_low = omega (arith, ints, p1); passed_high = omega (arith, ints, p2) }
 
 -- of any account interest less fee lies within the limits of its books
-kept_account : (a : Account) (p : ℕ) → IsAccount a → IsUpTo 1_000_000_000_000_000_000 (kept (books_at_end a p))
+pub kept_account : (a : Account) (p : ℕ) → IsAccount a → IsUpTo 1_000_000_000_000_000_000 (kept (books_at_end a p))
 kept_account a p h =
     elim (nat_lt p (month_of a.terms.boarded)) as (λ v. nat_lt p (month_of a.terms.boarded) ≡ v → IsUpTo 1_000_000_000_000_000_000 (kept (books_at_end a p))) [
       | true ↦ λ e.

@@ -21,7 +21,7 @@ use Rattle.svc_world.proofs.LoanListLemmas.{rises, IsFound, all_found, numbers_o
 
 -- ---- one loan
 
-held_back : (c r : ℤ) (settled : Bool) → pi_held c r settled ≡ c -ℤ r -ℤ pi_residual c r settled +ℤ pi_advanced c r settled
+pub held_back : (c r : ℤ) (settled : Bool) → pi_held c r settled ≡ c -ℤ r -ℤ pi_residual c r settled +ℤ pi_advanced c r settled
 held_back c r true = omega (arith, ints)
 held_back c r false = omega (arith, ints, clamps)
 
@@ -38,25 +38,25 @@ unfolding totals_of
 cash_is_held T w l h = let whole = account_total l.account h in omega (arith, ints, whole)
 cash_is_held P w l h = let back = is_held_back w l in omega (arith, ints, back)
 
-cash_none : (account : CashAccount) → cash_of account no_totals ≡ pos 0
+pub cash_none : (account : CashAccount) → cash_of account no_totals ≡ pos 0
 cash_none T = refl
 cash_none P = refl
 
 -- ---- the rows of a command
 
-rows_nil : (n : ℕ) (before later : World) → rows_between n before later [] ≡ []
+pub rows_nil : (n : ℕ) (before later : World) → rows_between n before later [] ≡ []
 unfolding rows_between
 rows_nil n before later = refl
 
-rows_cons : (n : ℕ) (before later : World) (l : Held) (ls : List Held) → rows_between n before later (l ∷ ls) ≡ rows_of n l.id (totals_before before (find_loan l.id before.loans)) (totals_of later l) ++ rows_between n before later ls
+pub rows_cons : (n : ℕ) (before later : World) (l : Held) (ls : List Held) → rows_between n before later (l ∷ ls) ≡ rows_of n l.id (totals_before before (find_loan l.id before.loans)) (totals_of later l) ++ rows_between n before later ls
 unfolding rows_between
 rows_cons n before later l ls = refl
 
 -- what an account held before a command for the loan of a number
-abbrev cash_before : CashAccount → World → Held → ℤ
+abbrev pub cash_before : CashAccount → World → Held → ℤ
 cash_before account before l = cash_of account (totals_before before (find_loan l.id before.loans))
 
-between_cash : (account : CashAccount) (n : ℕ) (before later : World) (ls : List Held) (rows : List Row) → balance_of account (rows ++ rows_between n before later ls) ≡ balance_of account rows +ℤ (total_by (λ (l : Held). cash_of account (totals_of later l)) ls -ℤ total_by (cash_before account before) ls)
+pub between_cash : (account : CashAccount) (n : ℕ) (before later : World) (ls : List Held) (rows : List Row) → balance_of account (rows ++ rows_between n before later ls) ≡ balance_of account rows +ℤ (total_by (λ (l : Held). cash_of account (totals_of later l)) ls -ℤ total_by (cash_before account before) ls)
 between_cash account n before later [] rows =
     let same : balance_of account (rows ++ rows_between n before later []) ≡ balance_of account rows = ap (λ xs. balance_of account (rows ++ xs)) (rows_nil n before later) ∙ ap (balance_of account) (append-nil rows) in
     omega (arith, ints, same)
@@ -70,11 +70,11 @@ between_cash account n before later (l ∷ ls) rows =
 -- ---- the loans before and after a command
 
 -- an amount by what is found under each number
-found_sum : (g : Option Held → ℤ) (all ls : List Held) → All (IsFound all) ls → total_by (λ (l : Held). g (find_loan l.id all)) ls ≡ total_by (λ (l : Held). g (Some l)) ls
+pub found_sum : (g : Option Held → ℤ) (all ls : List Held) → All (IsFound all) ls → total_by (λ (l : Held). g (find_loan l.id all)) ls ≡ total_by (λ (l : Held). g (Some l)) ls
 found_sum g all ls h = total_by-same (λ (l : Held). g (find_loan l.id all)) (λ (l : Held). g (Some l)) ls (λ k d lt. ap g (h k d lt))
 
 -- loans with the same numbers
-numbered_sum : (g : Option Held → ℤ) (all ks ls : List Held) → numbers_of ks ≡ numbers_of ls → total_by (λ (l : Held). g (find_loan l.id all)) ks ≡ total_by (λ (l : Held). g (find_loan l.id all)) ls
+pub numbered_sum : (g : Option Held → ℤ) (all ks ls : List Held) → numbers_of ks ≡ numbers_of ls → total_by (λ (l : Held). g (find_loan l.id all)) ks ≡ total_by (λ (l : Held). g (find_loan l.id all)) ls
 numbered_sum g all [] [] e = refl
 numbered_sum g all [] (l ∷ ls) e = absurd (cc)
 numbered_sum g all (k ∷ ks) [] e = absurd (cc)
@@ -92,10 +92,10 @@ sum_with_loan g l (k ∷ ks) =
       | false ↦ omega (arith, ints, sum_with_loan g l ks)
     ]
 
-cash_by : CashAccount → World → Option Held → ℤ
+pub cash_by : CashAccount → World → Option Held → ℤ
 cash_by account before o = cash_of account (totals_before before o)
 
-held_sum : (account : CashAccount) (w : World) (ls : List Held) → All (λ (l : Held). IsAccount l.account) ls → total_by (λ (l : Held). cash_of account (totals_of w l)) ls ≡ total_by (holds account w) ls
+pub held_sum : (account : CashAccount) (w : World) (ls : List Held) → All (λ (l : Held). IsAccount l.account) ls → total_by (λ (l : Held). cash_of account (totals_of w l)) ls ≡ total_by (holds account w) ls
 held_sum account w ls h = total_by-same (λ (l : Held). cash_of account (totals_of w l)) (holds account w) ls (λ k d lt. cash_is_held account w _ (h k d lt))
 
 -- where the loans after a command have the numbers of those before it

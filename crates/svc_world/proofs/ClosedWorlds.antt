@@ -41,7 +41,7 @@ use Rattle.svc_world.proofs.NamedLoans.{not_full}
 
 -- ---- the month that is to be closed
 
-least_below : (m : ℕ) (ls : List Held) → (least_boarded m ls ≤ m) × All (λ (l : Held). least_boarded m ls ≤ boarded_month l) ls
+pub least_below : (m : ℕ) (ls : List Held) → (least_boarded m ls ≤ m) × All (λ (l : Held). least_boarded m ls ≤ boarded_month l) ls
 least_below m [] = (omega arith, All-nil (λ (l : Held). m ≤ boarded_month l))
 least_below m (l ∷ ls) =
     let rest = least_below (min m (boarded_month l)) ls in
@@ -49,28 +49,28 @@ least_below m (l ∷ ls) =
     (omega (arith, low), All-cons (λ (k : Held). least_boarded (min m (boarded_month l)) ls ≤ boarded_month k) l ls (omega (arith, low)) rest.1)
 
 -- the month expected first is not after the boarding of any loan
-first_below : (m : ℕ) (ls : List Held) → All (λ (l : Held). first_expected m ls ≤ boarded_month l) ls
+pub first_below : (m : ℕ) (ls : List Held) → All (λ (l : Held). first_expected m ls ≤ boarded_month l) ls
 first_below m [] = All-nil (λ (l : Held). m ≤ boarded_month l)
 first_below m (l ∷ ls) =
     let rest = least_below (boarded_month l) ls in
     All-cons (λ (k : Held). least_boarded (boarded_month l) ls ≤ boarded_month k) l ls rest.0 rest.1
 
 -- what the rules of a closing leave
-record IsClosing (w : World) (p : ℕ) : Type 0 where
+pub record IsClosing (w : World) (p : ℕ) : Type 0 where
   few : length w.seals.reports < 600
   next : IfSome (last_month w.seals.reports) (λ last. p ≡ last + 1)
   first : last_month w.seals.reports ≡ None → All (λ (l : Held). p ≤ boarded_month l) w.loans
   ended : last_day p < w.today
 
-next_of : (o : Option ℕ) (m p : ℕ) → p ≡ option_map_or (λ last. last + 1) o m → IfSome o (λ last. p ≡ last + 1)
+pub next_of : (o : Option ℕ) (m p : ℕ) → p ≡ option_map_or (λ last. last + 1) o m → IfSome o (λ last. p ≡ last + 1)
 next_of None m p e = tt
 next_of (Some last) m p e = e
 
-first_of_all : (o : Option ℕ) (m p : ℕ) (loans : List Held) → p ≡ option_map_or (λ last. last + 1) o (first_expected m loans) → o ≡ None → All (λ (l : Held). p ≤ boarded_month l) loans
+pub first_of_all : (o : Option ℕ) (m p : ℕ) (loans : List Held) → p ≡ option_map_or (λ last. last + 1) o (first_expected m loans) → o ≡ None → All (λ (l : Held). p ≤ boarded_month l) loans
 first_of_all None m p loans e none = subst (λ x. All (λ (l : Held). x ≤ boarded_month l) loans) (sym e) (first_below m loans)
 first_of_all (Some last) m p loans e none = absurd (cc)
 
-closing : (n p : ℕ) (w : World) → refusal_of n w (command.Close p) ≡ None → IsClosing w p × n < 1_000_000
+pub closing : (n p : ℕ) (w : World) → refusal_of n w (command.Close p) ≡ None → IsClosing w p × n < 1_000_000
 unfolding refusal_of
 closing n p w e =
     let one = past (full_of_commands n) (close_cases w p) e in
@@ -98,7 +98,7 @@ closing n p w e =
 
 -- ---- the closing may be made
 
-small_line : (p : ℕ) (l : Held) → p < 25_692 → IsLimited l.account → IsSmallLine (line_of p l)
+pub small_line : (p : ℕ) (l : Held) → p < 25_692 → IsLimited l.account → IsSmallLine (line_of p l)
 small_line p l lt h =
     let due = due_small l p lt h in
     let carry = (carry_at_within l.account l.types p lt h).within in
@@ -112,11 +112,11 @@ small_line p l lt h =
       balance = record { low = omega (arith, ints, b0); high = omega (arith, ints, b1, most) };
     }
 
-after_last : (o : Option ℕ) (p : ℕ) → IfSome o (λ last. p ≡ last + 1) → month_after o ≤ p
+pub after_last : (o : Option ℕ) (p : ℕ) → IfSome o (λ last. p ≡ last + 1) → month_after o ≤ p
 after_last None p e = omega arith
 after_last (Some last) p e = omega (arith, e)
 
-closing_may : (n p : ℕ) (w : World) → IsWorld n w → IsReadMonth p → IsClosing w p → MayClose w.seals p (lines_of w.seals.pending p w.loans)
+pub closing_may : (n p : ℕ) (w : World) → IsWorld n w → IsReadMonth p → IsClosing w p → MayClose w.seals p (lines_of w.seals.pending p w.loans)
 closing_may n p w h read c =
     let from = read.first in
     let to = read.last in
@@ -129,16 +129,16 @@ closing_may n p w h read c =
 
 -- ---- the reports after it
 
-abbrev closed_lines : World → ℕ → List ReportLine
+abbrev pub closed_lines : World → ℕ → List ReportLine
 closed_lines w p = lines_of w.seals.pending p w.loans
 
-abbrev closed_report : World → ℕ → Sealed
+abbrev pub closed_report : World → ℕ → Sealed
 closed_report w p = report_of p (closed_lines w p) w.seals.pending
 
-abbrev closed_seals : World → ℕ → Reporting
+abbrev pub closed_seals : World → ℕ → Reporting
 closed_seals w p = seals.after w.seals (Close p (closed_lines w p))
 
-with_rise : (ps : List Adjustment) (ls : List ReportLine) → AllPairs (λ (l m : ReportLine). l.loan < m.loan) ls → AllPairs (λ (l m : ReportLine). l.loan < m.loan) (map (line_with ps) ls)
+pub with_rise : (ps : List Adjustment) (ls : List ReportLine) → AllPairs (λ (l m : ReportLine). l.loan < m.loan) ls → AllPairs (λ (l m : ReportLine). l.loan < m.loan) (map (line_with ps) ls)
 with_rise ps [] h = λ i j d lt len. absurd (omega arith)
 with_rise ps (l ∷ ls) h =
     let R : ReportLine → ReportLine → Type 0 = λ a b. a.loan < b.loan in
@@ -146,7 +146,7 @@ with_rise ps (l ∷ ls) h =
     (All-map (λ (m : ReportLine). l.loan < m.loan) (line_with ps) ls (pairs_head R l ls h))
     (with_rise ps ls (pairs_tail R l ls h))
 
-new_listed : (n p : ℕ) (w : World) → IsWorld n w → All (IsListed w.loans p) (closed_report w p).lines
+pub new_listed : (n p : ℕ) (w : World) → IsWorld n w → All (IsListed w.loans p) (closed_report w p).lines
 new_listed n p w h =
     All-map (IsListed w.loans p) (line_with w.seals.pending) (closed_lines w p)
     (lines_all (IsListed w.loans p) w.seals.pending p w.loans (λ k d lt t. there (get_or w.loans k d) (all_found w.loans h.rising k d lt) t))
@@ -154,21 +154,21 @@ new_listed n p w h =
     there : (l : Held) → IsFound w.loans l → nat_le (boarded_month l) p ≡ true → IsThere w.loans l.id p
     there l found t = record { loan = l; found = found; since = grind (arith, nat_tests) }
 
-closed_if : (o : Option ℕ) (reports : List Sealed) (r : Sealed) → IfSome o (IsClosed reports) → IfSome o (IsClosed (reports ++ r ∷ []))
+pub closed_if : (o : Option ℕ) (reports : List Sealed) (r : Sealed) → IfSome o (IsClosed reports) → IfSome o (IsClosed (reports ++ r ∷ []))
 closed_if None reports r h = tt
 closed_if (Some m) reports r h = closed-push reports r m h
 
-first_closed : (p : ℕ) (w : World) → IsClosing w p → IfSome (first_month w.seals.reports) (λ first. All (λ (l : Held). first ≤ boarded_month l) w.loans) → IfSome (first_month (w.seals.reports ++ closed_report w p ∷ [])) (λ first. All (λ (l : Held). first ≤ boarded_month l) w.loans)
+pub first_closed : (p : ℕ) (w : World) → IsClosing w p → IfSome (first_month w.seals.reports) (λ first. All (λ (l : Held). first ≤ boarded_month l) w.loans) → IfSome (first_month (w.seals.reports ++ closed_report w p ∷ [])) (λ first. All (λ (l : Held). first ≤ boarded_month l) w.loans)
 first_closed p w c h = pushed w.seals.reports (closed_report w p) w.loans c.first h
   where
     pushed : (rs : List Sealed) (r : Sealed) (loans : List Held) → (last_month rs ≡ None → All (λ (l : Held). r.month ≤ boarded_month l) loans) → IfSome (first_month rs) (λ first. All (λ (l : Held). first ≤ boarded_month l) loans) → IfSome (first_month (rs ++ r ∷ [])) (λ first. All (λ (l : Held). first ≤ boarded_month l) loans)
     pushed [] r loans new h = new refl
     pushed (x ∷ rs) r loans new h = h
 
-ended_closed : (p : ℕ) (w : World) → last_day p < w.today → IfSome (last_month (w.seals.reports ++ closed_report w p ∷ [])) (λ last. last_day last < w.today)
+pub ended_closed : (p : ℕ) (w : World) → last_day p < w.today → IfSome (last_month (w.seals.reports ++ closed_report w p ∷ [])) (λ last. last_day last < w.today)
 ended_closed p w lt = subst (λ o. IfSome o (λ last. last_day last < w.today)) (sym (last_month-push w.seals.reports (closed_report w p))) lt
 
-all_sent : (n p : ℕ) (w : World) (part : DuePart) (id : ℕ) → IsWorld n w → IsReadMonth p → IsClosing w p → IsPassed (total_by (sent_part part id) (w.seals.reports ++ closed_report w p ∷ []))
+pub all_sent : (n p : ℕ) (w : World) (part : DuePart) (id : ℕ) → IsWorld n w → IsReadMonth p → IsClosing w p → IsPassed (total_by (sent_part part id) (w.seals.reports ++ closed_report w p ∷ []))
 all_sent n p w part id h read c =
     let may = closing_may n p w h read c in
     let from = read.first in
@@ -183,7 +183,7 @@ all_sent n p w part id h read c =
     (omega (arith, end, from))
     (omega (arith, to))
 
-passed_closed : (n p : ℕ) (w : World) (part : DuePart) (k id : ℕ) → IsWorld n w → IsReadMonth p → IsClosing w p → IsPassed (total_by (sent_part part id) (take k (w.seals.reports ++ closed_report w p ∷ [])))
+pub passed_closed : (n p : ℕ) (w : World) (part : DuePart) (k id : ℕ) → IsWorld n w → IsReadMonth p → IsClosing w p → IsPassed (total_by (sent_part part id) (take k (w.seals.reports ++ closed_report w p ∷ [])))
 passed_closed n p w part k id h read c =
     elim (nat_le k (length w.seals.reports)) as (λ v. nat_le k (length w.seals.reports) ≡ v → IsPassed (total_by (sent_part part id) (take k (w.seals.reports ++ closed_report w p ∷ [])))) [
       | true ↦ λ e.
@@ -195,10 +195,10 @@ passed_closed n p w part k id h read c =
           subst (λ rs. IsPassed (total_by (sent_part part id) rs)) (sym (take_all k (w.seals.reports ++ closed_report w p ∷ []) (omega (arith, count, gt)))) (all_sent n p w part id h read c)
     ] refl
 
-abbrev closed_with : World → Reporting → World
+abbrev pub closed_with : World → Reporting → World
 closed_with w s = record { today = w.today; loans = w.loans; seals = s; remitted = w.remitted }
 
-closed_reports : (n p : ℕ) (w : World) → IsWorld n w → IsReadMonth p → IsClosing w p → AreReports (closed_with w (closed_seals w p))
+pub closed_reports : (n p : ℕ) (w : World) → IsWorld n w → IsReadMonth p → IsClosing w p → AreReports (closed_with w (closed_seals w p))
 closed_reports n p w h read c =
     let r = h.reports in
     let may = closing_may n p w h read c in

@@ -31,7 +31,7 @@ use Rattle.svc_world.proofs.QuietWorlds.{after_month}
 -- ---- a later business day
 
 -- all closed months are before the business day's
-closed_early : (n : ℕ) (w : World) → IsWorld n w → All (λ p. p < month_of w.today) (months_of w.seals.reports)
+pub closed_early : (n : ℕ) (w : World) → IsWorld n w → All (λ p. p < month_of w.today) (months_of w.seals.reports)
 closed_early n w h = All-map (λ p. p < month_of w.today) (λ (r : Sealed). r.month) w.seals.reports (λ k d lt.
     let before = (h.reports.sealed.reports k d lt).high in
     early (last_month w.seals.reports) (get_or w.seals.reports k d).month before h.reports.ended)
@@ -40,7 +40,7 @@ closed_early n w h = All-map (λ p. p < month_of w.today) (λ (r : Sealed). r.mo
     early None p lt e = absurd (omega (arith, lt))
     early (Some last) p lt e = let later = after_month last w.today h.today.exists e in omega (arith, lt, later)
 
-day_held : (n d : ℕ) (w : World) (l : Held) → w.today ≤ d → IsHeld n w.today l → IsHeld (n + 1) d (on_day d l)
+pub day_held : (n d : ℕ) (w : World) (l : Held) → w.today ≤ d → IsHeld n w.today l → IsHeld (n + 1) d (on_day d l)
 day_held n d w l le h =
     let from : l.account.today ≤ d = subst (λ t. t ≤ d) (sym h.today) le in
     record {
@@ -52,16 +52,16 @@ day_held n d w l le h =
       since = h.since;
     }
 
-day_agrees_to : (n d : ℕ) (w : World) (l : Held) → w.today ≤ d → IsHeld n w.today l → AgreeTo (month_of w.today) l (on_day d l)
+pub day_agrees_to : (n d : ℕ) (w : World) (l : Held) → w.today ≤ d → IsHeld n w.today l → AgreeTo (month_of w.today) l (on_day d l)
 day_agrees_to n d w l le h = subst (λ t. AgreeTo (month_of t) l (on_day d l)) h.today (day_agrees l d (subst (λ t. t ≤ d) (sym h.today) le))
 
-boarded_by : (n : ℕ) (w : World) (l : Held) → IsHeld n w.today l → boarded_month l ≤ month_of w.today
+pub boarded_by : (n : ℕ) (w : World) (l : Held) → IsHeld n w.today l → boarded_month l ≤ month_of w.today
 boarded_by n w l h = let from = h.limited.account.after in let is = h.today in omega (arith, from, is)
 
-there_mapped : (d : ℕ) (loans : List Held) (id month : ℕ) → IsThere loans id month → IsThere (map (on_day d) loans) id month
+pub there_mapped : (d : ℕ) (loans : List Held) (id month : ℕ) → IsThere loans id month → IsThere (map (on_day d) loans) id month
 there_mapped d loans id month h = record { loan = on_day d h.loan; found = find_mapped id (on_day d) loans h.loan h.found (λ k. refl); since = h.since }
 
-same_due_on : (n d id p : ℕ) (w : World) → IsWorld n w → w.today ≤ d → p < month_of w.today → IsSameDue (due_by (find_loan id w.loans) p) (due_by (find_loan id (map (on_day d) w.loans)) p)
+pub same_due_on : (n d id p : ℕ) (w : World) → IsWorld n w → w.today ≤ d → p < month_of w.today → IsSameDue (due_by (find_loan id w.loans) p) (due_by (find_loan id (map (on_day d) w.loans)) p)
 same_due_on n d id p w h le lt =
     elim (find_loan id w.loans) as (λ o. find_loan id w.loans ≡ o → IsSameDue (due_by o p) (due_by (find_loan id (map (on_day d) w.loans)) p)) [
       | None ↦ λ e.
@@ -75,18 +75,18 @@ same_due_on n d id p w h le lt =
     ] refl
 
 -- the world on another day, before its adjustments are known to be none
-abbrev on_day_of : ℕ → World → Reporting → World
+abbrev pub on_day_of : ℕ → World → Reporting → World
 on_day_of d w s = record { today = d; loans = map (on_day d) w.loans; seals = s; remitted = w.remitted }
 
-ended_on : (o : Option ℕ) (t d : ℕ) → t ≤ d → IfSome o (λ last. last_day last < t) → IfSome o (λ last. last_day last < d)
+pub ended_on : (o : Option ℕ) (t d : ℕ) → t ≤ d → IfSome o (λ last. last_day last < t) → IfSome o (λ last. last_day last < d)
 ended_on None t d le e = tt
 ended_on (Some last) t d le e = omega (arith, le, e)
 
-first_mapped : (o : Option ℕ) (d : ℕ) (loans : List Held) → IfSome o (λ first. All (λ (l : Held). first ≤ boarded_month l) loans) → IfSome o (λ first. All (λ (l : Held). first ≤ boarded_month l) (map (on_day d) loans))
+pub first_mapped : (o : Option ℕ) (d : ℕ) (loans : List Held) → IfSome o (λ first. All (λ (l : Held). first ≤ boarded_month l) loans) → IfSome o (λ first. All (λ (l : Held). first ≤ boarded_month l) (map (on_day d) loans))
 first_mapped None d loans h = tt
 first_mapped (Some first) d loans h = All-map (λ (l : Held). first ≤ boarded_month l) (on_day d) loans h
 
-day_reports : (n d : ℕ) (w : World) → IsWorld n w → w.today ≤ d → AreReports (on_day_of d w w.seals)
+pub day_reports : (n d : ℕ) (w : World) → IsWorld n w → w.today ≤ d → AreReports (on_day_of d w w.seals)
 day_reports n d w h le =
     let r = h.reports in
     record {
@@ -103,7 +103,7 @@ day_reports n d w h le =
       passed = r.passed;
     }
 
-day_world : (n d : ℕ) (w : World) → IsWorld n w → n < 1_000_000 → IsReadDay d → w.today ≤ d → IsWorld (n + 1) (on_day_of d w w.seals)
+pub day_world : (n d : ℕ) (w : World) → IsWorld n w → n < 1_000_000 → IsReadDay d → w.today ≤ d → IsWorld (n + 1) (on_day_of d w w.seals)
 day_world n d w h few read le =
     let numbers = mapped_numbers (on_day d) w.loans (λ k. refl) in
     record {
@@ -125,7 +125,7 @@ pub none_pending : (s : Reporting) (xs : List Adjustment) → xs ≡ [] → repo
 none_pending s xs none = ap (λ ys. reporting s.reports (s.pending ++ ys)) none ∙ ap (λ ys. reporting s.reports ys) (append-nil s.pending)
 
 -- the day is not before the business day
-day_later : (n d : ℕ) (w : World) → refusal_of n w (command.Day d) ≡ None → w.today ≤ d × n < 1_000_000
+pub day_later : (n d : ℕ) (w : World) → refusal_of n w (command.Day d) ≡ None → w.today ≤ d × n < 1_000_000
 unfolding refusal_of
 day_later n d w e =
     let p = past (full_of_commands n) (cases_by_command w (command.Day d)) e in
@@ -155,7 +155,7 @@ kept_none n w h = changes_kept (n + 1) (months_of w.seals.reports) w.loans w.loa
 -- ---- a remitted month
 
 -- the month that is to be remitted next is closed where it is not after the last closed one
-remitted_closed : (reports : List Sealed) (remitted : Option ℕ) → AreConsecutive reports → IfSome remitted (IsClosed reports) → is_closed_by (last_month reports) (next_remit remitted reports) ≡ true → IsClosed reports (next_remit remitted reports)
+pub remitted_closed : (reports : List Sealed) (remitted : Option ℕ) → AreConsecutive reports → IfSome remitted (IsClosed reports) → is_closed_by (last_month reports) (next_remit remitted reports) ≡ true → IsClosed reports (next_remit remitted reports)
 remitted_closed [] None c h by_last = absurd (cc)
 remitted_closed [] (Some m) c h by_last = absurd (cc)
 remitted_closed (r ∷ rs) None c h by_last = closed_to_end (r ∷ rs) r.month r.month c refl (omega arith) (within (last_month (r ∷ rs)) r.month by_last)
@@ -171,7 +171,7 @@ remitted_closed (r ∷ rs) (Some m) c h by_last =
     within None p e = absurd (cc)
     within (Some last) p e = grind (arith, nat_tests)
 
-remit_world : (n p : ℕ) (w : World) → IsWorld n w → n < 1_000_000 → IsClosed w.seals.reports p → IsWorld (n + 1) (record w { remitted = Some p })
+pub remit_world : (n p : ℕ) (w : World) → IsWorld n w → n < 1_000_000 → IsClosed w.seals.reports p → IsWorld (n + 1) (record w { remitted = Some p })
 remit_world n p w h few closed =
     let r = h.reports in
     record {
@@ -184,7 +184,7 @@ remit_world n p w h few closed =
       add_up = h.add_up;
     }
 
-abbrev remitted_with : World → ℕ → Reporting → World
+abbrev pub remitted_with : World → ℕ → Reporting → World
 remitted_with w p s = record { today = w.today; loans = w.loans; seals = s; remitted = Some p }
 
 pub remit_keeps : (n p : ℕ) (w : World) → IsWorld n w → refusal_of n w (command.Remit p) ≡ None → IsWorld (n + 1) (after (n + 1) w (command.Remit p))

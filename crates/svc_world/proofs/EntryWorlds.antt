@@ -72,14 +72,14 @@ entry_keeps n d id w a l h few found e =
     subst (λ i. IsWorld (n + 1) (world_with w i (with_entry (entry (n + 1) d a)) (n + 1))) is.number
     (change_keeps n (month_of d) w (with_entry (entry (n + 1) d a)) l h few is.found ch room)
 
-entered_sum : (c : ℤ) → IsEntered c → IsEntryAmount c
+pub entered_sum : (c : ℤ) → IsEntered c → IsEntryAmount c
 entered_sum c h = let low = h.low in let high = h.high in record { low = omega (arith, ints); high = omega (arith, ints) }
 
-entered_named : (c : ℤ) → IsEntered c → IsNamedAmount c
+pub entered_named : (c : ℤ) → IsEntered c → IsNamedAmount c
 entered_named c h = let low = h.low in let high = h.high in record { low = omega (arith, ints); high = omega (arith, ints) }
 
 -- an entry of a day that brings in an amount or none, and refunds none
-dated_entry : (w : World) (d : ℕ) (c : ℤ) (asked : Case) (l : Held) (a : Act) → IsLimited l.account → IsDay d → IsDated w d c asked l → IsAct a → IsNamedAct a → refunded_by a ≡ pos 0 → pos 0 ≤ℤ brought a → IsEntry w l d a
+pub dated_entry : (w : World) (d : ℕ) (c : ℤ) (asked : Case) (l : Held) (a : Act) → IsLimited l.account → IsDay d → IsDated w d c asked l → IsAct a → IsNamedAct a → refunded_by a ≡ pos 0 → pos 0 ≤ℤ brought a → IsEntry w l d a
 dated_entry w d c asked l a h exists e act named none brings =
     let covered = h.covered in
     record { entries = e.entries; since = e.since; until = e.until; exists = exists; act = act; named = named; covered = omega (arith, ints, covered, none, brings); room = e.room }
@@ -141,7 +141,7 @@ disburse_keeps n id d line w c h exists e =
     (dated_entry w d c (no_such_line line l) l (Disburse c line) limited exists it (entered_sum c it.amount) (entered_named c it.amount) refl (omega (arith, ints)))
 
 -- an entry of the business day that refunds no more than may be refunded
-present_entry : (n : ℕ) (w : World) (c : ℤ) (asked : Case) (l : Held) (a : Act) → IsHeld n w.today l → IsDay w.today → IsPresent w c asked l → IsAct a → IsNamedAct a → (refunded l.account +ℤ refunded_by a) ≤ℤ (received l.account +ℤ brought a) → IsEntry w l w.today a
+pub present_entry : (n : ℕ) (w : World) (c : ℤ) (asked : Case) (l : Held) (a : Act) → IsHeld n w.today l → IsDay w.today → IsPresent w c asked l → IsAct a → IsNamedAct a → (refunded l.account +ℤ refunded_by a) ≤ℤ (received l.account +ℤ brought a) → IsEntry w l w.today a
 present_entry n w c asked l a h exists e act named covered =
     let after = h.limited.account.after in
     record { entries = e.entries; since = subst (λ t. l.account.terms.boarded ≤ t) h.today after; until = omega arith; exists = exists; act = act; named = named; covered = covered; room = e.room }

@@ -37,24 +37,24 @@ use Rattle.svc_world.proofs.HistoryLemmas.{accepted_keeps, first_is_world, AreAc
 
 -- ---- the rows of a history
 
-accounts : (n : ℕ) (w : World) → IsWorld n w → All (λ (l : Held). IsAccount l.account) w.loans
+pub accounts : (n : ℕ) (w : World) → IsWorld n w → All (λ (l : Held). IsAccount l.account) w.loans
 accounts n w h = λ k d lt. (h.held k d lt).limited.account
 
 -- what the rows of a command bring into an account is what it holds more than before
-IsMoved : CashAccount → ℕ → World → Command → List Row → Type 0
+pub IsMoved : CashAccount → ℕ → World → Command → List Row → Type 0
 IsMoved account n w c rows =
     balance_of account (rows ++ rows_made (n + 1) w (after (n + 1) w c))
     ≡ balance_of account rows +ℤ (total_by (holds account (after (n + 1) w c)) (after (n + 1) w c).loans -ℤ total_by (holds account w) w.loans)
 
-cash_kept : (account : CashAccount) (n : ℕ) (w : World) (c : Command) (rows : List Row) → IsWorld n w → IsWorld (n + 1) (after (n + 1) w c) → numbers_of (after (n + 1) w c).loans ≡ numbers_of w.loans → IsMoved account n w c rows
+pub cash_kept : (account : CashAccount) (n : ℕ) (w : World) (c : Command) (rows : List Row) → IsWorld n w → IsWorld (n + 1) (after (n + 1) w c) → numbers_of (after (n + 1) w c).loans ≡ numbers_of w.loans → IsMoved account n w c rows
 unfolding IsMoved
 cash_kept account n w c rows h later same = rows_are_cash account (n + 1) w (after (n + 1) w c) rows h.rising same (accounts n w h) (accounts (n + 1) (after (n + 1) w c) later)
 
-cash_boarded : (account : CashAccount) (n : ℕ) (w : World) (c : Command) (rows : List Row) (l : Held) → IsWorld n w → IsWorld (n + 1) (after (n + 1) w c) → (after (n + 1) w c).loans ≡ with_loan l w.loans → find_loan l.id w.loans ≡ None → IsMoved account n w c rows
+pub cash_boarded : (account : CashAccount) (n : ℕ) (w : World) (c : Command) (rows : List Row) (l : Held) → IsWorld n w → IsWorld (n + 1) (after (n + 1) w c) → (after (n + 1) w c).loans ≡ with_loan l w.loans → find_loan l.id w.loans ≡ None → IsMoved account n w c rows
 unfolding IsMoved
 cash_boarded account n w c rows l h later more new = boarding_rows_are_cash account (n + 1) w (after (n + 1) w c) rows l h.rising more new (accounts n w h) (accounts (n + 1) (after (n + 1) w c) later)
 
-cash_moved : (account : CashAccount) (n : ℕ) (w : World) (c : Command) (rows : List Row) → IsWorld n w → IsWorld (n + 1) (after (n + 1) w c) → refusal_of n w c ≡ None → IsMoved account n w c rows
+pub cash_moved : (account : CashAccount) (n : ℕ) (w : World) (c : Command) (rows : List Row) → IsWorld n w → IsWorld (n + 1) (after (n + 1) w c) → refusal_of n w c ≡ None → IsMoved account n w c rows
 unfolding after loans_after
 cash_moved account n w (command.Day d) rows h later e = cash_kept account n w (command.Day d) rows h later (mapped_numbers (on_day d) w.loans (λ k. refl))
 cash_moved account n w (command.Board id t) rows h later e = cash_boarded account n w (command.Board id t) rows (boarded id t w.today) h later refl (boarding n id t w e).new
@@ -73,7 +73,7 @@ cash_moved account n w (command.Close p) rows h later e = cash_kept account n w 
 cash_moved account n w (command.Remit p) rows h later e = cash_kept account n w (command.Remit p) rows h later refl
 cash_moved account n w (command.Retype id from kind) rows h later e = cash_kept account n w (command.Retype id from kind) rows h later (changed_numbers id (with_type (type_change from kind)) w.loans (λ k. refl))
 
-cash_from : (account : CashAccount) (n : ℕ) (w : World) (rows : List Row) (h : List Accepted) → IsWorld n w → AreAccepted n w h → balance_of account (rows ++ rows_from n w h) ≡ balance_of account rows +ℤ (total_by (holds account (world_from n w h)) (world_from n w h).loans -ℤ total_by (holds account w) w.loans)
+pub cash_from : (account : CashAccount) (n : ℕ) (w : World) (rows : List Row) (h : List Accepted) → IsWorld n w → AreAccepted n w h → balance_of account (rows ++ rows_from n w h) ≡ balance_of account rows +ℤ (total_by (holds account (world_from n w h)) (world_from n w h).loans -ℤ total_by (holds account w) w.loans)
 unfolding rows_from world_from IsMoved
 cash_from account n w rows [] is all =
     let same = ap (balance_of account) (append-nil rows) in
@@ -87,13 +87,13 @@ cash_from account n w rows (a ∷ more) is all =
     let one = cash_moved account n w a.command rows is later all.0.1 in
     omega (arith, ints, split, rest, one)
 
-no_balance : (account : CashAccount) → balance_of account [] ≡ pos 0
+pub no_balance : (account : CashAccount) → balance_of account [] ≡ pos 0
 unfolding balance_of
 no_balance T = refl
 no_balance P = refl
 
 -- the balance of an account is what it holds for all loans
-balance_held : (account : CashAccount) (h : List Accepted) → IsHistory h → balance_of account (rows_in h) ≡ total_by (holds account (world h)) (world h).loans
+pub balance_held : (account : CashAccount) (h : List Accepted) → IsHistory h → balance_of account (rows_in h) ≡ total_by (holds account (world h)) (world h).loans
 balance_held account h is =
     let moved = cash_from account 0 first_world [] h first_is_world (history_accepted h is) in
     let none = no_balance account in
@@ -112,7 +112,7 @@ are_lawful h is =
 
 -- ---- one command more
 
-grows : (n : ℕ) (w : World) (c : Command) → ReportsGrow w (after n w c)
+pub grows : (n : ℕ) (w : World) (c : Command) → ReportsGrow w (after n w c)
 unfolding after loans_after seals_after
 grows n w (command.Close p) = record { more = report_of p (lines_of w.seals.pending p w.loans) w.seals.pending ∷ []; grown = refl }
 grows n w (command.Day d) = record { more = []; grown = sym (append-nil w.seals.reports) }
@@ -131,7 +131,7 @@ grows n w (command.Analyse id plan) = record { more = []; grown = sym (append-ni
 grows n w (command.Remit p) = record { more = []; grown = sym (append-nil w.seals.reports) }
 grows n w (command.Retype id from kind) = record { more = []; grown = sym (append-nil w.seals.reports) }
 
-adjusts : (n : ℕ) (w : World) (c : Command) → IsWorld n w → refusal_of n w c ≡ None → adjustments_by (n + 1) w c ≢ [] → CanAdjust c
+pub adjusts : (n : ℕ) (w : World) (c : Command) → IsWorld n w → refusal_of n w c ≡ None → adjustments_by (n + 1) w c ≢ [] → CanAdjust c
 unfolding loans_after
 adjusts n w (command.Day d) h e some = absurd (some (day_none n d w h e))
 adjusts n w (command.Board id t) h e some = absurd (some (board_none n id t w h (boarding n id t w e)))

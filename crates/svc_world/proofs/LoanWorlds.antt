@@ -37,12 +37,12 @@ use Rattle.svc_world.proofs.QuietWorlds.{IsQuiet, quiet_keeps}
 -- ---- a reversal
 
 -- the entry is there, and its rules leave room
-record IsReversible (w : World) (number : ℕ) (l : Held) : Type 0 where
+pub record IsReversible (w : World) (number : ℕ) (l : Held) : Type 0 where
   entry : Entry
   found : entry_of l.account number ≡ Some entry
   room : HasRoom w (month_of entry.day)
 
-reversible : (w : World) (number : ℕ) (l : Held) → first_of (reversal_cases w number l) ≡ None → IsReversible w number l
+pub reversible : (w : World) (number : ℕ) (l : Held) → first_of (reversal_cases w number l) ≡ None → IsReversible w number l
 reversible w number l e =
     elim (entry_of l.account number) as (λ o. entry_of l.account number ≡ o → first_of (entry_reversal_cases w (reverser_of l.account number) o) ≡ None → IsReversible w number l) [
       | None ↦ λ is none. absurd (cc)
@@ -52,7 +52,7 @@ reversible w number l e =
           record { entry = x; found = is; room = room_left w (month_of x.day) two.rest }
     ] refl e
 
-find_all : (P : Entry → Type 0) (p : Entry → Bool) (es : List Entry) (x : Entry) → find p es ≡ Some x → All P es → P x
+pub find_all : (P : Entry → Type 0) (p : Entry → Bool) (es : List Entry) (x : Entry) → find p es ≡ Some x → All P es → P x
 find_all P p [] x e h = absurd (cc)
 find_all P p (y ∷ es) x e h =
     elim (p y) as (λ v. (if v then Some y else find p es) ≡ Some x → P x) [
@@ -60,7 +60,7 @@ find_all P p (y ∷ es) x e h =
       | false ↦ λ is. find_all P p es x is (All-tail P y es h)
     ] e
 
-reversal_change : (n number : ℕ) (w : World) (l : Held) (x : Entry) → IsHeld n w.today l → entry_of l.account number ≡ Some x → IsChange (n + 1) w.today (month_of x.day) (with_reversal number (n + 1)) l
+pub reversal_change : (n number : ℕ) (w : World) (l : Held) (x : Entry) → IsHeld n w.today l → entry_of l.account number ≡ Some x → IsChange (n + 1) w.today (month_of x.day) (with_reversal number (n + 1)) l
 reversal_change n number w l x h found =
     let account = h.limited.account in
     let there : is_some (entry_of l.account number) ≡ true = ap is_some found in
@@ -96,10 +96,10 @@ reverse_keeps n id number w h e =
 -- ---- changes from a month on that is not closed
 
 -- the first month that is neither closed nor before a loan was boarded
-abbrev open_month : World → Held → ℕ
+abbrev pub open_month : World → Held → ℕ
 open_month w l = max (month_after (last_month w.seals.reports)) (boarded_month l)
 
-with_length : (line : Line) (lines : List Line) → length (with_line line lines) ≡ (if list_any (has_id line.id) lines then length lines else length lines + 1)
+pub with_length : (line : Line) (lines : List Line) → length (with_line line lines) ≡ (if list_any (has_id line.id) lines then length lines else length lines + 1)
 with_length line [] = refl
 with_length line (x ∷ xs) =
     let rest = with_length line xs in
@@ -112,7 +112,7 @@ with_length line (x ∷ xs) =
     counted true k j e = ap suc e
     counted false k j e = omega (arith, e)
 
-bill_from : (line : Line) → line_fault line ≡ None → IsBill line
+pub bill_from : (line : Line) → line_fault line ≡ None → IsBill line
 bill_from line e =
     let cents = right line Amount (MonthRange ∷ Every ∷ []) e in
     let month = right line MonthRange (Every ∷ []) cents.1 in
@@ -141,7 +141,7 @@ bill_from line e =
           | false ↦ λ is none. absurd (cc)
         ] refl e
 
-lines_change : (n : ℕ) (w : World) (f : Held → Held) (l : Held) (lines : List Line) → IsHeld n w.today l → f l ≡ record l { lines = lines } → ((k : Held) → (f k).id ≡ k.id) → ((k : Held) → boarded_month (f k) ≡ boarded_month k) → AgreeTo (open_month w l) l (f l) → AreLines lines → IsChange (n + 1) w.today (open_month w l) f l
+pub lines_change : (n : ℕ) (w : World) (f : Held → Held) (l : Held) (lines : List Line) → IsHeld n w.today l → f l ≡ record l { lines = lines } → ((k : Held) → (f k).id ≡ k.id) → ((k : Held) → boarded_month (f k) ≡ boarded_month k) → AgreeTo (open_month w l) l (f l) → AreLines lines → IsChange (n + 1) w.today (open_month w l) f l
 lines_change n w f l lines h is number boarded agree are = record {
   number = number;
   boarded = boarded;
@@ -157,10 +157,10 @@ lines_change n w f l lines h is number boarded agree are = record {
   });
 }
 
-same_account : (m : ℕ) (l : Held) (lines : List Line) → AgreeTo m l (record l { lines = lines })
+pub same_account : (m : ℕ) (l : Held) (lines : List Line) → AgreeTo m l (record l { lines = lines })
 same_account m l lines = record { account = record { terms = refl; ends = λ p lt. refl }; kinds = λ p lt. refl }
 
-few_lines : (line : Line) (l : Held) → length l.lines ≤ 16 → (not (has_line line.id l) && nat_le 16 (length l.lines)) ≡ false → length (with_line line l.lines) ≤ 16
+pub few_lines : (line : Line) (l : Held) → length l.lines ≤ 16 → (not (has_line line.id l) && nat_le 16 (length l.lines)) ≡ false → length (with_line line l.lines) ≤ 16
 few_lines line l most full = few (has_line line.id l) (length (with_line line l.lines)) (length l.lines) (with_length line l.lines) most full
   where
     few : (b : Bool) (k j : ℕ) → k ≡ (if b then j else j + 1) → j ≤ 16 → (not b && nat_le 16 j) ≡ false → k ≤ 16
@@ -198,11 +198,11 @@ drop_keeps n id line w h e = quiet_keeps n id w (without_bill line) h (drop_quie
 
 -- ---- a change of type
 
-end_by : (o : Option ℕ) (m : ℕ) → IfSome o (λ last. last < m) → month_after o ≤ m
+pub end_by : (o : Option ℕ) (m : ℕ) → IfSome o (λ last. last < m) → month_after o ≤ m
 end_by None m lt = omega arith
 end_by (Some last) m lt = omega (arith, lt)
 
-type_held : (n from : ℕ) (kind : RemitType) (w : World) (l : Held) → IsHeld n w.today l → length l.types < 64 → boarded_month l ≤ from → IsHeld (n + 1) w.today (with_type (type_change from kind) l)
+pub type_held : (n from : ℕ) (kind : RemitType) (w : World) (l : Held) → IsHeld n w.today l → length l.types < 64 → boarded_month l ≤ from → IsHeld (n + 1) w.today (with_type (type_change from kind) l)
 type_held n from kind w l h few since = record {
   limited = h.limited;
   today = h.today;

@@ -26,14 +26,14 @@ use Rattle.svc_world.proofs.CashLemmas.{holds}
 
 -- ---- the remitted reports are the first ones
 
-later_none : (last : ℕ) (rs : List Sealed) (r : Sealed) → AreConsecutive (r ∷ rs) → last < r.month → filter (λ (x : Sealed). nat_le x.month last) (r ∷ rs) ≡ []
+pub later_none : (last : ℕ) (rs : List Sealed) (r : Sealed) → AreConsecutive (r ∷ rs) → last < r.month → filter (λ (x : Sealed). nat_le x.month last) (r ∷ rs) ≡ []
 later_none last [] r h lt = let no : nat_le r.month last ≡ false = grind (arith, nat_tests) in rw no refl
 later_none last (s ∷ rs) r h lt =
     let next : s.month ≡ r.month + 1 = h.0 in
     let no : nat_le r.month last ≡ false = grind (arith, nat_tests) in
     ap (λ v. cond v (r ∷ filter (λ (x : Sealed). nat_le x.month last) (s ∷ rs)) (filter (λ (x : Sealed). nat_le x.month last) (s ∷ rs))) no ∙ later_none last rs s h.1 (omega arith)
 
-first_ones : (last : ℕ) (rs : List Sealed) → AreConsecutive rs → (k : ℕ) × (filter (λ (x : Sealed). nat_le x.month last) rs ≡ take k rs)
+pub first_ones : (last : ℕ) (rs : List Sealed) → AreConsecutive rs → (k : ℕ) × (filter (λ (x : Sealed). nat_le x.month last) rs ≡ take k rs)
 first_ones last [] h = (0, refl)
 first_ones last (r ∷ rs) h =
     elim (nat_le r.month last) as (λ v. nat_le r.month last ≡ v → (k : ℕ) × (cond v (r ∷ filter (λ (x : Sealed). nat_le x.month last) rs) (filter (λ (x : Sealed). nat_le x.month last) rs) ≡ take k (r ∷ rs))) [
@@ -48,16 +48,16 @@ first_ones last (r ∷ rs) h =
     rest_of r [] h = tt
     rest_of r (s ∷ rs) h = h.1
 
-remitted_first : (o : Option ℕ) (rs : List Sealed) → AreConsecutive rs → (k : ℕ) × (remitted_reports o rs ≡ take k rs)
+pub remitted_first : (o : Option ℕ) (rs : List Sealed) → AreConsecutive rs → (k : ℕ) × (remitted_reports o rs ≡ take k rs)
 remitted_first None rs h = (0, refl)
 remitted_first (Some last) rs h = first_ones last rs h
 
 -- ---- what a report sends for a loan is its two parts
 
-line_parts : (id : ℕ) (l : ReportLine) → (if l.loan == id then sent_of_line l else pos 0) ≡ (lined Interest id l +ℤ summed Interest id l) +ℤ (lined Principal id l +ℤ summed Principal id l)
+pub line_parts : (id : ℕ) (l : ReportLine) → (if l.loan == id then sent_of_line l else pos 0) ≡ (lined Interest id l +ℤ summed Interest id l) +ℤ (lined Principal id l +ℤ summed Principal id l)
 line_parts id l = elim (l.loan == id) as (λ v. (if v then sent_of_line l else pos 0) ≡ ((if v then l.interest else pos 0) +ℤ (if v then l.adj_interest else pos 0)) +ℤ ((if v then l.principal else pos 0) +ℤ (if v then l.adj_principal else pos 0))) [ true ↦ omega (arith, ints) | false ↦ omega (arith, ints) ]
 
-sent_parts : (id : ℕ) (r : Sealed) → sent_for id r ≡ sent_part Interest id r +ℤ sent_part Principal id r
+pub sent_parts : (id : ℕ) (r : Sealed) → sent_for id r ≡ sent_part Interest id r +ℤ sent_part Principal id r
 sent_parts id r =
     let ls = r.lines in
     let split = total_by-same (λ (l : ReportLine). if l.loan == id then sent_of_line l else pos 0) (λ (l : ReportLine). (lined Interest id l +ℤ summed Interest id l) +ℤ (lined Principal id l +ℤ summed Principal id l)) ls (λ k d lt. line_parts id (get_or ls k d)) in
@@ -66,7 +66,7 @@ sent_parts id r =
     let two = total_by-both (lined Principal id) (summed Principal id) ls in
     omega (arith, ints, split, both, one, two)
 
-sent_sums : (id : ℕ) (rs : List Sealed) → total_by (sent_for id) rs ≡ total_by (sent_part Interest id) rs +ℤ total_by (sent_part Principal id) rs
+pub sent_sums : (id : ℕ) (rs : List Sealed) → total_by (sent_for id) rs ≡ total_by (sent_part Interest id) rs +ℤ total_by (sent_part Principal id) rs
 sent_sums id rs =
     let split = total_by-same (sent_for id) (λ (r : Sealed). sent_part Interest id r +ℤ sent_part Principal id r) rs (λ k d lt. sent_parts id (get_or rs k d)) in
     let both = total_by-both (sent_part Interest id) (sent_part Principal id) rs in
@@ -117,7 +117,7 @@ balance_within account w h r few =
     (omega (arith, ints, low), omega (arith, ints, high))
 
 -- what is advanced to the investor, and what is left over
-pi_parts : (w : World) (l : Held) → IsLimited l.account → AreReports w → IsTotal (advanced_for w l) × IsTotal (residual_of w l)
+pub pi_parts : (w : World) (l : Held) → IsLimited l.account → AreReports w → IsTotal (advanced_for w l) × IsTotal (residual_of w l)
 pi_parts w l h r =
     let x = account_holdings l.account h in
     let i1 = x.interest.low in let i2 = x.interest.high in

@@ -1,0 +1,37 @@
+-- The room that a command needs, so that it takes no memory when it is accepted.
+use Rattle.std.specs.Prelude.{◌≡◌, ℕ, ◌*◌, ◌≤◌, ℤ, pos, length}
+use Rattle.std.specs.List.{All}
+use Rattle.svc_types.specs.declared.terms.Terms.{Terms}
+use Rattle.period_adjust.specs.Sealed.{State}
+use Rattle.svc_world.specs.Held.{boarded}
+use Rattle.svc_loan.specs.Kept.{KeptLoan, IsReady}
+use Rattle.svc_loan.specs.Loans.{KeptLoans, OfLoan}
+
+-- for a command on one loan: room in the loan, for its rows, for the dues that it had for closed months, and for
+-- an adjustment of each of these
+pub record HasRoomForOne (id today : ℕ) (loans : KeptLoans) (seals : State) (rows dues : ℕ) : Type 0 where
+  pub loan : OfLoan id loans.loans (IsReady today)
+  pub rows_room : 11 ≤ rows
+  pub dues_room : length seals.reporting.reports ≤ dues
+  pub adjustments : length seals.reporting.reports ≤ seals.adjustment_room
+
+-- for a loan that is taken on: a place among the others, and room for its rows
+pub record HasRoomForNew (loans : KeptLoans) (rows : ℕ) : Type 0 where
+  pub place : 1 ≤ loans.room
+  pub rows_room : 11 ≤ rows
+
+-- the loan that is to be taken on is the one that the command names
+pub record IsBoarding (id : ℕ) (t : Terms) (today : ℕ) (k : KeptLoan) : Type 0 where
+  pub held : k.held ≡ boarded id t today
+  pub closed : k.closed ≡ 0
+  pub remitted : k.remitted ≡ pos 0
+
+-- for a command on all loans, after which the business day is that one: room in each, for the rows of each, for
+-- the totals that each had, and for a report with a line of each
+pub record HasRoomForAll (today : ℕ) (loans : KeptLoans) (seals : State) (rows totals lines : ℕ) : Type 0 where
+  pub each : All (IsReady today) loans.loans
+  pub rows_room : 11 * length loans.loans ≤ rows
+  pub totals_room : length loans.loans ≤ totals
+  pub lines_room : length loans.loans ≤ lines
+  pub report_lines : length loans.loans ≤ seals.line_room
+  pub report : 1 ≤ seals.report_room
