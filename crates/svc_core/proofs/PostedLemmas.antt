@@ -5,9 +5,9 @@ use Rattle.std.proofs.lemmas.Slice.Eq.{slice_eq-Decides}
 use Rattle.std.specs.Prelude.{Option, Some, None, if◌then◌else◌}
 use Rattle.svc_types.specs.declared.requests.Command.{Command}
 use Rattle.svc_types.specs.declared.replies.Reply.{Reply}
-use Rattle.svc_world.specs.World.{World, Accepted, accepted, after, world_from}
-use Rattle.svc_world.specs.Judging.{is_key, nth_accepted, reply_of, known_from}
-use Rattle.svc_core.specs.Posted.{number_from, number_of, history_of, known_as, known_among, replies_from}
+use Rattle.svc_world.specs.World.{World, Accepted, accepted, first_world, after, world_from, world}
+use Rattle.svc_world.specs.Judging.{is_key, nth_accepted, reply_of, next_reply, known_from}
+use Rattle.svc_core.specs.Posted.{number_from, number_of, history_of, known_as, known_among, replies_from, replies_to}
 
 -- what is found after one command more: what was found before it, else that command
 after_push : ℕ → Accepted → List ℕ → Option ℕ → Option ℕ
@@ -87,6 +87,12 @@ replies_push n w (x ∷ h) a =
     let next = after (n + 1) w x.command in
     let same : n + 1 + length h + 1 ≡ n + suc (length h) + 1 = omega arith in
     ap (λ rs. reply_of (n + 1) w x.command ∷ rs) (replies_push (n + 1) next h a ∙ ap (λ k. replies_from (n + 1) next h ++ reply_of k (world_from (n + 1) next h) a.command ∷ []) same)
+
+-- one command more has the next reply
+pub replies_next : (h : List Accepted) (a : Accepted) → replies_to (h ++ a ∷ []) ≡ replies_to h ++ next_reply h a.command ∷ []
+replies_next h a =
+    let same : 0 + length h + 1 ≡ length h + 1 = omega arith in
+    replies_push 0 first_world h a ∙ ap (λ n. replies_to h ++ reply_of n (world h) a.command ∷ []) same
 
 -- the command and the reply at the place of a key
 pub known_at_place : (n : ℕ) (h : List Accepted) (rs : List Reply) (key : List ℕ) (m : ℕ) (a : Accepted) (r : Reply) → length rs ≡ length h → number_from n h key ≡ Some m → known_among h rs key ≡ Some (known_as (get_or h (m - n) a).command (get_or rs (m - n) r))

@@ -5,3 +5,6 @@ pub mod Scope
 pub mod Ready
 pub mod Costs
 pub mod Rows
+pub mod Rules
+pub mod Core
+pub mod Bound
