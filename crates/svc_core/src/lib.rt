@@ -4,7 +4,10 @@
 mod analysing;
 mod boarding;
 mod cash;
+mod changing;
 mod closing;
+mod entering;
+mod figures;
 mod laws;
 mod others;
 mod posted;
