@@ -6,3 +6,4 @@ pub mod KeptInLemmas
 pub mod ChangingLemmas
 pub mod EnteringLemmas
 pub mod FiguresLemmas
+pub mod ReversingLemmas
