@@ -188,10 +188,10 @@ later_room {n = n} {id = id} {m = m} later before room h c is le =
 
 -- ---- the world after it
 
-abbrev world : ℕ → List Held → Reporting → Option ℕ → World
+abbrev pub world : ℕ → List Held → Reporting → Option ℕ → World
 world today loans s r = record { today = today; loans = loans; seals = s; remitted = r }
 
-same_world : (today : ℕ) (loans loans' : List Held) (s s' : Reporting) (r r' : Option ℕ) → loans ≡ loans' → s ≡ s' → r ≡ r' → world today loans s r ≡ world today loans' s' r'
+pub same_world : (today : ℕ) (loans loans' : List Held) (s s' : Reporting) (r r' : Option ℕ) → loans ≡ loans' → s ≡ s' → r ≡ r' → world today loans s r ≡ world today loans' s' r'
 same_world today loans loans' s s' r r' p q t = rw (p, q, t) refl
 
 -- the reports after the change is recorded

@@ -7,3 +7,4 @@ pub mod ChangingLemmas
 pub mod EnteringLemmas
 pub mod FiguresLemmas
 pub mod ReversingLemmas
+pub mod QuietLemmas
