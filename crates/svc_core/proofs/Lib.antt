@@ -8,3 +8,4 @@ pub mod EnteringLemmas
 pub mod FiguresLemmas
 pub mod ReversingLemmas
 pub mod QuietLemmas
+pub mod AnalysedLemmas

@@ -12,6 +12,7 @@ ghost use Rattle.svc_types.specs.declared.requests.Command.TheVariants as reques
 ghost use Rattle.svc_spec.specs.Accounts.{entry_of};
 ghost use Rattle.svc_world.specs.Held as held;
 ghost use Rattle.svc_world.specs.Refusals.{refusal_of};
+ghost use Rattle.svc_world.specs.World.{after};
 ghost use Rattle.svc_loan.specs.Kept.{IsReady};
 ghost use Rattle.svc_loan.specs.Loans.{OfLoan, find_kept};
 ghost use Rattle.svc_core.specs.Cash.{IsKeptIn};
@@ -74,8 +75,8 @@ pub(crate) fn reverse<B: LoanBooks, L: Ledger>(
     requires dues { length state.old.seals.reporting.reports ≤ vec_capacity dues.old }
     requires adjustments { length state.old.seals.reporting.reports ≤ state.old.seals.adjustment_room }
     ensures world { world_of state.new.today state.new.loans state.new.seals
-        ≡ world_with (world_of state.old.today state.old.loans state.old.seals) id
-        (held.with_reversal number (count + 1)) (count + 1) }
+        ≡ after (count + 1) (world_of state.old.today state.old.loans state.old.seals)
+        (request.Reverse id number) }
     ensures kept { All (IsKeptIn (world_of state.new.today state.new.loans state.new.seals))
         state.new.loans.loans }
     ensures steps { steps.new ≤ steps.old + accepting_cost B.cost B.month_cost

@@ -1,11 +1,12 @@
-use Rattle.std.proofs.Common.{◌≡◌, ◌+◌, ◌≤◌, List, subst, sym}
+use Rattle.std.proofs.Common.{◌≡◌, ◌+◌, ◌≤◌, List, subst, sym, ◌∙◌}
 use Rattle.remit_types.specs.declared.dues.MonthDue.{MonthDue}
 use Rattle.svc_loan.specs.Closed.{closed_cost}
 use Rattle.svc_loan.specs.Kept.{KeptLoan}
 use Rattle.svc_loan.specs.Loans.{OfLoan}
+use Rattle.svc_core.specs.State.{world_of}
 use Rattle.svc_core.specs.Changing.{dues_since}
 use Rattle.svc_core.proofs.ChangingLemmas.{IsRecorded, asks_since, asks_room, later_since, later_change, later_room, world_after, kept_after, steps_after}
-use Rattle.svc_core.proofs.ReversingLemmas.{reversing, entry_is_there, reversed, are_reversed, reversed_cost}
+use Rattle.svc_core.proofs.ReversingLemmas.{reversing, entry_is_there, reversed, are_reversed, reversed_cost, reversed_world}
 use Rattle.svc_core.proofs.entering.reverse.Goals as goal
 
 pub entry_there-entry-requires : goal.entry_there-entry-requires
@@ -65,7 +66,7 @@ returns-clause-world g c =
     let copied = subst (λ (ds : List MonthDue). OfLoan c.args.id c.args.state.now.loans.loans (λ (k : KeptLoan). ds ≡ dues_since c.month_of-month.result k)) (sym c.deref.ensures.value) c.copy_dues.ensures in
     let seals = c.record_dues.new.seals in
     let done : IsRecorded c.args.count c.args.id c.month_of-month.result before c.reverse.new.self c.args.state.now.seals seals = record { done = c.record_dues.ensures.done; remitted = c.record_dues.ensures.remitted } in
-    world_after c.reverse.new.self before seals h are copied done
+    world_after c.reverse.new.self before seals h are copied done ∙ sym (reversed_world c.args.count c.args.id c.args.number (world_of c.args.state.now.today c.args.state.now.loans c.args.state.now.seals))
 
 pub returns-clause-kept : goal.returns-clause-kept
 returns-clause-kept g c =
