@@ -11,14 +11,12 @@ use Rattle.svc_types.specs.declared.account.Designation.{Designation}
 use Rattle.svc_types.specs.declared.account.Entry.{Entry}
 use Rattle.svc_types.specs.declared.requests.Command.{Command}
 use Rattle.svc_types.specs.declared.requests.Command.TheVariants as command
-use Rattle.svc_types.specs.declared.replies.Extra.TheVariants.{Plain}
 use Rattle.svc_types.specs.Requests.{IsCommand}
 use Rattle.svc_spec.specs.Payoff.{available}
-use Rattle.svc_spec.specs.Accounts.{Account, MayPost}
+use Rattle.svc_spec.specs.Accounts.{MayPost}
 use Rattle.period_adjust.specs.Sealed.{State}
 use Rattle.svc_world.specs.Held.{Held, find_loan, books_now, with_entry}
 use Rattle.svc_world.specs.World.{World, entry, loans_after, seals_after, after}
-use Rattle.svc_world.specs.Judging.{extra_of}
 use Rattle.svc_world.specs.Refusals.{refusal_of, asks_no_more, over_principal, payoff_short, no_such_line, over_refund, over_waiver, dated_cases, present_cases}
 use Rattle.svc_world.specs.Worlds.{IsHeld, IsWorld}
 use Rattle.svc_world.proofs.LimitedLemmas.{available_covered}
@@ -33,7 +31,6 @@ use Rattle.svc_replay.specs.Faults.{most_entries}
 use Rattle.svc_core.specs.declared.scope.Scope.TheVariants.{One}
 use Rattle.svc_core.specs.Scope.{scope_of}
 use Rattle.svc_core.specs.State.{world_of, IsState}
-use Rattle.svc_core.specs.Costs.{entering_cost, accepting_cost}
 use Rattle.svc_core.specs.Changing.{MayEnter, entry_made, world_with}
 use Rattle.svc_core.proofs.KeptInLemmas.{kept_of}
 use Rattle.svc_core.proofs.ChangingLemmas.{IsChanging}
@@ -85,12 +82,10 @@ few_entries n today loans seals id e m =
 pub may_enter : (n id d : ℕ) (w : World) (a : Act) (l : Held) → n < 1_000_000 → find_loan id w.loans ≡ Some l → IsEntry w l d a → MayEnter n w id (entry (n + 1) d a)
 may_enter n id d w a l few found e = record { few = few; number = refl; loan = l; found = found; entries = e.entries; since = e.since; until = e.until; exists = e.exists; act = e.act; named = e.named; covered = e.covered; room = e.room }
 
--- what an entry that a command makes makes of the world, of the reply, and what it costs
+-- the entry of a command may be made, and the world after the command has it
 pub record IsMade (n id : ℕ) (w : World) (c : Command) (e : Entry) : Type 0 where
   pub may : MayEnter n w id e
   pub world : after (n + 1) w c ≡ world_with w id (with_entry e) (n + 1)
-  pub extra : (later : World) → extra_of w later c ≡ Plain
-  pub cost : (cost month_cost : Account → ℕ → ℕ) (later : World) → accepting_cost cost month_cost w later c ≡ entering_cost cost month_cost later id (month_of e.day)
 
 made_at : (n j id : ℕ) (w : World) (c : Command) (x e : Entry) → One j ≡ One id → Some x ≡ Some e → IsMade n j w c x → IsMade n id w c e
 made_at n j id w c x e one some h =
@@ -110,8 +105,6 @@ made_pay n id d w c over h exists e =
       may = may_enter n id d w (act.Pay c over) l q.few q.loan.found
       (dated_entry w d c (asks_no_more l) l (act.Pay c over) limited exists it (entered_sum c it.amount) (entered_named c it.amount) refl (omega (arith, ints, low)));
       world = refl;
-      extra = λ later. refl;
-      cost = λ cost month_cost later. refl;
     }
 
 made_curtail : (n id d : ℕ) (w : World) (c : ℤ) → IsWorld n w → IsDay d → refusal_of n w (command.Curtail id d c) ≡ None → IsMade n id w (command.Curtail id d c) (entry (n + 1) d (act.Curtail c))
@@ -126,8 +119,6 @@ made_curtail n id d w c h exists e =
       may = may_enter n id d w (act.Curtail c) l q.few q.loan.found
       (dated_entry w d c (over_principal d c l) l (act.Curtail c) limited exists it (entered_sum c it.amount) (entered_named c it.amount) refl (omega (arith, ints, low)));
       world = refl;
-      extra = λ later. refl;
-      cost = λ cost month_cost later. refl;
     }
 
 made_payoff : (n id d : ℕ) (w : World) (c : ℤ) → IsWorld n w → IsDay d → refusal_of n w (command.Payoff id d c) ≡ None → IsMade n id w (command.Payoff id d c) (entry (n + 1) d (act.Payoff c))
@@ -142,8 +133,6 @@ made_payoff n id d w c h exists e =
       may = may_enter n id d w (act.Payoff c) l q.few q.loan.found
       (dated_entry w d c (payoff_short d c l) l (act.Payoff c) limited exists it (entered_sum c it.amount) (entered_named c it.amount) refl (omega (arith, ints, low)));
       world = refl;
-      extra = λ later. refl;
-      cost = λ cost month_cost later. refl;
     }
 
 made_deposit : (n id d : ℕ) (w : World) (c : ℤ) → IsWorld n w → IsDay d → refusal_of n w (command.Deposit id d c) ≡ None → IsMade n id w (command.Deposit id d c) (entry (n + 1) d (act.Deposit c))
@@ -158,8 +147,6 @@ made_deposit n id d w c h exists e =
       may = may_enter n id d w (act.Deposit c) l q.few q.loan.found
       (dated_entry w d c (asks_no_more l) l (act.Deposit c) limited exists it (entered_sum c it.amount) (entered_named c it.amount) refl (omega (arith, ints, low)));
       world = refl;
-      extra = λ later. refl;
-      cost = λ cost month_cost later. refl;
     }
 
 made_disburse : (n id d line : ℕ) (w : World) (c : ℤ) → IsWorld n w → IsDay d → refusal_of n w (command.Disburse id d c line) ≡ None → IsMade n id w (command.Disburse id d c line) (entry (n + 1) d (act.Disburse c line))
@@ -173,8 +160,6 @@ made_disburse n id d line w c h exists e =
       may = may_enter n id d w (act.Disburse c line) l q.few q.loan.found
       (dated_entry w d c (no_such_line line l) l (act.Disburse c line) limited exists it (entered_sum c it.amount) (entered_named c it.amount) refl (omega (arith, ints)));
       world = refl;
-      extra = λ later. refl;
-      cost = λ cost month_cost later. refl;
     }
 
 made_refund : (n id : ℕ) (w : World) (c : ℤ) → IsWorld n w → refusal_of n w (command.Refund id c) ≡ None → IsMade n id w (command.Refund id c) (entry (n + 1) w.today (act.Refund c))
@@ -190,8 +175,6 @@ made_refund n id w c h e =
       may = may_enter n id w.today w (act.Refund c) l q.few q.loan.found
       (present_entry n w c (over_refund c l) l (act.Refund c) held h.today.exists it (entered_sum c it.amount) (entered_named c it.amount) (omega (arith, ints, covered)));
       world = refl;
-      extra = λ later. refl;
-      cost = λ cost month_cost later. refl;
     }
 
 made_waive : (n id : ℕ) (w : World) (c : ℤ) → IsWorld n w → refusal_of n w (command.Waive id c) ≡ None → IsMade n id w (command.Waive id c) (entry (n + 1) w.today (act.Waive c))
@@ -206,8 +189,6 @@ made_waive n id w c h e =
       may = may_enter n id w.today w (act.Waive c) l q.few q.loan.found
       (present_entry n w c (over_waiver c l) l (act.Waive c) held h.today.exists it (entered_sum c it.amount) (entered_named c it.amount) (omega (arith, ints, covered)));
       world = refl;
-      extra = λ later. refl;
-      cost = λ cost month_cost later. refl;
     }
 
 pub made : (n id : ℕ) (w : World) (c : Command) (e : Entry) → IsWorld n w → IsCommand c → scope_of c ≡ One id → refusal_of n w c ≡ None → entry_made (n + 1) w.today c ≡ Some e → IsMade n id w c e
