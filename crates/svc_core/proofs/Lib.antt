@@ -9,3 +9,4 @@ pub mod FiguresLemmas
 pub mod ReversingLemmas
 pub mod QuietLemmas
 pub mod AnalysedLemmas
+pub mod TakingOnLemmas

@@ -14,6 +14,7 @@ mod posted;
 mod refusals;
 mod scope;
 mod state;
+mod taking_on;
 
 pub use laws::replies_are_known;
 pub use posted::Posted;
