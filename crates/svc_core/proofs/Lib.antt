@@ -2,7 +2,18 @@ pub mod PostedLemmas
 pub mod CashLemmas
 pub mod RuleLemmas
 pub mod AnalysingLemmas
+<<<<<<< HEAD
 pub mod CoreLemmas
 pub mod PartsLemmas
 pub mod BoundLemmas
 pub mod RefusingLemmas
+=======
+pub mod KeptInLemmas
+pub mod ChangingLemmas
+pub mod EnteringLemmas
+pub mod FiguresLemmas
+pub mod ReversingLemmas
+pub mod QuietLemmas
+pub mod AnalysedLemmas
+pub mod TakingOnLemmas
+>>>>>>> hA

@@ -5,6 +5,10 @@ pub mod Scope
 pub mod Ready
 pub mod Costs
 pub mod Rows
+<<<<<<< HEAD
 pub mod Rules
 pub mod Core
 pub mod Bound
+=======
+pub mod Changing
+>>>>>>> hA

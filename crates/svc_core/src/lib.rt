@@ -6,8 +6,14 @@ mod analysing;
 mod asking;
 mod boarding;
 mod cash;
+mod changing;
 mod closing;
+<<<<<<< HEAD
 mod fault;
+=======
+mod entering;
+mod figures;
+>>>>>>> hA
 mod laws;
 mod others;
 mod parts;
@@ -18,7 +24,11 @@ mod refusing;
 mod scope;
 mod servicing;
 mod state;
+<<<<<<< HEAD
 mod verdict;
+=======
+mod taking_on;
+>>>>>>> hA
 
 pub use laws::replies_are_known;
 pub use fault::CoreFault;

@@ -1,0 +1,152 @@
+//! Commands that may change what is due of a loan for closed months: an entry, and a reversal. What they change is
+//! recorded for the investor.
+
+ghost use Rattle.std.specs.Prelude.{◌≡◌, ◌+◌, ◌≤◌, true, is_some, Some, None, length, vec_capacity};
+ghost use Rattle.std.specs.List.{All};
+ghost use Rattle.svc_base.specs.Calendar.{month_of as month_number};
+ghost use Rattle.period_adjust.specs.Changes.{adjustments_of};
+ghost use Rattle.period_adjust.specs.Conditions.{MayChange};
+ghost use Rattle.period_adjust.specs.Totals as totals;
+ghost use Rattle.period_adjust.specs.Totals.{Change};
+ghost use Rattle.svc_types.specs.declared.requests.Command.TheVariants as request;
+ghost use Rattle.svc_spec.specs.Accounts.{entry_of};
+ghost use Rattle.svc_world.specs.Held as held;
+ghost use Rattle.svc_world.specs.Refusals.{refusal_of};
+ghost use Rattle.svc_world.specs.World.{after};
+ghost use Rattle.svc_loan.specs.Kept.{IsReady};
+ghost use Rattle.svc_loan.specs.Loans.{OfLoan, find_kept};
+ghost use Rattle.svc_core.specs.Cash.{IsKeptIn};
+ghost use Rattle.svc_core.specs.Changing.{MayEnter, dues_since, world_with};
+ghost use Rattle.svc_core.specs.Costs.{accepting_cost, entering_cost};
+ghost use Rattle.svc_core.specs.State.{IsState, world_of};
+
+use crate::state::State;
+use period_adjust::Seals;
+use remit_types::MonthDue;
+use std::sync::ledger::Ledger;
+use svc_base::{Month, Steps, month_of};
+use svc_loan::{Loan, Loans};
+use svc_replay::LoanBooks;
+use svc_types::Entry;
+
+/// Adds an entry to a loan as the command after `count` others, and records what it changes in the dues
+/// of closed months.
+pub(crate) fn enter<B: LoanBooks, L: Ledger>(
+    count: u32,
+    id: u32,
+    entry: &Entry,
+    state: &mut State<B>,
+    dues: &mut Vec<MonthDue>,
+    steps: &mut Steps<L>,
+)
+    requires state { IsState count state.old.today state.old.loans state.old.seals }
+    requires entry { MayEnter count (world_of state.old.today state.old.loans state.old.seals) id entry.now }
+    requires ready { OfLoan id state.old.loans.loans (IsReady state.old.today) }
+    requires dues { length state.old.seals.reporting.reports ≤ vec_capacity dues.old }
+    requires adjustments { length state.old.seals.reporting.reports ≤ state.old.seals.adjustment_room }
+    ensures world { world_of state.new.today state.new.loans state.new.seals
+        ≡ world_with (world_of state.old.today state.old.loans state.old.seals) id (held.with_entry entry.now)
+        (count + 1) }
+    ensures kept { All (IsKeptIn (world_of state.new.today state.new.loans state.new.seals))
+        state.new.loans.loans }
+    ensures steps { steps.new ≤ steps.old + entering_cost B.cost B.month_cost
+        (world_of state.new.today state.new.loans state.new.seals) id (month_number entry.now.day) }
+{
+    let month = month_of(entry.day);
+    copy_dues(&state.loans, id, month, dues);
+    state.loans.post(id, entry, steps);
+    record_dues(count + 1, id, month, dues, &state.loans, &mut state.seals);
+}
+
+/// Reverses an entry of a loan as the command after `count` others, and records what it changes in the dues of
+/// closed months.
+pub(crate) fn reverse<B: LoanBooks, L: Ledger>(
+    count: u32,
+    id: u32,
+    number: u32,
+    state: &mut State<B>,
+    dues: &mut Vec<MonthDue>,
+    steps: &mut Steps<L>,
+)
+    requires state { IsState count state.old.today state.old.loans state.old.seals }
+    requires fresh { refusal_of count (world_of state.old.today state.old.loans state.old.seals)
+        (request.Reverse id number) ≡ None }
+    requires ready { OfLoan id state.old.loans.loans (IsReady state.old.today) }
+    requires dues { length state.old.seals.reporting.reports ≤ vec_capacity dues.old }
+    requires adjustments { length state.old.seals.reporting.reports ≤ state.old.seals.adjustment_room }
+    ensures world { world_of state.new.today state.new.loans state.new.seals
+        ≡ after (count + 1) (world_of state.old.today state.old.loans state.old.seals)
+        (request.Reverse id number) }
+    ensures kept { All (IsKeptIn (world_of state.new.today state.new.loans state.new.seals))
+        state.new.loans.loans }
+    ensures steps { steps.new ≤ steps.old + accepting_cost B.cost B.month_cost
+        (world_of state.old.today state.old.loans state.old.seals)
+        (world_of state.new.today state.new.loans state.new.seals) (request.Reverse id number) }
+{
+    let entry = entry_there(&state.loans, id, number);
+    let month = month_of(entry.day);
+    copy_dues(&state.loans, id, month, dues);
+    state.loans.reverse(id, &entry, count + 1, steps);
+    record_dues(count + 1, id, month, dues, &state.loans, &mut state.seals);
+}
+
+/// The entry of a loan with that number, which is there.
+fn entry_there<B: LoanBooks>(loans: &Loans<B>, id: u32, number: u32) -> Entry
+    requires { OfLoan id loans.now.loans (λ k. is_some (entry_of k.held.account number) ≡ true) }
+    ensures { OfLoan id loans.now.loans (λ k. entry_of k.held.account number ≡ Some result) }
+{
+    match loan_there(loans, id).entry(number) {
+        Some(entry) => entry,
+        None => unreachable!(),
+    }
+}
+
+/// Copies what is due of a loan for its closed months from one on.
+fn copy_dues<B: LoanBooks>(loans: &Loans<B>, id: u32, month: Month, dues: &mut Vec<MonthDue>)
+    requires since { OfLoan id loans.now.loans (λ k. held.boarded_month k.held ≤ month) }
+    requires room { OfLoan id loans.now.loans (λ k. length (dues_since month k) ≤ vec_capacity dues.old) }
+    ensures { OfLoan id loans.now.loans (λ k. dues.new.items ≡ dues_since month k) }
+{
+    let loan = loan_there(loans, id);
+    dues.clear();
+    match dues.extend_from_slice(loan.dues_from(month)) {
+        Ok(()) => {}
+        Err(_) => unreachable!(),
+    }
+}
+
+/// Records what a command changed in what is due of a loan for its closed months from one on.
+fn record_dues<B: LoanBooks>(
+    number: u32,
+    id: u32,
+    month: Month,
+    before: &[MonthDue],
+    loans: &Loans<B>,
+    seals: &mut Seals,
+)
+    requires since { OfLoan id loans.now.loans (λ k. held.boarded_month k.held ≤ month) }
+    requires change { OfLoan id loans.now.loans
+        (λ k. MayChange seals.old.reporting number id before.now (dues_since month k)) }
+    requires room { OfLoan id loans.now.loans
+        (λ k. length (adjustments_of number id before.now (dues_since month k)) ≤ seals.old.adjustment_room) }
+    ensures done { OfLoan id loans.now.loans (λ k. seals.new.reporting
+        ≡ totals.after seals.old.reporting (Change number id before.now (dues_since month k))) }
+    ensures remitted { seals.new.remitted ≡ seals.old.remitted }
+{
+    let loan = loan_there(loans, id);
+    match seals.record_change(number, id, before, loan.dues_from(month)) {
+        Ok(()) => {}
+        Err(_) => unreachable!(),
+    }
+}
+
+/// The loan with that number, which is there.
+pub(crate) fn loan_there<B: LoanBooks>(loans: &Loans<B>, id: u32) -> &Loan<B>
+    requires { is_some (find_kept id loans.now.loans) ≡ true }
+    ensures { find_kept id loans.now.loans ≡ Some result.now }
+{
+    match loans.get(id) {
+        Some(loan) => loan,
+        None => unreachable!(),
+    }
+}
