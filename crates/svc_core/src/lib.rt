@@ -5,6 +5,7 @@ mod analysing;
 mod boarding;
 mod cash;
 mod closing;
+mod everyone;
 mod laws;
 mod others;
 mod posted;
