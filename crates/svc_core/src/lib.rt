@@ -10,6 +10,7 @@ mod laws;
 mod others;
 mod posted;
 mod refusals;
+mod reporting;
 mod scope;
 mod state;
 
