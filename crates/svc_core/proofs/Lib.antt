@@ -4,3 +4,4 @@ pub mod RuleLemmas
 pub mod AnalysingLemmas
 pub mod EveryoneLemmas
 pub mod ReportedLemmas
+pub mod SentLemmas

@@ -2,6 +2,7 @@
 use Rattle.std.specs.Prelude.{ℕ, ◌+◌, ◌<◌, ◌≤◌, ◌==◌, List, length, ℤ, pos, neg_ℤ, ◌+ℤ◌, ◌≤ℤ◌, if◌then◌else◌}
 use Rattle.std.specs.List.{All, AllPairs}
 use Rattle.period_adjust.specs.declared.report_line.ReportLine.{ReportLine}
+use Rattle.svc_base.specs.Sums.{total_by}
 use Rattle.svc_world.specs.Held.{boarded_month}
 use Rattle.svc_world.specs.Custody.{sent_of_line}
 use Rattle.svc_loan.specs.Kept.{KeptLoan}
@@ -36,3 +37,12 @@ pub record AreSent (lines : List ReportLine) : Type 0 where
 -- what a line sends for a loan
 abbrev pub sent_to : ℕ → ReportLine → ℤ
 sent_to id l = if l.loan == id then sent_of_line l else pos 0
+
+-- what was remitted for a loan after some lines were
+abbrev pub remitted_with : List ReportLine → KeptLoan → ℤ
+remitted_with lines k = k.remitted +ℤ total_by (sent_to k.held.id) lines
+
+-- what was remitted for a loan before: from 0 to 10^14 cents
+pub record IsSmallRemitted (k : KeptLoan) : Type 0 where
+  pub low : pos 0 ≤ℤ k.remitted
+  pub high : k.remitted ≤ℤ pos 100_000_000_000_000

@@ -12,6 +12,7 @@ mod posted;
 mod refusals;
 mod reporting;
 mod scope;
+mod sent;
 mod state;
 
 pub use laws::replies_are_known;
