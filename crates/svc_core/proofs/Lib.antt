@@ -5,3 +5,5 @@ pub mod AnalysingLemmas
 pub mod EveryoneLemmas
 pub mod ReportedLemmas
 pub mod SentLemmas
+pub mod RemittingLemmas
+pub mod SentWorlds

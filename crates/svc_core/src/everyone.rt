@@ -1,20 +1,25 @@
 //! Commands on all loans: a business day, a month that is closed, and one that is remitted.
 
-ghost use Rattle.std.specs.Prelude.{◌≡◌, ◌+◌, ◌≤◌, None};
+ghost use Rattle.std.specs.Prelude.{◌≡◌, ◌+◌, ◌≤◌, Some, None};
 ghost use Rattle.std.specs.List.{All};
 ghost use Rattle.svc_types.specs.declared.requests.Command.TheVariants as command;
+ghost use Rattle.period_adjust.specs.Kept.{remit_fault};
 ghost use Rattle.svc_world.specs.World.{after};
 ghost use Rattle.svc_world.specs.Refusals.{refusal_of};
+ghost use Rattle.svc_world.specs.Judging.{extra_of};
 ghost use Rattle.svc_loan.specs.Kept.{IsReady};
 ghost use Rattle.svc_loan.specs.Loans.{held_in};
 ghost use Rattle.svc_core.specs.Cash.{IsKeptIn};
 ghost use Rattle.svc_core.specs.Costs as cost;
 ghost use Rattle.svc_core.specs.State.{world_of, IsState};
 
+use crate::sent::{remit_lines, remitted_extra, report_of};
 use crate::state::State;
+use period_adjust::Seals;
 use std::sync::ledger::Ledger;
-use svc_base::{Day, Steps};
+use svc_base::{Day, Month, Steps};
 use svc_replay::LoanBooks;
+use svc_types::Extra;
 
 /// Moves the business day of all loans on. It takes no memory and cannot fail.
 fn change_day<B: LoanBooks, L: Ledger>(
@@ -36,4 +41,35 @@ fn change_day<B: LoanBooks, L: Ledger>(
 {
     state.loans.advance(day, steps);
     state.today = day;
+}
+
+/// Remits a month, of which nothing is wrong, and adds what its report sends to what was remitted for each
+/// loan. It takes no memory and cannot fail.
+fn change_remit<B: LoanBooks>(count: u32, month: Month, state: &mut State<B>) -> Extra
+    requires state { IsState count state.old.today state.old.loans state.old.seals }
+    requires fresh { refusal_of count (world_of state.old.today state.old.loans state.old.seals)
+        (command.Remit month) ≡ None }
+    ensures world { world_of state.new.today state.new.loans state.new.seals
+        ≡ after (count + 1) (world_of state.old.today state.old.loans state.old.seals) (command.Remit month) }
+    ensures kept { All (IsKeptIn (world_of state.new.today state.new.loans state.new.seals))
+        state.new.loans.loans }
+    ensures extra { result ≡ extra_of (world_of state.old.today state.old.loans state.old.seals)
+        (after (count + 1) (world_of state.old.today state.old.loans state.old.seals) (command.Remit month))
+        (command.Remit month) }
+{
+    remit_month(&mut state.seals, month);
+    let report = report_of(&state.seals, month);
+    remit_lines(&mut state.loans, report.lines());
+    remitted_extra(report)
+}
+
+/// Remits a month of which nothing is wrong.
+fn remit_month(seals: &mut Seals, month: Month)
+    requires { remit_fault seals.old.reporting.reports seals.old.remitted month ≡ None }
+    ensures { seals.new ≡ record seals.old { remitted = Some month } }
+{
+    match seals.remit(month) {
+        Ok(()) => {}
+        Err(_) => unreachable!(),
+    }
 }
