@@ -2,7 +2,7 @@
 use Rattle.std.proofs.Common.{◌≡◌, ℕ, suc, ◌+◌, ◌≤◌, ◌<◌, Bool, true, false, not, cond, List, [], ◌∷◌, ◌++◌, map, length, take, get_or, max, ℤ, pos, ◌+ℤ◌, arith, refl, sym, ap, subst, ◌∙◌}
 use Rattle.std.specs.Prelude.{◌==◌, nat_le, nat_lt, is_some, Option, Some, None, if◌then◌else◌}
 use Rattle.std.specs.List.{All, AllPairs, filter}
-use Rattle.std.specs.Option.{option_map}
+use Rattle.std.specs.Option.{option_map, option_map_or}
 use Rattle.std.proofs.lemmas.Int.{ints}
 use Rattle.std.proofs.lemmas.Bool.Decides.{nat_tests}
 use Rattle.std.proofs.lemmas.List.{take_more}
@@ -210,3 +210,72 @@ remitting n p w h e =
     early : (o : Option ℕ) → is_closed_by o p ≡ true → is_after p o ≡ false
     early None e = absurd (cc)
     early (Some last) e = grind (arith, nat_tests)
+
+-- ---- what remitting it leaves
+
+abbrev pub with_remitted : State → ℕ → State
+with_remitted seals p = record seals { remitted = Some p }
+
+-- what is asked of the report's lines and of the loans
+pub record IsSending (loans : KeptLoans) (r : Sealed) : Type 0 where
+  pub sent : AreSent r.lines
+  pub there : All (λ (l : ReportLine). is_some (find_kept l.loan loans.loans) ≡ true) r.lines
+  pub small : All IsSmallRemitted loans.loans
+
+kept_there : (ks : List KeptLoan) (l : ReportLine) → is_there (held_in ks) l → is_some (find_kept l.loan ks) ≡ true
+kept_there ks l h = sym (some-mapped (λ (k : KeptLoan). k.held) (find_kept l.loan ks)) ∙ sym (ap is_some (find-held ks l.loan)) ∙ h
+
+pub remit_found : (p : ℕ) (seals later : State) (r : Sealed) → later ≡ with_remitted seals p → report_for p later.reporting.reports ≡ Some r → report_for p seals.reporting.reports ≡ Some r
+remit_found p seals later r is found = sym (ap (λ (s : State). report_for p s.reporting.reports) is) ∙ found
+
+pub remit_sending : (n p today : ℕ) (loans : KeptLoans) (seals : State) (r : Sealed) → IsState n today loans seals → report_for p seals.reporting.reports ≡ Some r → IsSending loans r
+remit_sending n p today loans seals r h found =
+    let w = world_of today loans seals in
+    record {
+      sent = found_sent n p w r h.world found;
+      there = found_among (λ (x : Sealed). All (λ (l : ReportLine). is_some (find_kept l.loan loans.loans) ≡ true) x.lines) p seals.reporting.reports r found (λ j x lt.
+          λ i d in'. kept_there loans.loans (get_or (get_or seals.reporting.reports j x).lines i d) (listed_there w.loans (get_or seals.reporting.reports j x).month (get_or seals.reporting.reports j x).lines (h.world.reports.listed j x lt) i d in'));
+      small = λ i d lt.
+          let k = get_or loans.loans i d in
+          let is = (h.kept i d lt).remitted in
+          let within = remitted_within w k.held.id h.world.reports in
+          let low = within.low in
+          let high = within.high in
+          record { low = omega (arith, ints, is, low); high = omega (arith, ints, is, high) };
+    }
+
+pub remit_world : (n p today : ℕ) (loans later : KeptLoans) (seals sealed : State) → IsState n today loans seals → sealed ≡ with_remitted seals p → held_in later.loans ≡ held_in loans.loans → world_of today later sealed ≡ after (n + 1) (world_of today loans seals) (command.Remit p)
+unfolding after loans_after seals_after
+remit_world n p today loans later seals sealed h is held =
+    let w = world_of today loans seals in
+    let with : List Held → Reporting → World = λ ls s. record { today = today; loans = ls; seals = s; remitted = Some p } in
+    let none = none_pending seals.reporting (changes_of (n + 1) (months_of seals.reporting.reports) w.loans w.loans) (kept_none n w h.world) in
+    ap (λ (s : State). world_of today later s) is ∙ ap (λ ls. with ls seals.reporting) held ∙ ap (with w.loans) (sym none)
+
+-- what was remitted for each loan
+remitted_more : (n p id : ℕ) (w : World) (r : Sealed) → IsWorld n w → IsRemitting w p → report_for p w.seals.reports ≡ Some r → total_by (sent_for id) (remitted_reports (Some p) w.seals.reports) ≡ total_by (sent_for id) (remitted_reports w.remitted w.seals.reports) +ℤ sent_for id r
+remitted_more n p id w r h may found =
+    let rs = w.seals.reports in
+    let there = ap (λ q. report_for q rs) (sym may.next) ∙ found in
+    ap (λ q. total_by (sent_for id) (remitted_reports (Some q) rs)) may.next
+    ∙ ap (total_by (sent_for id)) (remitted_next w.remitted rs r h.reports.sealed.consecutive there)
+    ∙ total_by-push (sent_for id) (remitted_reports w.remitted rs) r
+
+pub remit_kept : (n p today : ℕ) (loans later : KeptLoans) (seals sealed : State) (r : Sealed) → IsState n today loans seals → IsRemitting (world_of today loans seals) p → report_for p seals.reporting.reports ≡ Some r → sealed ≡ with_remitted seals p → held_in later.loans ≡ held_in loans.loans → closed_in later.loans ≡ closed_in loans.loans → remitted_in later.loans ≡ map (remitted_with r.lines) loans.loans → All (IsKeptIn (world_of today later sealed)) later.loans
+unfolding remitted_for
+remit_kept n p today loans later seals sealed r h may found is held closed remitted =
+    let w = world_of today loans seals in
+    let done = world_of today later (with_remitted seals p) in
+    let kept = kept_by done (λ (k : KeptLoan). k.held) (λ (k : KeptLoan). k.closed) (remitted_with r.lines) loans.loans later.loans held closed remitted (λ i d lt.
+        let k = get_or loans.loans i d in
+        let before = h.kept i d lt in
+        record {
+          sent = ap (λ z. z +ℤ sent_for k.held.id r) before.remitted ∙ sym (remitted_more n p k.held.id w r h.world may found);
+          months = before.closed;
+        })
+    in
+    subst (λ (s : State). All (IsKeptIn (world_of today later s)) later.loans) (sym is) kept
+
+pub remit_extra : (n p : ℕ) (w : World) (r : Sealed) → report_for p w.seals.reports ≡ Some r → Remitted (net_of r) ≡ extra_of w (after (n + 1) w (command.Remit p)) (command.Remit p)
+unfolding after seals_after
+remit_extra n p w r found = sym (ap (λ (o : Option Sealed). option_map_or (λ (x : Sealed). Remitted (net_of x)) o Plain) found)
