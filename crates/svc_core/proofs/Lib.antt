@@ -7,3 +7,4 @@ pub mod ReportedLemmas
 pub mod SentLemmas
 pub mod RemittingLemmas
 pub mod SentWorlds
+pub mod ClosingWorlds
