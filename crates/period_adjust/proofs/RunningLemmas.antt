@@ -1,13 +1,15 @@
 -- Running sums of each loan: where a loan's stand, and what one more adjustment does.
-use Rattle.std.proofs.Common.{◌≡◌, ◌≢◌, ℕ, zero, suc, ◌<◌, ◌≤◌, true, false, List, [], ◌∷◌, ◌++◌, length, take, drop, get_or, set, ltb, ℤ, pos, ◌+ℤ◌, refl, arith, ap, sym, ◌∙◌, subst, inl, inr}
-use Rattle.std.specs.Prelude.{◌==◌, if◌then◌else◌, FitsSigned}
+use Rattle.std.proofs.Common.{◌≡◌, ◌≢◌, ℕ, zero, suc, ◌<◌, ◌≤◌, Bool, true, false, List, [], ◌∷◌, ◌++◌, length, take, drop, get_or, set, ltb, ℤ, pos, ◌+ℤ◌, refl, arith, ap, sym, ◌∙◌, subst, inl, inr}
+use Rattle.std.specs.Prelude.{◌==◌, ◌||◌, if◌then◌else◌, FitsSigned, Result, Ok, Err, MatchResult}
+use Rattle.std.specs.Result.{is_ok}
 use Rattle.std.specs.Int.{w64}
-use Rattle.std.specs.List.{All, AllWithin, insert}
+use Rattle.std.specs.List.{All, AllWithin, insert, list_any}
 use Rattle.std.specs.List.Sorted.{IsPartitionPoint, IsNonDecreasingBy, IsPartitionedBy}
 use Rattle.std.proofs.lemmas.Int.{ints}
 use Rattle.std.proofs.lemmas.Bool.{cases_lt}
 use Rattle.std.proofs.lemmas.Bool.Decides.{nat_tests}
 use Rattle.std.proofs.lemmas.List.{get_or_default, take_all, take-append-drop, take-append-le}
+use Rattle.std.proofs.lemmas.List.Folds.{list_any-append, list_any_none, list_any_at}
 use Rattle.std.proofs.Math.Seq.{take-append_seam}
 use Rattle.std.proofs.lemmas.List.Sorted.{IsPartitionedBy-ltb}
 use Rattle.svc_base.specs.Sums.{total_by}
@@ -15,7 +17,7 @@ use Rattle.svc_base.proofs.SumLemmas.{total_by-zero, total_by-insert, total_by-p
 use Rattle.period_adjust.specs.declared.adjustment.Adjustment.{Adjustment}
 use Rattle.period_adjust.specs.declared.loan_sums.LoanSums.{LoanSums}
 use Rattle.period_adjust.specs.Sums.{DuePart, Interest, Principal, part_of_adjustment, share}
-use Rattle.period_adjust.specs.Pending.{part_of_running, running, IsRisingByLoan, AreRunning, SumsFit}
+use Rattle.period_adjust.specs.Pending.{part_of_running, running, is_of, is_kept_of, IsRisingByLoan, AreRunning, SumsFit}
 use Rattle.period_adjust.specs.Places.{IsPlaceOf, IsPlaceFor, IsSumWith}
 use Rattle.svc_types.proofs.OrderLemmas.{pairs_head, pairs_tail}
 
@@ -173,12 +175,76 @@ push_fits xs a ss p are fit =
     let more : total_by (share p a.loan) (xs ++ a ∷ []) ≡ total_by (running p a.loan) ss +ℤ part_of_adjustment p a = omega (arith, ints, total_by-push (share p a.loan) xs a, are.exact p a.loan, own_share p a) in
     subst (λ (z : ℤ). FitsSigned w64 z) more fits
 
+-- Of which loans sums are kept.
+
+pub kept-found : (ss : List LoanSums) (loan i : ℕ) (d : LoanSums) → i < length ss → (get_or ss i d).loan ≡ loan → list_any (is_kept_of loan) ss ≡ true
+kept-found ss loan i d in' is = list_any_at (is_kept_of loan) ss i d in' (grind (arith, nat_tests))
+
+pub kept-absent : (ss : List LoanSums) (loan i : ℕ) → IsPlaceFor ss loan i → list_any (is_kept_of loan) ss ≡ false
+kept-absent ss loan i h =
+    list_any_none (is_kept_of loan) ss (λ k d l.
+    elim (cases_lt k i) as (λ _. ((get_or ss k d).loan == loan) ≡ false) [
+      | inl less ↦ let below : (get_or ss k d).loan < loan = h.below k d (omega arith) less in grind (arith, nat_tests)
+      | inr more ↦ let above : loan < (get_or ss k d).loan = h.above k d more l in grind (arith, nat_tests)
+    ])
+
+-- what a look-up of a loan's place says of it
+pub kept-looked-up : (ss : List LoanSums) (loan : ℕ) (r : Result ℕ ℕ) → MatchResult r (IsPlaceOf ss loan) (IsPlaceFor ss loan) → is_ok r ≡ list_any (is_kept_of loan) ss
+kept-looked-up ss loan (Ok i) h = sym (kept-found ss loan i (zero_sums loan) h.bound (h.own (zero_sums loan)))
+kept-looked-up ss loan (Err i) h = sym (kept-absent ss loan i h)
+
+-- where sums of the loan are kept already
+pub kept-there : (ss : List LoanSums) (loan i : ℕ) (d : LoanSums) (other : ℕ) → i < length ss → (get_or ss i d).loan ≡ loan → list_any (is_kept_of other) ss ≡ (list_any (is_kept_of other) ss || (loan == other))
+kept-there ss loan i d other in' is =
+    elim (loan == other) as (λ v. (loan == other) ≡ v → list_any (is_kept_of other) ss ≡ (list_any (is_kept_of other) ss || v)) [
+      | true ↦ λ same.
+          let here : loan ≡ other = grind (arith, nat_tests) in
+          let there : list_any (is_kept_of other) ss ≡ true = kept-found ss other i d in' (is ∙ here) in
+          rw there refl
+      | false ↦ λ apart. or_false (list_any (is_kept_of other) ss)
+    ] refl
+  where
+    or_false : (b : Bool) → b ≡ (b || false)
+    or_false true = refl
+    or_false false = refl
+
+pub kept-insert : (other loan : ℕ) (ss : List LoanSums) (i : ℕ) → list_any (is_kept_of other) (insert ss i (zero_sums loan)) ≡ (list_any (is_kept_of other) ss || (loan == other))
+kept-insert other loan ss i =
+    let whole = sym (list_any-append (is_kept_of other) (take i ss) (drop i ss)) ∙ ap (list_any (is_kept_of other)) (take-append-drop i ss) in
+    list_any-append (is_kept_of other) (take i ss) (zero_sums loan ∷ drop i ss)
+    ∙ among (list_any (is_kept_of other) (take i ss)) (loan == other) (list_any (is_kept_of other) (drop i ss))
+    ∙ ap (λ b. b || (loan == other)) whole
+  where
+    among : (a b c : Bool) → (a || (b || c)) ≡ ((a || c) || b)
+    among true true c = elim c as (λ v. (true || (true || v)) ≡ ((true || v) || true)) [ true ↦ refl | false ↦ refl ]
+    among true false c = elim c as (λ v. (true || (false || v)) ≡ ((true || v) || false)) [ true ↦ refl | false ↦ refl ]
+    among false true c = elim c as (λ v. (false || (true || v)) ≡ ((false || v) || true)) [ true ↦ refl | false ↦ refl ]
+    among false false c = elim c as (λ v. (false || (false || v)) ≡ ((false || v) || false)) [ true ↦ refl | false ↦ refl ]
+
+kept-same : (other : ℕ) (ss : List LoanSums) (i : ℕ) (d y : LoanSums) → y.loan ≡ (get_or ss i d).loan → list_any (is_kept_of other) (set ss i y) ≡ list_any (is_kept_of other) ss
+kept-same other [] i d y is = refl
+kept-same other (s ∷ ss) zero d y is = ap (λ n. (n == other) || list_any (is_kept_of other) ss) is
+kept-same other (s ∷ ss) (suc i) d y is = ap (λ b. (s.loan == other) || b) (kept-same other ss i d y is)
+
+pub kept-set : (other : ℕ) (a : Adjustment) (ss : List LoanSums) (i : ℕ) (d y : LoanSums) → IsSumWith (get_or ss i d) a y → list_any (is_kept_of other) (set ss i y) ≡ list_any (is_kept_of other) ss
+kept-set other a ss i d y sum = kept-same other ss i d y sum.own
+
 -- the sums with it are those of the adjustments with it
-pub push_running : (xs : List Adjustment) (a : Adjustment) (ss ts : List LoanSums) → AreRunning xs ss → IsRisingByLoan ts → ((p : DuePart) (loan : ℕ) → total_by (running p loan) ts ≡ total_by (running p loan) ss +ℤ share p loan a) → AreRunning (xs ++ a ∷ []) ts
-push_running xs a ss ts are up adds = record {
+pub push_running : (xs : List Adjustment) (a : Adjustment) (ss ts : List LoanSums) → AreRunning xs ss → IsRisingByLoan ts → ((p : DuePart) (loan : ℕ) → total_by (running p loan) ts ≡ total_by (running p loan) ss +ℤ share p loan a) → ((loan : ℕ) → list_any (is_kept_of loan) ts ≡ (list_any (is_kept_of loan) ss || (a.loan == loan))) → AreRunning (xs ++ a ∷ []) ts
+push_running xs a ss ts are up adds there = record {
   rising = up;
   exact = λ p loan. omega (arith, ints, total_by-push (share p loan) xs a, are.exact p loan, adds p loan);
+  there = λ loan.
+      there loan ∙ ap (λ b. b || (a.loan == loan)) (are.there loan)
+      ∙ last (list_any (is_of loan) xs) (a.loan == loan)
+      ∙ sym (list_any-append (is_of loan) xs (a ∷ []));
 }
+  where
+    last : (b c : Bool) → (b || c) ≡ (b || (c || false))
+    last true true = refl
+    last true false = refl
+    last false true = refl
+    last false false = refl
 
 -- sums of the first adjustments alone
 pub fits_front : (xs ys : List Adjustment) → SumsFit (xs ++ ys) → SumsFit xs

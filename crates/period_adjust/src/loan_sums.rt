@@ -1,11 +1,12 @@
 //! Running sums of each loan's adjustments.
 
-ghost use Rattle.std.specs.Prelude.{◌≡◌, ◌+◌, ◌-◌, ◌<◌, ◌≤◌, ℕ, ◌+ℤ◌, pos, FitsSigned};
+ghost use Rattle.std.specs.Prelude.{◌≡◌, ◌+◌, ◌-◌, ◌<◌, ◌≤◌, ◌==◌, ◌||◌, ℕ, ◌+ℤ◌, pos, FitsSigned};
 ghost use Rattle.std.specs.Prelude.{MatchResult, vec_len, vec_capacity};
 ghost use Rattle.std.specs.Int.{w64};
+ghost use Rattle.std.specs.List.{list_any};
 ghost use Rattle.svc_base.specs.Sums.{total_by};
 ghost use Rattle.period_adjust.specs.Sums.{DuePart, Interest, Principal, part_of_adjustment, share};
-ghost use Rattle.period_adjust.specs.Pending.{IsRisingByLoan, running};
+ghost use Rattle.period_adjust.specs.Pending.{IsRisingByLoan, is_kept_of, running};
 ghost use Rattle.period_adjust.specs.Places.{IsPlaceOf, IsPlaceFor, IsSumWith};
 
 use crate::adjustment::Adjustment;
@@ -31,6 +32,14 @@ pub(crate) fn sums_of(sums: &[LoanSums], loan: u32) -> LoanSums
     }
 }
 
+/// Whether sums are kept of a loan.
+pub(crate) fn has_sums(sums: &[LoanSums], loan: u32) -> bool
+    requires { IsRisingByLoan sums.now }
+    ensures { result ≡ list_any (is_kept_of loan) sums.now }
+{
+    find(sums, loan).is_ok()
+}
+
 /// Adds an adjustment to its loan's sums.
 pub(crate) fn add(sums: &mut Vec<LoanSums>, adjustment: &Adjustment)
     requires rising { IsRisingByLoan sums.old.items }
@@ -41,6 +50,8 @@ pub(crate) fn add(sums: &mut Vec<LoanSums>, adjustment: &Adjustment)
     ensures rising { IsRisingByLoan sums.new.items }
     ensures total { (part : DuePart) (loan : ℕ) → total_by (running part loan) sums.new.items ≡
         total_by (running part loan) sums.old.items +ℤ share part loan adjustment.now }
+    ensures there { (loan : ℕ) → list_any (is_kept_of loan) sums.new.items ≡
+        (list_any (is_kept_of loan) sums.old.items || (adjustment.now.loan == loan)) }
     ensures room { vec_capacity sums.old - vec_len sums.old ≤ vec_capacity sums.new - vec_len sums.new + 1 }
 {
     let place = place_of(sums, adjustment.loan);
@@ -55,6 +66,8 @@ fn place_of(sums: &mut Vec<LoanSums>, loan: u32) -> usize
     ensures rising { IsRisingByLoan sums.new.items }
     ensures total { (part : DuePart) (other : ℕ) →
         total_by (running part other) sums.new.items ≡ total_by (running part other) sums.old.items }
+    ensures there { (other : ℕ) → list_any (is_kept_of other) sums.new.items ≡
+        (list_any (is_kept_of other) sums.old.items || (loan == other)) }
     ensures room { vec_capacity sums.old - vec_len sums.old ≤ vec_capacity sums.new - vec_len sums.new + 1 }
 {
     match find(sums, loan) {
@@ -75,6 +88,8 @@ fn insert_nothing(sums: &mut Vec<LoanSums>, place: usize, loan: u32)
     ensures rising { IsRisingByLoan sums.new.items }
     ensures total { (part : DuePart) (other : ℕ) →
         total_by (running part other) sums.new.items ≡ total_by (running part other) sums.old.items }
+    ensures there { (other : ℕ) → list_any (is_kept_of other) sums.new.items ≡
+        (list_any (is_kept_of other) sums.old.items || (loan == other)) }
     ensures room { vec_capacity sums.old - vec_len sums.old ≤ vec_capacity sums.new - vec_len sums.new + 1 }
 {
     sums.insert(place, nothing(loan)).unwrap();
@@ -90,6 +105,7 @@ fn add_at(sums: &mut [LoanSums], place: usize, adjustment: &Adjustment)
     ensures rising { IsRisingByLoan sums.new }
     ensures total { (part : DuePart) (loan : ℕ) → total_by (running part loan) sums.new ≡
         total_by (running part loan) sums.old +ℤ share part loan adjustment.now }
+    ensures there { (loan : ℕ) → list_any (is_kept_of loan) sums.new ≡ list_any (is_kept_of loan) sums.old }
 {
     sums[place] = with_adjustment(sums[place], adjustment);
 }

@@ -1,12 +1,13 @@
 //! The adjustments that no report has sent.
 
 ghost use Rattle.std.specs.Prelude.{◌≡◌, ◌+◌, ◌≤◌, [], ◌∷◌, ◌++◌, OnOk, IsOk};
+ghost use Rattle.std.specs.List.{list_any};
 ghost use Rattle.svc_base.specs.Sums.{total_by};
 ghost use Rattle.period_adjust.specs.Sums.{Interest, Principal, share};
-ghost use Rattle.period_adjust.specs.Pending.{SumsFit};
+ghost use Rattle.period_adjust.specs.Pending.{SumsFit, is_of};
 
 use crate::adjustment::Adjustment;
-use crate::loan_sums::{LoanSums, add, sums_of};
+use crate::loan_sums::{LoanSums, add, has_sums, sums_of};
 use std::alloc::Global;
 use std::marker::Model;
 use std::mem;
@@ -59,6 +60,13 @@ impl Pending {
         ensures principal { result.principal ≡ total_by (share Principal loan) self.now.adjustments }
     {
         sums_of(self.sums.as_slice(), loan)
+    }
+
+    /// Whether an adjustment of a loan is among them.
+    pub(crate) fn has(&self, loan: u32) -> bool
+        ensures { result ≡ list_any (is_of loan) self.now.adjustments }
+    {
+        has_sums(self.sums.as_slice(), loan)
     }
 
     /// Makes room for so many more; fails for want of memory alone.

@@ -2,8 +2,10 @@
 
 ghost use Rattle.std.specs.Prelude.{◌≡◌, ◌≢◌, ◌+◌, ◌<◌, ◌≤◌, [], Some, None, Ok, Err, length};
 ghost use Rattle.std.specs.Prelude.{OnOk, OnErr, IfErr, IfSome, IsOk};
+ghost use Rattle.std.specs.List.{list_any};
 ghost use Rattle.svc_base.specs.Calendar as calendar;
 ghost use Rattle.period_adjust.specs.Sealed.{reporting};
+ghost use Rattle.period_adjust.specs.Pending.{is_of};
 ghost use Rattle.period_adjust.specs.Changes.{adjustments_of};
 ghost use Rattle.period_adjust.specs.Totals as totals;
 ghost use Rattle.period_adjust.specs.Totals.{Change, Close};
@@ -107,6 +109,13 @@ impl Seals {
         ensures { result.now ≡ self.now.reporting.pending }
     {
         self.pending.slice()
+    }
+
+    /// Whether an adjustment of a loan is pending: one binary search.
+    pub fn is_pending(&self, loan: u32) -> bool
+        ensures { result ≡ list_any (is_of loan) self.now.reporting.pending }
+    {
+        self.pending.has(loan)
     }
 
     /// How many adjustments there are, sent or pending.

@@ -3,6 +3,7 @@ pub mod CashLemmas
 pub mod RuleLemmas
 pub mod AnalysingLemmas
 <<<<<<< HEAD
+<<<<<<< HEAD
 pub mod CoreLemmas
 pub mod PartsLemmas
 pub mod BoundLemmas
@@ -17,3 +18,11 @@ pub mod QuietLemmas
 pub mod AnalysedLemmas
 pub mod TakingOnLemmas
 >>>>>>> hA
+=======
+pub mod EveryoneLemmas
+pub mod ReportedLemmas
+pub mod SentLemmas
+pub mod RemittingLemmas
+pub mod SentWorlds
+pub mod ClosingWorlds
+>>>>>>> hB

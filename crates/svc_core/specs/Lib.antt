@@ -6,9 +6,13 @@ pub mod Ready
 pub mod Costs
 pub mod Rows
 <<<<<<< HEAD
+<<<<<<< HEAD
 pub mod Rules
 pub mod Core
 pub mod Bound
 =======
 pub mod Changing
 >>>>>>> hA
+=======
+pub mod Reported
+>>>>>>> hB

@@ -9,20 +9,30 @@ mod cash;
 mod changing;
 mod closing;
 <<<<<<< HEAD
+<<<<<<< HEAD
 mod fault;
 =======
 mod entering;
 mod figures;
 >>>>>>> hA
+=======
+mod everyone;
+>>>>>>> hB
 mod laws;
 mod others;
 mod parts;
 mod posted;
 mod preparing;
 mod refusals;
+<<<<<<< HEAD
 mod refusing;
 mod scope;
 mod servicing;
+=======
+mod reporting;
+mod scope;
+mod sent;
+>>>>>>> hB
 mod state;
 <<<<<<< HEAD
 mod verdict;

@@ -57,10 +57,10 @@ first_below m (l ∷ ls) =
 
 -- what the rules of a closing leave
 pub record IsClosing (w : World) (p : ℕ) : Type 0 where
-  few : length w.seals.reports < 600
-  next : IfSome (last_month w.seals.reports) (λ last. p ≡ last + 1)
-  first : last_month w.seals.reports ≡ None → All (λ (l : Held). p ≤ boarded_month l) w.loans
-  ended : last_day p < w.today
+  pub few : length w.seals.reports < 600
+  pub next : IfSome (last_month w.seals.reports) (λ last. p ≡ last + 1)
+  pub first : last_month w.seals.reports ≡ None → All (λ (l : Held). p ≤ boarded_month l) w.loans
+  pub ended : last_day p < w.today
 
 pub next_of : (o : Option ℕ) (m p : ℕ) → p ≡ option_map_or (λ last. last + 1) o m → IfSome o (λ last. p ≡ last + 1)
 next_of None m p e = tt

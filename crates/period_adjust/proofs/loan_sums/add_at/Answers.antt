@@ -1,7 +1,7 @@
 use Rattle.std.proofs.Common.{ℤ, ◌+ℤ◌, FitsSigned, subst}
 use Rattle.std.specs.Int.{w64}
 use Rattle.period_adjust.specs.Sums.{Interest, Principal}
-use Rattle.period_adjust.proofs.RunningLemmas.{running-found, running-set}
+use Rattle.period_adjust.proofs.RunningLemmas.{running-found, running-set, kept-set}
 use Rattle.period_adjust.proofs.loan_sums.add_at.Goals as goal
 
 pub with_adjustment-requires-clause-interest : goal.with_adjustment-requires-clause-interest
@@ -19,3 +19,7 @@ with_adjustment-requires-clause-principal c =
 pub returns-clause-total : goal.returns-clause-total
 returns-clause-total c part loan =
     running-set part loan c.args.adjustment.now c.args.sums.now c.args.place _ c.with_adjustment.result c.requires.place c.with_adjustment.ensures
+
+pub returns-clause-there : goal.returns-clause-there
+returns-clause-there c loan =
+    kept-set loan c.args.adjustment.now c.args.sums.now c.args.place _ c.with_adjustment.result c.with_adjustment.ensures

@@ -13,4 +13,4 @@ add-requires-clause-fits c part =
 pub invariant_of-self : goal.invariant_of-self
 invariant_of-self c =
     subst (λ (xs : List Adjustment). AreRunning xs c.add.new.sums.items) (sym c.push_reserved.ensures.items)
-    (push_running c.self.inside.adjustments.items c.args.adjustment c.self.inside.sums.items c.add.new.sums.items c.self.invariant c.add.ensures.rising c.add.ensures.total)
+    (push_running c.self.inside.adjustments.items c.args.adjustment c.self.inside.sums.items c.add.new.sums.items c.self.invariant c.add.ensures.rising c.add.ensures.total c.add.ensures.there)
