@@ -2,3 +2,4 @@ pub mod PostedLemmas
 pub mod CashLemmas
 pub mod RuleLemmas
 pub mod AnalysingLemmas
+pub mod ReadyLemmas

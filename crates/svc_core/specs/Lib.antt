@@ -5,3 +5,4 @@ pub mod Scope
 pub mod Ready
 pub mod Costs
 pub mod Rows
+pub mod Preparing

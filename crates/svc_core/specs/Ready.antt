@@ -1,11 +1,13 @@
 -- The room that a command needs, so that it takes no memory when it is accepted.
-use Rattle.std.specs.Prelude.{◌≡◌, ℕ, ◌*◌, ◌≤◌, ℤ, pos, length}
+use Rattle.std.specs.Prelude.{◌≡◌, ℕ, ◌*◌, ◌≤◌, pos, length, Option, MatchOption}
 use Rattle.std.specs.List.{All}
 use Rattle.svc_types.specs.declared.terms.Terms.{Terms}
 use Rattle.period_adjust.specs.Sealed.{State}
 use Rattle.svc_world.specs.Held.{boarded}
 use Rattle.svc_loan.specs.Kept.{KeptLoan, IsReady}
 use Rattle.svc_loan.specs.Loans.{KeptLoans, OfLoan}
+use Rattle.svc_core.specs.declared.scope.Scope.{Scope}
+use Rattle.svc_core.specs.declared.scope.Scope.TheVariants.{One, New, Every}
 
 -- for a command on one loan: room in the loan, for its rows, for the dues that it had for closed months, and for
 -- an adjustment of each of these
@@ -35,3 +37,13 @@ pub record HasRoomForAll (today : ℕ) (loans : KeptLoans) (seals : State) (rows
   pub lines_room : length loans.loans ≤ lines
   pub report_lines : length loans.loans ≤ seals.line_room
   pub report : 1 ≤ seals.report_room
+
+-- what a command of a scope needs, where the business day is today before it and later after it: room for rows, for
+-- former dues and totals, and for the lines of a report; and the loan that is to be taken on
+abbrev pub IsReadyFor : Scope → ℕ → ℕ → KeptLoans → State → ℕ → ℕ → ℕ → ℕ → Option KeptLoan → Type 0
+IsReadyFor (One id) today later loans seals rows dues totals lines boarding =
+    HasRoomForOne id today loans seals rows dues
+IsReadyFor (New id t) today later loans seals rows dues totals lines boarding =
+    HasRoomForNew loans rows × MatchOption boarding ⊥ (IsBoarding id t today)
+IsReadyFor Every today later loans seals rows dues totals lines boarding =
+    HasRoomForAll later loans seals rows totals lines
