@@ -3,3 +3,4 @@ pub mod CashLemmas
 pub mod RuleLemmas
 pub mod AnalysingLemmas
 pub mod ReadyLemmas
+pub mod AskLemmas

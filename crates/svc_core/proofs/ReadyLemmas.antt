@@ -37,10 +37,10 @@ kept_same : (w : World) (j k : KeptLoan) → j.held ≡ k.held → j.closed ≡ 
 kept_same w j k held closed remitted h = record {
   remitted = remitted ∙ h.remitted ∙ ap (λ (l : Held). remitted_for w l.id) (sym held);
   closed =
-    ap (λ (l : Held). boarded_month l + j.closed) held
-    ∙ ap (λ n. boarded_month k.held + n) closed
-    ∙ h.closed
-    ∙ ap (λ (l : Held). max (boarded_month l) (month_after (last_month w.seals.reports))) (sym held);
+      ap (λ (l : Held). boarded_month l + j.closed) held
+      ∙ ap (λ n. boarded_month k.held + n) closed
+      ∙ h.closed
+      ∙ ap (λ (l : Held). max (boarded_month l) (month_after (last_month w.seals.reports))) (sym held);
 }
 
 same_at : {X : Type 0} (f : KeptLoan → X) (js ks : List KeptLoan) (i : ℕ) (d : KeptLoan) → map f js ≡ map f ks → f (get_or js i d) ≡ f (get_or ks i d)
@@ -54,10 +54,10 @@ kept_stay w v loans later seals sealed h same kept = λ i d lt.
     let count = same_count later.loans loans.loans h.held in
     subst (λ u. IsKeptIn u (get_or later.loans i d)) (sym same)
     (kept_same w (get_or later.loans i d) (get_or loans.loans i d)
-      (same_at (λ (k : KeptLoan). k.held) later.loans loans.loans i d h.held)
-      (same_at (λ (k : KeptLoan). k.closed) later.loans loans.loans i d h.closed_months)
-      (same_at (λ (k : KeptLoan). k.remitted) later.loans loans.loans i d h.remitted_cents)
-      (kept i d (omega (arith, lt, count))))
+    (same_at (λ (k : KeptLoan). k.held) later.loans loans.loans i d h.held)
+    (same_at (λ (k : KeptLoan). k.closed) later.loans loans.loans i d h.closed_months)
+    (same_at (λ (k : KeptLoan). k.remitted) later.loans loans.loans i d h.remitted_cents)
+    (kept i d (omega (arith, lt, count))))
 
 -- ---- the loan that a command names is there
 

@@ -6,3 +6,4 @@ pub mod Ready
 pub mod Costs
 pub mod Rows
 pub mod Preparing
+pub mod Asking

@@ -6,6 +6,7 @@ ghost use Rattle.escrow_analysis.specs.AggregateAnalysis.{base as monthly};
 ghost use Rattle.escrow_resolve.specs.Parts.{AreParts};
 ghost use Rattle.svc_world.specs.Analysing as world;
 ghost use Rattle.svc_world.specs.Refusals as rule;
+ghost use Rattle.svc_core.specs.Asking.{IsSmallAnalysis};
 ghost use Rattle.svc_core.specs.State.{world_of};
 
 use crate::refusals::refuse_adjustments;
@@ -63,21 +64,18 @@ pub(crate) fn settle_now<B: LoanBooks>(
 }
 
 /// The analysis of a loan's year that begins with the month after the business day's.
-fn analysis_from<B: LoanBooks>(loan: &Loan<B>, begins: Month) -> Analysis
+pub(crate) fn analysis_from<B: LoanBooks>(loan: &Loan<B>, begins: Month) -> Analysis
     requires { begins ≡ world.year_begins loan.now.held }
+    ensures whole { result ≡ world.analysis_of loan.now.held }
     ensures base { result.base ≡ monthly (world.year_of_loan loan.now.held) }
-    ensures opening { result.opening ≡ world.opening_of loan.now.held }
-    ensures base_low { pos 0 ≤ℤ result.base }
-    ensures base_high { result.base ≤ℤ pos 160_000_000_000 }
-    ensures opening_low { pos 0 ≤ℤ result.opening }
-    ensures opening_high { result.opening ≤ℤ pos 2_240_000_000_000 }
+    ensures small { IsSmallAnalysis result }
 {
     loan.is_sound();
     analyse(&loan.lines().year(begins), loan.terms().cushion)
 }
 
 /// The parts of a loan's escrow balance against the opening that its year needs.
-fn parts_of<B: LoanBooks>(loan: &Loan<B>, opening: Cents) -> Parts
+pub(crate) fn parts_of<B: LoanBooks>(loan: &Loan<B>, opening: Cents) -> Parts
     requires opening { opening ≡ world.opening_of loan.now.held }
     requires low { pos 0 ≤ℤ opening }
     requires high { opening ≤ℤ pos 2_240_000_000_000 }

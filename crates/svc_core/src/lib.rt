@@ -2,6 +2,7 @@
 #![tactic(auto)]
 
 mod analysing;
+mod asking;
 mod boarding;
 mod cash;
 mod closing;

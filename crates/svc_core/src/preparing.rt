@@ -1,12 +1,12 @@
 //! The room that a command needs, made before it is accepted.
 
-ghost use Rattle.std.specs.Prelude.{◌≡◌, ◌+◌, ◌*◌, ◌≤◌, length, vec_capacity, is_some, true, None, OnOk, IfOk};
+ghost use Rattle.std.specs.Prelude.{◌≡◌, ◌+◌, ◌≤◌, length, vec_capacity, is_some, true, None, OnOk, IfOk};
 ghost use Rattle.std.specs.List.{All};
 ghost use Rattle.std.specs.Option.{option_map};
 ghost use Rattle.svc_base.specs.Calendar.{month_of as month_number};
 ghost use Rattle.svc_types.specs.Requests.{IsCommand};
 ghost use Rattle.svc_spec.specs.Accounts.{MayBegin, begun};
-ghost use Rattle.svc_loan.specs.Loans.{find_kept, held_in, closed_in, remitted_in};
+ghost use Rattle.svc_loan.specs.Loans.{find_kept};
 ghost use Rattle.svc_world.specs.Refusals.{refusal_of};
 ghost use Rattle.svc_world.specs.World as world;
 ghost use Rattle.svc_core.specs.Cash.{IsKeptIn};
@@ -25,8 +25,9 @@ use svc_loan::Loan;
 use svc_replay::LoanBooks;
 use svc_types::{Command, Terms};
 
-/// Makes the room that a command needs which is not refused, and the loan that it takes on, so that accepting it
-/// takes no memory; fails for want of memory alone. Nothing but room changes, whatever the result.
+/// Makes the room that a command needs which is not refused, and the loan that it takes on, so that
+/// accepting it takes no memory; fails for want of memory alone. Nothing but room changes, whatever the
+/// result.
 pub(crate) fn prepare<B: LoanBooks, L: Ledger>(
     alloc: Global,
     count: u32,
