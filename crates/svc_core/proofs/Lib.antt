@@ -4,6 +4,7 @@ pub mod RuleLemmas
 pub mod AnalysingLemmas
 <<<<<<< HEAD
 <<<<<<< HEAD
+<<<<<<< HEAD
 pub mod CoreLemmas
 pub mod PartsLemmas
 pub mod BoundLemmas
@@ -26,3 +27,7 @@ pub mod RemittingLemmas
 pub mod SentWorlds
 pub mod ClosingWorlds
 >>>>>>> hB
+=======
+pub mod ReadyLemmas
+pub mod AskLemmas
+>>>>>>> hD

@@ -7,6 +7,7 @@ pub mod Costs
 pub mod Rows
 <<<<<<< HEAD
 <<<<<<< HEAD
+<<<<<<< HEAD
 pub mod Rules
 pub mod Core
 pub mod Bound
@@ -16,3 +17,7 @@ pub mod Changing
 =======
 pub mod Reported
 >>>>>>> hB
+=======
+pub mod Preparing
+pub mod Asking
+>>>>>>> hD

@@ -6,6 +6,7 @@ ghost use Rattle.escrow_analysis.specs.AggregateAnalysis.{base as monthly, cushi
 ghost use Rattle.escrow_resolve.specs.Parts.{AreParts};
 ghost use Rattle.svc_world.specs.Analysing as world;
 ghost use Rattle.svc_world.specs.Refusals as rule;
+ghost use Rattle.svc_core.specs.Asking.{IsSmallAnalysis};
 ghost use Rattle.svc_core.specs.State.{world_of};
 
 use crate::refusals::refuse_adjustments;
@@ -65,7 +66,9 @@ pub(crate) fn settle_now<B: LoanBooks>(
 /// The analysis of a loan's year that begins with the month after the business day's.
 pub(crate) fn analysis_from<B: LoanBooks>(loan: &Loan<B>, begins: Month) -> Analysis
     requires { begins ≡ world.year_begins loan.now.held }
+    ensures whole { result ≡ world.analysis_of loan.now.held }
     ensures base { result.base ≡ monthly (world.year_of_loan loan.now.held) }
+<<<<<<< HEAD
     ensures cushion { result.cushion
         ≡ kept_back (world.year_of_loan loan.now.held) (world.cushion_months loan.now.held) }
     ensures opening { result.opening ≡ world.opening_of loan.now.held }
@@ -75,6 +78,9 @@ pub(crate) fn analysis_from<B: LoanBooks>(loan: &Loan<B>, begins: Month) -> Anal
     ensures base_high { result.base ≤ℤ pos 160_000_000_000 }
     ensures opening_low { pos 0 ≤ℤ result.opening }
     ensures opening_high { result.opening ≤ℤ pos 2_240_000_000_000 }
+=======
+    ensures small { IsSmallAnalysis result }
+>>>>>>> hD
 {
     loan.is_sound();
     analyse(&loan.lines().year(begins), loan.terms().cushion)

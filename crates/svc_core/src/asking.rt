@@ -1,39 +1,384 @@
-//! stub
-ghost use Rattle.std.specs.Prelude.{◌≡◌, ◌+◌, ◌≤◌, ◌++◌, length, None, Some, OnOk, IfErr, IfOk, vec_capacity};
-ghost use Rattle.std.specs.Option.{option_map};
-ghost use Rattle.std.specs.List.{All};
-ghost use Rattle.svc_types.specs.declared.requests.Command.TheVariants as command;
-ghost use Rattle.svc_types.specs.Requests.{IsCommand, IsQuery};
-ghost use Rattle.svc_world.specs.World.{after, today_after};
-ghost use Rattle.svc_world.specs.Refusals.{refusal_of, query_refusal};
-ghost use Rattle.svc_world.specs.Answers.{answer_to};
-ghost use Rattle.svc_world.specs.Judging.{extra_of};
-ghost use Rattle.svc_world.specs.Custody.{rows_made, custody_of};
-ghost use Rattle.svc_core.specs.Cash.{IsKeptIn};
-ghost use Rattle.svc_core.specs.State.{world_of, IsState};
-ghost use Rattle.svc_core.specs.Rows.{IsCash};
-ghost use Rattle.svc_core.specs.Core as core;
-ghost use Rattle.svc_core.specs.Scope.{scope_of};
-ghost use Rattle.svc_core.specs.Ready.{HasRoomForOne, HasRoomForNew, HasRoomForAll, IsBoarding, IsReadyFor};
-ghost use Rattle.svc_core.specs.Costs.{accepting_cost, preparing_cost, asking_cost};
+//! What a query is answered.
 
+ghost use Rattle.std.specs.Prelude.{◌≡◌, ◌+◌, ◌≤◌, ◌<◌, ◌||◌, ◌==◌, nat_lt, pos, Some, None, IfOk, IfErr, OnOk, OnErr, IfSome, is_some, true, [], ◌∷◌};
+ghost use Rattle.std.specs.Option.{option_map, option_map_or};
+ghost use Rattle.svc_base.specs.Calendar.{month_of as month_number, months_end};
+ghost use Rattle.svc_types.specs.declared.replies.Refusal.{Refusal as AnyRefusal};
+ghost use Rattle.svc_types.specs.declared.replies.Refusal.TheVariants as why;
+ghost use Rattle.svc_types.specs.Requests.{IsQuery};
+ghost use Rattle.svc_spec.specs.Accounts.{books_of};
+ghost use Rattle.svc_spec.specs.Books.{AreBooks};
+ghost use Rattle.custodial_book.specs.Rows.{rows_of_command};
+ghost use Rattle.period_adjust.specs.Conditions.{first_month, last_month};
+ghost use Rattle.period_adjust.specs.Kept.{AreConsecutive};
+ghost use Rattle.svc_loan.specs.Loans.{held_in};
+ghost use Rattle.svc_world.specs.Analysing as analysing;
+ghost use Rattle.svc_world.specs.Answers as answers;
+ghost use Rattle.svc_world.specs.Held.{find_loan, books_now};
+ghost use Rattle.svc_world.specs.Judging.{report_for};
+ghost use Rattle.svc_world.specs.Refusals as rule;
+ghost use Rattle.svc_world.specs.declared.answer.Answer.TheVariants as answer;
+ghost use Rattle.svc_core.specs.Asking.{AreOnDay, IsPayable, IsSmallAnalysis};
+ghost use Rattle.svc_core.specs.Costs.{asking_month, asking_cost};
+ghost use Rattle.svc_core.specs.Rows.{IsCash};
+ghost use Rattle.svc_core.specs.State.{world_of, IsState};
+
+use crate::analysing::{analysis_from, parts_of};
 use crate::fault::CoreFault;
-use crate::scope::Scope;
-use crate::state::{Cash, Scratch, State};
+use crate::state::{Cash, State};
+use custodial_book::Row;
+use escrow_analysis::Analysis;
+use period_adjust::Report;
 use std::alloc::Global;
 use std::sync::ledger::Ledger;
-use svc_base::{OutOfMemory, Steps};
+use svc_apply::{open_installment, payoff_due};
+use svc_base::{Cents, Day, Month, OutOfMemory, Steps, month_of};
 use svc_loan::Loan;
 use svc_replay::LoanBooks;
-use svc_types::{Command, Extra, Query, Terms};
-use svc_world::Answer;
+use svc_types::{Books, Figures, Installment, Query, Refusal};
+use svc_world::{Answer, RowList};
 
-pub(crate) fn answer<B: LoanBooks, L: Ledger>(alloc: Global, count: u32, state: &State<B>, cash: &Cash, query: &Query, steps: &mut Steps<L>) -> Result<Answer, CoreFault>
+/// What a query is answered, after so many commands. It is refused where a rule holds; beside that it
+/// fails for want of memory alone.
+#[tactic(auto, unfolding(svc_world::specs::Refusals::query_refusal, svc_world::specs::Answers::answer_to))]
+pub(crate) fn answer<B: LoanBooks, L: Ledger>(
+    alloc: Global,
+    count: u32,
+    state: &State<B>,
+    cash: &Cash,
+    query: &Query,
+    steps: &mut Steps<L>,
+) -> Result<Answer, CoreFault>
     requires state { IsState count state.now.today state.now.loans state.now.seals }
-    requires cash { IsCash count (world_of state.now.today state.now.loans state.now.seals) cash.now.book.rows cash.now.custody }
+    requires cash { IsCash count (world_of state.now.today state.now.loans state.now.seals)
+        cash.now.book.rows cash.now.custody }
     requires query { IsQuery query.now }
-    ensures refused { IfErr result (core.IsQueryFault (query_refusal count (world_of state.now.today state.now.loans state.now.seals) query.now)) }
-    ensures asked { OnOk result (query_refusal count (world_of state.now.today state.now.loans state.now.seals) query.now ≡ None) }
-    ensures answer { IfOk result (λ a. answer_to (world_of state.now.today state.now.loans state.now.seals) cash.now.book.rows query.now ≡ Some a) }
-    ensures steps { steps.new ≤ steps.old + asking_cost B.cost (world_of state.now.today state.now.loans state.now.seals) query.now }
-{ Err(CoreFault::OutOfMemory) }
+    ensures refused { IfErr result (λ f. (cause : AnyRefusal) → f ≡ CoreFault.Refused cause →
+        rule.query_refusal count (world_of state.now.today state.now.loans state.now.seals) query.now
+        ≡ Some cause) }
+    ensures asked { OnOk result (rule.query_refusal count
+        (world_of state.now.today state.now.loans state.now.seals) query.now ≡ None) }
+    ensures answer { IfOk result (λ a. answers.answer_to
+        (world_of state.now.today state.now.loans state.now.seals) cash.now.book.rows query.now ≡ Some a) }
+    ensures steps { steps.new ≤ steps.old
+        + asking_cost B.cost (world_of state.now.today state.now.loans state.now.seals) query.now }
+{
+    match *query {
+        Query::Books(id) => Ok(ask_books(state, id)?),
+        Query::At(id, day) => Ok(ask_at(state, id, day, steps)?),
+        Query::Payoff(id, day) => Ok(ask_payoff(state, id, day, steps)?),
+        Query::Escrow(id) => Ok(ask_escrow(state, id)?),
+        Query::Report(month) => Ok(Answer::Report(ask_report(state, month)?)),
+        Query::Trial(month) => Ok(Answer::Trial(ask_report(state, month)?)),
+        Query::Custodial => Ok(Answer::Custodial(cash.custody)),
+        Query::Rows(number) => ask_rows(alloc, count, cash, number),
+    }
+}
+
+/// A loan's books at the business day.
+fn ask_books<B: LoanBooks>(state: &State<B>, id: u32) -> Result<Answer, Refusal>
+    requires { AreOnDay state.now.today state.now.loans.loans }
+    ensures refused { IfErr result (λ cause. rule.first_of (rule.on_loan
+        (world_of state.now.today state.now.loans state.now.seals) id (λ l. [])) ≡ Some cause) }
+    ensures asked { OnOk result (rule.first_of (rule.on_loan
+        (world_of state.now.today state.now.loans state.now.seals) id (λ l. [])) ≡ None) }
+    ensures answer { IfOk result (λ a. answers.of_loan
+        (world_of state.now.today state.now.loans state.now.seals) id
+        (λ l. answers.books_answer l (books_now l)) ≡ Some a) }
+{
+    let loan = loan_named(state, id)?;
+    Ok(books_answer(loan, loan.now()))
+}
+
+/// A loan's books at a day.
+fn ask_at<B: LoanBooks, L: Ledger>(
+    state: &State<B>,
+    id: u32,
+    day: Day,
+    steps: &mut Steps<L>,
+) -> Result<Answer, Refusal>
+    requires { AreOnDay state.now.today state.now.loans.loans }
+    ensures refused { IfErr result (λ cause. rule.first_of (rule.on_loan
+        (world_of state.now.today state.now.loans state.now.seals) id (rule.day_cases
+        (world_of state.now.today state.now.loans state.now.seals) day)) ≡ Some cause) }
+    ensures asked { OnOk result (rule.first_of (rule.on_loan
+        (world_of state.now.today state.now.loans state.now.seals) id (rule.day_cases
+        (world_of state.now.today state.now.loans state.now.seals) day)) ≡ None) }
+    ensures answer { IfOk result (λ a. answers.of_loan
+        (world_of state.now.today state.now.loans state.now.seals) id
+        (λ l. answers.books_answer l (books_of l.account day)) ≡ Some a) }
+    ensures steps { steps.new ≤ steps.old + asking_month B.cost
+        (world_of state.now.today state.now.loans state.now.seals) id (month_number day) }
+{
+    let loan = loan_named(state, id)?;
+    at_answer(state, loan, day, steps)
+}
+
+/// The books of a loan that is there, at a day.
+fn at_answer<B: LoanBooks, L: Ledger>(
+    state: &State<B>,
+    loan: &Loan<B>,
+    day: Day,
+    steps: &mut Steps<L>,
+) -> Result<Answer, Refusal>
+    requires { loan.now.held.account.today ≡ state.now.today }
+    ensures refused { IfErr result (λ cause. rule.first_of (rule.day_cases
+        (world_of state.now.today state.now.loans state.now.seals) day loan.now.held) ≡ Some cause) }
+    ensures asked { OnOk result (rule.first_of (rule.day_cases
+        (world_of state.now.today state.now.loans state.now.seals) day loan.now.held) ≡ None) }
+    ensures answer { IfOk result (λ a.
+        a ≡ answers.books_answer loan.now.held (books_of loan.now.held.account day)) }
+    ensures steps { steps.new ≤ steps.old + B.cost loan.now.held.account (month_number day) }
+{
+    if let Some(cause) = refuse_day_of(state, loan, day) {
+        return Err(cause);
+    }
+    Ok(books_answer(loan, &loan.books_at(day, steps)))
+}
+
+/// What pays a loan off on a day.
+fn ask_payoff<B: LoanBooks, L: Ledger>(
+    state: &State<B>,
+    id: u32,
+    day: Day,
+    steps: &mut Steps<L>,
+) -> Result<Answer, Refusal>
+    requires { AreOnDay state.now.today state.now.loans.loans }
+    ensures refused { IfErr result (λ cause. rule.first_of (rule.on_loan
+        (world_of state.now.today state.now.loans state.now.seals) id (rule.day_cases
+        (world_of state.now.today state.now.loans state.now.seals) day)) ≡ Some cause) }
+    ensures asked { OnOk result (rule.first_of (rule.on_loan
+        (world_of state.now.today state.now.loans state.now.seals) id (rule.day_cases
+        (world_of state.now.today state.now.loans state.now.seals) day)) ≡ None) }
+    ensures answer { IfOk result (λ a. answers.of_loan
+        (world_of state.now.today state.now.loans state.now.seals) id
+        (λ l. answer.Payoff id day (rule.payoff_due_on l day)) ≡ Some a) }
+    ensures steps { steps.new ≤ steps.old + asking_month B.cost
+        (world_of state.now.today state.now.loans state.now.seals) id (month_number day) }
+{
+    let loan = loan_named(state, id)?;
+    let cents = payoff_at(state, loan, day, steps)?;
+    Ok(Answer::Payoff {
+        loan: id,
+        day,
+        cents,
+    })
+}
+
+/// What pays a loan off that is there, on a day, in cents.
+fn payoff_at<B: LoanBooks, L: Ledger>(
+    state: &State<B>,
+    loan: &Loan<B>,
+    day: Day,
+    steps: &mut Steps<L>,
+) -> Result<Cents, Refusal>
+    requires { loan.now.held.account.today ≡ state.now.today }
+    ensures refused { IfErr result (λ cause. rule.first_of (rule.day_cases
+        (world_of state.now.today state.now.loans state.now.seals) day loan.now.held) ≡ Some cause) }
+    ensures asked { OnOk result (rule.first_of (rule.day_cases
+        (world_of state.now.today state.now.loans state.now.seals) day loan.now.held) ≡ None) }
+    ensures cents { IfOk result (λ cents. cents ≡ rule.payoff_due_on loan.now.held day) }
+    ensures steps { steps.new ≤ steps.old + B.cost loan.now.held.account (month_number day) }
+{
+    if let Some(cause) = refuse_day_of(state, loan, day) {
+        return Err(cause);
+    }
+    loan.is_sound();
+    Ok(payoff_due(&loan.books_at(day, steps), loan.terms(), day))
+}
+
+/// What an escrow analysis on the business day would find.
+fn ask_escrow<B: LoanBooks>(state: &State<B>, id: u32) -> Result<Answer, Refusal>
+    requires on_day { AreOnDay state.now.today state.now.loans.loans }
+    requires calendar { month_number state.now.today + 1 < months_end }
+    ensures refused { IfErr result (λ cause. rule.first_of (rule.on_loan
+        (world_of state.now.today state.now.loans state.now.seals) id (λ l. [])) ≡ Some cause) }
+    ensures asked { OnOk result (rule.first_of (rule.on_loan
+        (world_of state.now.today state.now.loans state.now.seals) id (λ l. [])) ≡ None) }
+    ensures answer { IfOk result (λ a. answers.of_loan
+        (world_of state.now.today state.now.loans state.now.seals) id
+        (λ l. answer.Escrow id (analysing.asked_figures l) (analysing.analysis_of l)) ≡ Some a) }
+{
+    let loan = loan_named(state, id)?;
+    let begins = month_of(state.today).plus(1);
+    let analysis = analysis_from(loan, begins);
+    let figures = figures_of(loan, begins, &analysis);
+    Ok(Answer::Escrow {
+        loan: id,
+        figures,
+        analysis,
+    })
+}
+
+/// The numbers of a loan's analysis: nothing is settled, and the payment is the base.
+fn figures_of<B: LoanBooks>(loan: &Loan<B>, begins: Month, analysis: &Analysis) -> Figures
+    requires begins { begins ≡ analysing.year_begins loan.now.held }
+    requires analysis { analysis.now ≡ analysing.analysis_of loan.now.held }
+    requires small { IsSmallAnalysis analysis.now }
+    ensures { result ≡ analysing.asked_figures loan.now.held }
+{
+    let parts = parts_of(loan, analysis.opening);
+    Figures {
+        from: begins,
+        base: analysis.base,
+        cushion: analysis.cushion,
+        opening: analysis.opening,
+        balance: loan.now().escrow,
+        surplus: parts.surplus,
+        short: parts.short,
+        deficient: parts.deficient,
+        refund: 0,
+        within30: 0,
+        pay: analysis.base,
+    }
+}
+
+/// The report of a closed month; beside a refusal it fails for want of memory alone.
+fn ask_report<B: LoanBooks>(state: &State<B>, month: Month) -> Result<Report, CoreFault>
+    ensures refused { IfErr result (λ f. (cause : AnyRefusal) → f ≡ CoreFault.Refused cause → rule.first_of
+        (rule.report_cases (world_of state.now.today state.now.loans state.now.seals) month) ≡ Some cause) }
+    ensures asked { OnOk result (rule.first_of
+        (rule.report_cases (world_of state.now.today state.now.loans state.now.seals) month) ≡ None) }
+    ensures report { IfOk result (λ r. report_for month state.now.seals.reporting.reports ≡ Some r) }
+{
+    if let Some(cause) = refuse_report(state, month) {
+        return Err(CoreFault::Refused(cause));
+    }
+    let report = report_there(state.seals.reports(), month);
+    Ok(report.copy()?)
+}
+
+/// The custodial rows of a command; beside a refusal it fails for want of memory alone.
+fn ask_rows(alloc: Global, count: u32, cash: &Cash, number: u32) -> Result<Answer, CoreFault>
+    ensures refused { IfErr result (λ f. (cause : AnyRefusal) → f ≡ CoreFault.Refused cause → rule.first_of
+        (rule.case ((number == 0) || nat_lt count number) why.NoSuchEntry ∷ []) ≡ Some cause) }
+    ensures asked { OnOk result (rule.first_of
+        (rule.case ((number == 0) || nat_lt count number) why.NoSuchEntry ∷ []) ≡ None) }
+    ensures answer { IfOk result (λ a. a ≡ answer.Rows number (rows_of_command number cash.now.book.rows)) }
+{
+    if let Some(cause) = refuse_rows(count, number) {
+        return Err(CoreFault::Refused(cause));
+    }
+    let rows = copied(alloc, cash.book.rows(number))?;
+    Ok(Answer::Rows { number, rows })
+}
+
+/// Why the books of a day are not told: the day lies after the business day or before boarding.
+fn refuse_day_of<B: LoanBooks>(state: &State<B>, loan: &Loan<B>, day: Day) -> Option<Refusal>
+    ensures cause { result ≡ rule.first_of (rule.day_cases
+        (world_of state.now.today state.now.loans state.now.seals) day loan.now.held) }
+    ensures since { result ≡ None → loan.now.held.account.terms.boarded ≤ day }
+    ensures until { result ≡ None → day ≤ state.now.today }
+{
+    if state.today < day {
+        return Some(Refusal::FutureDated(state.today));
+    }
+    let boarded = loan.terms().boarded;
+    if day < boarded {
+        return Some(Refusal::BeforeBoarding(boarded));
+    }
+    None
+}
+
+/// Why a report is not there: its month is not closed.
+fn refuse_report<B: LoanBooks>(state: &State<B>, month: Month) -> Option<Refusal>
+    ensures cause { result ≡ rule.first_of
+        (rule.report_cases (world_of state.now.today state.now.loans state.now.seals) month) }
+    ensures until { result ≡ None → is_some (last_month state.now.seals.reporting.reports) ≡ true }
+    ensures last { result ≡ None →
+        IfSome (last_month state.now.seals.reporting.reports) (λ last. month ≤ last) }
+    ensures first { result ≡ None →
+        IfSome (first_month state.now.seals.reporting.reports) (λ first. first ≤ month) }
+{
+    match state.seals.closed() {
+        Some(last) if month <= last => {}
+        closed => return Some(Refusal::NotClosed(closed)),
+    }
+    let reports = state.seals.reports();
+    if month < reports[0].month() {
+        return Some(Refusal::NotClosed(state.seals.closed()));
+    }
+    None
+}
+
+/// Why there are no rows of a command: so many commands were accepted, and it is none of them.
+fn refuse_rows(count: u32, number: u32) -> Option<Refusal>
+    ensures { result ≡ rule.first_of
+        (rule.case ((number == 0) || nat_lt count number) why.NoSuchEntry ∷ []) }
+{
+    if number == 0 || count < number {
+        return Some(Refusal::NoSuchEntry);
+    }
+    None
+}
+
+/// The loan with that number.
+fn loan_named<B: LoanBooks>(state: &State<B>, id: u32) -> Result<&Loan<B>, Refusal>
+    requires { AreOnDay state.now.today state.now.loans.loans }
+    ensures found { IfOk result (λ r. find_loan id (held_in state.now.loans.loans) ≡ Some r.now.held) }
+    ensures today { IfOk result (λ r. r.now.held.account.today ≡ state.now.today) }
+    ensures missing { OnErr result (find_loan id (held_in state.now.loans.loans) ≡ None) }
+    ensures cause { IfErr result (λ cause. cause ≡ why.NoSuchLoan) }
+{
+    match state.loans.get(id) {
+        Some(loan) => Ok(loan),
+        None => Err(Refusal::NoSuchLoan),
+    }
+}
+
+/// The report of a month that is closed.
+fn report_there(reports: &[Report], month: Month) -> &Report
+    requires consecutive { AreConsecutive reports.now }
+    requires closed { is_some (last_month reports.now) ≡ true }
+    requires last { IfSome (last_month reports.now) (λ last. month ≤ last) }
+    requires first { IfSome (first_month reports.now) (λ first. first ≤ month) }
+    ensures { report_for month reports.now ≡ Some result.now }
+{
+    let first = reports[0].month();
+    &reports[(month.number() - first.number()) as usize]
+}
+
+/// A list of some rows.
+fn copied(alloc: Global, rows: &[Row]) -> Result<RowList, OutOfMemory>
+    ensures { IfOk result (λ l. l ≡ rows.now) }
+{
+    Ok(RowList::from_vec(rows.to_vec(alloc)?))
+}
+
+/// A loan's books, the month of its open installment, where one is open, and the whole of that.
+#[tactic(auto, using(crate::proofs::AskLemmas::open_is_payable))]
+fn books_answer<B: LoanBooks>(loan: &Loan<B>, books: &Books) -> Answer
+    requires { AreBooks loan.now.held.account.terms books.now }
+    ensures { result ≡ answers.books_answer loan.now.held books.now }
+{
+    loan.is_sound();
+    let asked = open_installment(books, loan.terms());
+    Answer::Books {
+        loan: loan.id(),
+        books: *books,
+        next: due_month(&asked),
+        pay: whole_of(&asked),
+    }
+}
+
+/// The month in which an installment is due.
+fn due_month(asked: &Option<Installment>) -> Option<Month>
+    ensures { result ≡ option_map (λ i. month_number i.due) asked.now }
+{
+    match asked {
+        None => None,
+        Some(asked) => Some(month_of(asked.due)),
+    }
+}
+
+/// The whole of an installment, in cents; 0 where none is open.
+#[tactic(auto, using(svc_base::proofs::CentsRules::cents))]
+fn whole_of(asked: &Option<Installment>) -> Cents
+    requires parts { IfSome asked.now IsPayable }
+    ensures { result ≡ option_map_or answers.whole_of asked.now (pos 0) }
+{
+    match asked {
+        None => 0,
+        Some(asked) => asked.interest + asked.principal + asked.escrow,
+    }
+}

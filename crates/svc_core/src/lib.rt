@@ -10,6 +10,7 @@ mod changing;
 mod closing;
 <<<<<<< HEAD
 <<<<<<< HEAD
+<<<<<<< HEAD
 mod fault;
 =======
 mod entering;
@@ -18,6 +19,9 @@ mod figures;
 =======
 mod everyone;
 >>>>>>> hB
+=======
+mod fault;
+>>>>>>> hD
 mod laws;
 mod others;
 mod parts;
@@ -40,6 +44,7 @@ mod verdict;
 mod taking_on;
 >>>>>>> hA
 
+pub use fault::CoreFault;
 pub use laws::replies_are_known;
 pub use fault::CoreFault;
 pub use posted::Posted;

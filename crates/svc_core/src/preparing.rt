@@ -1,41 +1,165 @@
-//! stub
-ghost use Rattle.std.specs.Prelude.{◌≡◌, ◌+◌, ◌≤◌, ◌++◌, length, None, Some, OnOk, IfErr, IfOk, vec_capacity};
-ghost use Rattle.std.specs.Option.{option_map};
-ghost use Rattle.std.specs.List.{All};
-ghost use Rattle.svc_types.specs.declared.requests.Command.TheVariants as command;
-ghost use Rattle.svc_types.specs.Requests.{IsCommand, IsQuery};
-ghost use Rattle.svc_world.specs.World.{after, today_after};
-ghost use Rattle.svc_world.specs.Refusals.{refusal_of, query_refusal};
-ghost use Rattle.svc_world.specs.Answers.{answer_to};
-ghost use Rattle.svc_world.specs.Judging.{extra_of};
-ghost use Rattle.svc_world.specs.Custody.{rows_made, custody_of};
-ghost use Rattle.svc_core.specs.Cash.{IsKeptIn};
-ghost use Rattle.svc_core.specs.State.{world_of, IsState};
-ghost use Rattle.svc_core.specs.Rows.{IsCash};
-ghost use Rattle.svc_core.specs.Scope.{scope_of};
-ghost use Rattle.svc_core.specs.Ready.{HasRoomForOne, HasRoomForNew, HasRoomForAll, IsBoarding, IsReadyFor};
-ghost use Rattle.svc_core.specs.Costs.{accepting_cost, preparing_cost, asking_cost};
+//! The room that a command needs, made before it is accepted.
 
-use crate::fault::CoreFault;
-use crate::scope::Scope;
+ghost use Rattle.std.specs.Prelude.{◌≡◌, ◌+◌, ◌≤◌, length, vec_capacity, is_some, true, None, OnOk, IfOk};
+ghost use Rattle.std.specs.List.{All};
+ghost use Rattle.std.specs.Option.{option_map};
+ghost use Rattle.svc_base.specs.Calendar.{month_of as month_number};
+ghost use Rattle.svc_types.specs.Requests.{IsCommand};
+ghost use Rattle.svc_spec.specs.Accounts.{MayBegin, begun};
+ghost use Rattle.svc_loan.specs.Loans.{find_kept};
+ghost use Rattle.svc_world.specs.Refusals.{refusal_of};
+ghost use Rattle.svc_world.specs.World as world;
+ghost use Rattle.svc_core.specs.Cash.{IsKeptIn};
+ghost use Rattle.svc_core.specs.Costs.{preparing_cost};
+ghost use Rattle.svc_core.specs.Preparing.{HaveStayed};
+ghost use Rattle.svc_core.specs.Ready.{HasRoomForOne, HasRoomForNew, HasRoomForAll, IsBoarding, IsReadyFor};
+ghost use Rattle.svc_core.specs.Scope as rule;
+ghost use Rattle.svc_core.specs.State.{world_of, IsState};
+
+use crate::scope::{Scope, scope_of};
 use crate::state::{Cash, Scratch, State};
 use std::alloc::Global;
 use std::sync::ledger::Ledger;
-use svc_base::{OutOfMemory, Steps};
+use svc_base::{Day, OutOfMemory, Steps};
 use svc_loan::Loan;
 use svc_replay::LoanBooks;
-use svc_types::{Command, Extra, Query, Terms};
-use svc_world::Answer;
+use svc_types::{Command, Terms};
 
-pub(crate) fn prepare<B: LoanBooks, L: Ledger>(alloc: Global, count: u32, command: &Command, state: &mut State<B>, cash: &mut Cash, scratch: &mut Scratch, boarding: &mut Option<Box<Loan<B>>>, steps: &mut Steps<L>) -> Result<(), OutOfMemory>
+/// Makes the room that a command needs which is not refused, and the loan that it takes on, so that
+/// accepting it takes no memory; fails for want of memory alone. Nothing but room changes, whatever the
+/// result.
+pub(crate) fn prepare<B: LoanBooks, L: Ledger>(
+    alloc: Global,
+    count: u32,
+    command: &Command,
+    state: &mut State<B>,
+    cash: &mut Cash,
+    scratch: &mut Scratch,
+    boarding: &mut Option<Box<Loan<B>>>,
+    steps: &mut Steps<L>,
+) -> Result<(), OutOfMemory>
     requires state { IsState count state.old.today state.old.loans state.old.seals }
     requires command { IsCommand command.now }
-    requires fresh { refusal_of count (world_of state.old.today state.old.loans state.old.seals) command.now ≡ None }
+    requires fresh { refusal_of count (world_of state.old.today state.old.loans state.old.seals) command.now
+        ≡ None }
     ensures today { state.new.today ≡ state.old.today }
-    ensures world { world_of state.new.today state.new.loans state.new.seals ≡ (world_of state.old.today state.old.loans state.old.seals) }
-    ensures kept { All (IsKeptIn (world_of state.new.today state.new.loans state.new.seals)) state.new.loans.loans }
+    ensures world { world_of state.new.today state.new.loans state.new.seals
+        ≡ world_of state.old.today state.old.loans state.old.seals }
+    ensures kept { All (IsKeptIn (world_of state.new.today state.new.loans state.new.seals))
+        state.new.loans.loans }
     ensures rows { cash.new.book.rows ≡ cash.old.book.rows }
     ensures custody { cash.new.custody ≡ cash.old.custody }
-    ensures ready { OnOk result (IsReadyFor (scope_of command.now) state.new.today (today_after state.new.today command.now) state.new.loans state.new.seals cash.new.book.spare (vec_capacity scratch.new.dues) (vec_capacity scratch.new.totals) (vec_capacity scratch.new.lines) (option_map (λ b. b.value) boarding.new)) }
-    ensures steps { steps.new ≤ steps.old + preparing_cost B.cost (world_of state.old.today state.old.loans state.old.seals) command.now }
-{ Ok(()) }
+    ensures ready { OnOk result (IsReadyFor (rule.scope_of command.now) state.old.today
+        (world.today_after state.old.today command.now) state.new.loans state.new.seals
+        cash.new.book.spare (vec_capacity scratch.new.dues) (vec_capacity scratch.new.totals)
+        (vec_capacity scratch.new.lines) (option_map (λ b. b.value) boarding.new)) }
+    ensures steps { steps.new ≤ steps.old
+        + preparing_cost B.cost (world_of state.old.today state.old.loans state.old.seals) command.now }
+{
+    match scope_of(command) {
+        Scope::One(id) => room_for_one(id, state, cash, scratch),
+        Scope::New(id, terms) => {
+            room_for_new(state, cash)?;
+            *boarding = Some(new_loan(alloc, id, terms, state.today, steps)?);
+            Ok(())
+        }
+        Scope::Every => {
+            let later = today_after(state.today, command);
+            room_for_all(later, state, cash, scratch)
+        }
+    }
+}
+
+/// Room for a command on one loan, which is there.
+fn room_for_one<B: LoanBooks>(
+    id: u32,
+    state: &mut State<B>,
+    cash: &mut Cash,
+    scratch: &mut Scratch,
+) -> Result<(), OutOfMemory>
+    requires loan { is_some (find_kept id state.old.loans.loans) ≡ true }
+    requires few { length state.old.seals.reporting.reports ≤ 600 }
+    ensures today { state.new.today ≡ state.old.today }
+    ensures stay { HaveStayed state.old.loans state.new.loans state.old.seals state.new.seals }
+    ensures rows { cash.new.book.rows ≡ cash.old.book.rows }
+    ensures custody { cash.new.custody ≡ cash.old.custody }
+    ensures ready { OnOk result (HasRoomForOne id state.old.today state.new.loans state.new.seals
+        cash.new.book.spare (vec_capacity scratch.new.dues)) }
+{
+    let today = state.today;
+    let closed = state.seals.reports().len();
+    state.loans.reserve_for(id, today)?;
+    state.seals.reserve(0, closed as u32)?;
+    cash.book.reserve(11)?;
+    make_room(&mut scratch.dues, closed)
+}
+
+/// A place and rows for a loan that is taken on.
+fn room_for_new<B: LoanBooks>(state: &mut State<B>, cash: &mut Cash) -> Result<(), OutOfMemory>
+    ensures today { state.new.today ≡ state.old.today }
+    ensures stay { HaveStayed state.old.loans state.new.loans state.old.seals state.new.seals }
+    ensures rows { cash.new.book.rows ≡ cash.old.book.rows }
+    ensures custody { cash.new.custody ≡ cash.old.custody }
+    ensures ready { OnOk result (HasRoomForNew state.new.loans cash.new.book.spare) }
+{
+    state.loans.reserve()?;
+    cash.book.reserve(11)
+}
+
+/// A loan that is taken on, on a business day.
+fn new_loan<B: LoanBooks, L: Ledger>(
+    alloc: Global,
+    id: u32,
+    terms: Terms,
+    today: Day,
+    steps: &mut Steps<L>,
+) -> Result<Box<Loan<B>>, OutOfMemory>
+    requires { MayBegin terms today }
+    ensures loan { IfOk result (λ b. IsBoarding id terms today b.value) }
+    ensures steps { steps.new ≤ steps.old + B.cost (begun terms today) (month_number terms.boarded) }
+{
+    let loan = Loan::begin(alloc, id, terms, today, steps)?;
+    Ok(Box::new(alloc, loan)?)
+}
+
+/// Room for a command on all loans, after which the business day is that one.
+fn room_for_all<B: LoanBooks>(
+    later: Day,
+    state: &mut State<B>,
+    cash: &mut Cash,
+    scratch: &mut Scratch,
+) -> Result<(), OutOfMemory>
+    requires few { length state.old.loans.loans ≤ 12_000 }
+    ensures today { state.new.today ≡ state.old.today }
+    ensures stay { HaveStayed state.old.loans state.new.loans state.old.seals state.new.seals }
+    ensures rows { cash.new.book.rows ≡ cash.old.book.rows }
+    ensures custody { cash.new.custody ≡ cash.old.custody }
+    ensures ready { OnOk result (HasRoomForAll later state.new.loans state.new.seals
+        cash.new.book.spare (vec_capacity scratch.new.totals) (vec_capacity scratch.new.lines)) }
+{
+    let count = state.loans.len();
+    state.loans.reserve_all(later)?;
+    state.seals.reserve(count as u32, 0)?;
+    cash.book.reserve(11 * count as u32)?;
+    make_room(&mut scratch.totals, count)?;
+    make_room(&mut scratch.lines, count)
+}
+
+/// Empties a list, and makes room in it for so many.
+fn make_room<T: Drop>(items: &mut Vec<T>, count: usize) -> Result<(), OutOfMemory>
+    ensures { OnOk result (count ≤ vec_capacity items.new) }
+{
+    items.clear();
+    items.reserve(count)?;
+    Ok(())
+}
+
+/// The business day after a command.
+fn today_after(today: Day, command: &Command) -> Day
+    ensures { result ≡ world.today_after today command.now }
+{
+    match *command {
+        Command::Day(day) => day,
+        _ => today,
+    }
+}

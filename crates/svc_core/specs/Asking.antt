@@ -1,0 +1,28 @@
+-- What the answers to queries stand on.
+use Rattle.std.specs.Prelude.{◌≡◌, ℕ, List, pos, ◌≤ℤ◌}
+use Rattle.std.specs.List.{All}
+use Rattle.svc_types.specs.declared.books.Installment.{Installment}
+use Rattle.escrow_analysis.specs.declared.analysis.Analysis.{Analysis}
+use Rattle.svc_loan.specs.Kept.{KeptLoan}
+
+-- each loan is on that business day
+abbrev pub AreOnDay : ℕ → List KeptLoan → Type 0
+AreOnDay today ks = All (λ (k : KeptLoan). k.held.account.today ≡ today) ks
+
+-- an installment whose parts are so small that an amount holds their sum
+pub record IsPayable (i : Installment) : Type 0 where
+  pub interest_low : pos 0 ≤ℤ i.interest
+  pub interest_high : i.interest ≤ℤ pos 208_333_333
+  pub principal_low : pos 0 ≤ℤ i.principal
+  pub principal_high : i.principal ≤ℤ pos 10_000_000_000
+  pub escrow_low : pos 0 ≤ℤ i.escrow
+  pub escrow_high : i.escrow ≤ℤ pos 300_000_000_000_000
+
+-- an analysis whose amounts are at most those of the largest bills that lines can have
+pub record IsSmallAnalysis (a : Analysis) : Type 0 where
+  pub base_low : pos 0 ≤ℤ a.base
+  pub base_high : a.base ≤ℤ pos 160_000_000_000
+  pub cushion_low : pos 0 ≤ℤ a.cushion
+  pub cushion_high : a.cushion ≤ℤ a.opening
+  pub opening_low : pos 0 ≤ℤ a.opening
+  pub opening_high : a.opening ≤ℤ pos 2_240_000_000_000
