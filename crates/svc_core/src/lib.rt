@@ -4,13 +4,16 @@
 mod analysing;
 mod boarding;
 mod cash;
+mod changing;
 mod closing;
+mod everyone;
 mod laws;
 mod others;
 mod posted;
 mod refusals;
 mod scope;
 mod state;
+mod taking_on;
 
 pub use laws::replies_are_known;
 pub use posted::Posted;

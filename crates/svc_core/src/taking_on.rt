@@ -1,0 +1,36 @@
+//! The world side of taking a loan on: a stub.
+
+ghost use Rattle.std.specs.Prelude.{◌≡◌, ◌+◌, ◌≤◌, None};
+ghost use Rattle.std.specs.List.{All};
+ghost use Rattle.svc_types.specs.Requests.{IsCommand};
+ghost use Rattle.svc_types.specs.declared.requests.Command.TheVariants.{Board};
+ghost use Rattle.svc_world.specs.Refusals.{refusal_of};
+ghost use Rattle.svc_world.specs.World.{after};
+ghost use Rattle.svc_core.specs.Cash.{IsKeptIn};
+ghost use Rattle.svc_core.specs.Ready.{IsBoarding};
+ghost use Rattle.svc_core.specs.State.{world_of, IsState};
+
+use crate::state::State;
+use svc_loan::Loan;
+use svc_replay::LoanBooks;
+use svc_types::Terms;
+
+pub(crate) fn change_new<B: LoanBooks>(
+    count: u32,
+    id: u32,
+    terms: &Terms,
+    loan: Box<Loan<B>>,
+    state: &mut State<B>,
+)
+    requires state { IsState count state.old.today state.old.loans state.old.seals }
+    requires command { IsCommand (Board id terms.now) }
+    requires fresh { refusal_of count (world_of state.old.today state.old.loans state.old.seals)
+        (Board id terms.now) ≡ None }
+    requires boarding { IsBoarding id terms.now state.old.today loan.value }
+    requires room { 1 ≤ state.old.loans.room }
+    ensures world { world_of state.new.today state.new.loans state.new.seals
+        ≡ after (count + 1) (world_of state.old.today state.old.loans state.old.seals) (Board id terms.now) }
+    ensures kept { All (IsKeptIn (world_of state.new.today state.new.loans state.new.seals)) state.new.loans.loans }
+{
+    state.loans.insert(loan);
+}
