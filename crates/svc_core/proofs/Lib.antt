@@ -2,3 +2,8 @@ pub mod PostedLemmas
 pub mod CashLemmas
 pub mod RuleLemmas
 pub mod AnalysingLemmas
+pub mod SameLemmas
+pub mod AppendLemmas
+pub mod PositionLemmas
+pub mod LineLemmas
+pub mod AcceptLemmas

@@ -5,3 +5,5 @@ pub mod Scope
 pub mod Ready
 pub mod Costs
 pub mod Rows
+pub mod Positions
+pub mod Appending
