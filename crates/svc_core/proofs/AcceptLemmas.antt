@@ -1,13 +1,15 @@
 -- What accepting a command does to rows and to the custodial line, from the worlds before and after it.
-use Rattle.std.proofs.Common.{◌≡◌, ℕ, ◌+◌, ◌≤◌, ◌<◌, List, [], ◌∷◌, ◌++◌, map, length, get_or, arith, refl, sym, ap, subst, ◌∙◌}
-use Rattle.std.specs.Prelude.{pos, ◌+ℤ◌, ◌-ℤ◌, Option, Some, None, MatchOption}
+use Rattle.std.proofs.Common.{◌≡◌, ℕ, ◌+◌, ◌≤◌, ◌<◌, List, [], ◌∷◌, ◌++◌, map, length, get_or, true, arith, refl, sym, ap, subst, ◌∙◌}
+use Rattle.std.specs.Prelude.{◌==◌, if◌then◌else◌, pos, ◌+ℤ◌, ◌-ℤ◌, Option, Some, None, MatchOption}
 use Rattle.std.specs.List.{All}
+use Rattle.std.proofs.lemmas.Bool.Decides.{nat_tests}
 use Rattle.std.proofs.lemmas.Int.{ints}
 use Rattle.std.proofs.lemmas.List.{length-map}
 use Rattle.std.specs.Option.{option_map}
 use Rattle.svc_base.specs.Sums.{total_by}
 use Rattle.svc_base.proofs.SumLemmas.{total_by-same}
 use Rattle.svc_types.specs.declared.account.Act.TheVariants as act
+use Rattle.svc_types.specs.declared.terms.Terms.{Terms}
 use Rattle.svc_types.specs.declared.requests.Command.{Command}
 use Rattle.svc_types.specs.declared.requests.Command.TheVariants as command
 use Rattle.svc_types.specs.Requests.{IsCommand}
@@ -197,3 +199,48 @@ accepted_one n id w v c ks P' rows custody x y is formed fresh one loans ready m
 
 pub later_world : (n : ℕ) (w v : World) (c : Command) → IsWorld n w → IsCommand c → refusal_of n w c ≡ None → v ≡ after (n + 1) w c → IsWorld (n + 1) v
 later_world n w v c is formed fresh made = subst (IsWorld (n + 1)) (sym made) (accepted_keeps n w c is formed fresh)
+
+-- ---- a loan that is taken on
+
+-- what taking a loan on does, where it may
+pub record IsTakenOn (n : ℕ) (l : Held) (w v : World) : Type 0 where
+  pub loans : v.loans ≡ with_loan l w.loans
+  pub new : find_loan l.id w.loans ≡ None
+  pub same : SameReports w v
+
+pub taken_on : (n id : ℕ) (w : World) (t : Terms) → refusal_of n w (command.Board id t) ≡ None → IsTakenOn n (boarded id t w.today) w (after (n + 1) w (command.Board id t))
+unfolding after loans_after seals_after
+taken_on n id w t fresh = record { loans = refl; new = (boarding n id t w fresh).new; same = record { reports = refl; remitted = refl } }
+
+new_later : (n : ℕ) (l : Held) (w v : World) (h : IsTakenOn n l w v) → position v (find_loan l.id v.loans) ≡ position_of v l
+new_later n l w v h =
+    ap (λ ls. position v (find_loan l.id ls)) h.loans
+    ∙ ap (position v) (find_boarded l.id l w.loans h.new)
+    ∙ (let is : (l.id == l.id) ≡ true = grind (arith, nat_tests) in ap (λ b. position v (if b then Some l else find_loan l.id w.loans)) is)
+
+new_added : (n : ℕ) (w v : World) (l : Held) (rows : List Row) (custody : Custody) (x y : Position) → IsWorld n w → IsWorld (n + 1) v → IsCash n w rows custody → IsTakenOn n l w v → x ≡ no_position → y ≡ position v (find_loan l.id v.loans) → IsPosition x → IsPosition y → IsAdded n l.id w v rows x y
+unfolding Brings
+new_added n w v l rows custody x y is later cash h xe ye xw yw =
+    let made : rows_made (n + 1) w v ≡ rows_of (n + 1) l.id x.totals y.totals =
+    ap (rows_between (n + 1) w v) h.loans
+    ∙ rows_boarded (n + 1) w v l w.loans h.same (all_found w.loans is.rising) h.new
+    ∙ ap (λ (z : Position). rows_of (n + 1) l.id z.totals (position_of v l).totals) (sym xe)
+    ∙ ap (λ (z : Position). rows_of (n + 1) l.id x.totals z.totals) (sym (ye ∙ new_later n l w v h)) in
+    record {
+      may = may_by n l.id w v rows custody x.totals y.totals later cash made (λ account. boarding_rows_are_cash account (n + 1) w v rows l is.rising h.loans h.new (accounts n w is) (accounts (n + 1) v later)) xw.all yw.all;
+      made = sym made;
+      line = sym (
+          custody_is v
+          ∙ ap (line_over v) h.loans
+          ∙ line_boarded w v l w.loans h.same
+          ∙ ap (λ (z : Custody). line_after z no_position (position_of v l)) (sym (custody_is w))
+          ∙ ap (λ z. line_after (custody_of w) z (position_of v l)) (sym xe)
+          ∙ ap (line_after (custody_of w) x) (sym (ye ∙ new_later n l w v h))
+      );
+    }
+
+pub accepted_new : (n id : ℕ) (w v : World) (t : Terms) (rows : List Row) (custody : Custody) (x y : Position) → IsWorld n w → IsCommand (command.Board id t) → refusal_of n w (command.Board id t) ≡ None → v ≡ after (n + 1) w (command.Board id t) → IsCash n w rows custody → x ≡ no_position → y ≡ position v (find_loan id v.loans) → IsPosition x → IsPosition y → IsAdded n id w v rows x y
+accepted_new n id w v t rows custody x y is formed fresh made cash xe ye xw yw =
+    let later = later_world n w v (command.Board id t) is formed fresh made in
+    let new = subst (IsTakenOn n (boarded id t w.today) w) (sym made) (taken_on n id w t fresh) in
+    new_added n w v (boarded id t w.today) rows custody x y is later cash new xe ye xw yw
