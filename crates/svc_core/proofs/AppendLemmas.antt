@@ -20,7 +20,14 @@ use Rattle.svc_world.specs.World.{World}
 use Rattle.svc_world.specs.Custody.{totals_of, totals_before, rows_between}
 use Rattle.svc_world.proofs.SumsWithin.{IsUpTo, total_up_to}
 use Rattle.svc_world.proofs.LoanListLemmas.{rises, IsFound, numbers_of}
-use Rattle.svc_world.proofs.CashLemmas.{rows_nil, rows_cons}
+use Rattle.svc_world.specs.Worlds.{IsLimited, AreReports}
+use Rattle.svc_world.proofs.CashLemmas.{cash_is_held, rows_nil, rows_cons}
+use Rattle.svc_world.proofs.RemittedLemmas.{held_within, totals_within}
+use Rattle.svc_loan.specs.Kept.{KeptLoan}
+use Rattle.svc_loan.specs.Loans.{held_in}
+use Rattle.svc_core.specs.declared.position.Position.{Position}
+use Rattle.svc_core.specs.Positions.{CanRead, position_of}
+use Rattle.svc_core.proofs.PositionLemmas.{held_limited}
 use Rattle.svc_core.specs.Appending.{MayAppend, rows_along, IsCashOf, MayAppendAll}
 
 -- ---- where rows stand
@@ -143,6 +150,13 @@ up_to account xs h = total_up_to 40_960_000_000_000 (cash_of account) xs (λ k d
 later_up_to : (account : Account) (w : World) (ls : List Held) → All (λ (l : Held). IsCashOf account (totals_of w l)) ls → IsUpTo (40_960_000_000_000 * length ls) (total_by (later_cash account w) ls)
 later_up_to account w ls h = total_up_to 40_960_000_000_000 (later_cash account w) ls (λ k d lt. (let x = h k d lt in record { low = x.low; high = x.high }))
 
+pub cash_within : (account : Account) (w : World) (l : Held) → IsLimited l.account → AreReports w → IsCashOf account (totals_of w l)
+cash_within account w l h r =
+    let held = held_within account w l h r in
+    let low = held.low in let high = held.high in
+    let same = cash_is_held account w l h.account in
+    record { low = omega (arith, ints, low, same); high = omega (arith, ints, high, same) }
+
 -- all loans after a command: their totals are such as a loan may have, and so is the cash of each
 pub record AreLater (w : World) : Type 0 where
   pub few : length w.loans ≤ 12_000
@@ -200,3 +214,36 @@ may_append_at n w xs rows i d e later may lt =
       t = balance_at T n w xs rows i d e later may lt;
       p = balance_at P n w xs rows i d e later may lt;
     }
+
+-- ---- a loop over all loans
+
+pub are_later : (w : World) (ks : List KeptLoan) → CanRead w ks → w.loans ≡ held_in ks → AreLater w
+are_later w ks h same =
+    let limited = subst (All (λ (l : Held). IsLimited l.account)) (sym same) (held_limited ks h.limited) in
+    let few = h.few in
+    record {
+      few = (let count = ap length same ∙ length-map ks (λ (k : KeptLoan). k.held) in omega (arith, few, count));
+      each = λ k d lt. totals_within w _ (limited k d lt) h.reports;
+      cash = λ account k d lt. cash_within account w _ (limited k d lt) h.reports;
+    }
+
+-- the rows of the loan at a place may be added, and then those of all loans up to it are there
+pub may_append_here : (n id : ℕ) (w : World) (xs : List Totals) (rows now : List Row) (i : ℕ) (d : Totals) (e : Held) (x : Position) → AreLater w → MayAppendAll n w xs rows → i < length w.loans → id ≡ (get_or w.loans i e).id → now ≡ rows ++ rows_along n w (take i xs) (take i w.loans) → x ≡ position_of w (get_or w.loans i e) → MayAppend n id now (get_or xs i d) x.totals
+may_append_here n id w xs rows now i d e x later may lt number are is =
+    let y = get_or xs i d in
+    let done = rows ++ rows_along n w (take i xs) (take i w.loans) in
+    subst (λ j. MayAppend n j now y x.totals) (sym number)
+    (subst (λ rs. MayAppend n (get_or w.loans i e).id rs y x.totals) (sym are)
+        (subst (λ (z : Position). MayAppend n (get_or w.loans i e).id done y z.totals) (sym is) (may_append_at n w xs rows i d e later may lt)))
+
+pub rows_here : (n id : ℕ) (w : World) (xs : List Totals) (rows now next : List Row) (i : ℕ) (d : Totals) (e : Held) (x : Position) → MayAppendAll n w xs rows → i < length w.loans → id ≡ (get_or w.loans i e).id → now ≡ rows ++ rows_along n w (take i xs) (take i w.loans) → x ≡ position_of w (get_or w.loans i e) → next ≡ now ++ rows_of n id (get_or xs i d) x.totals → next ≡ rows ++ rows_along n w (take (i + 1) xs) (take (i + 1) w.loans)
+rows_here n id w xs rows now next i d e x may lt number are is added =
+    let y = get_or xs i d in
+    let done = rows_along n w (take i xs) (take i w.loans) in
+    let count = may.count in
+    added
+    ∙ ap (λ rs. rs ++ rows_of n id y x.totals) are
+    ∙ ap (λ j. (rows ++ done) ++ rows_of n j y x.totals) number
+    ∙ ap (λ (z : Position). (rows ++ done) ++ rows_of n (get_or w.loans i e).id y z.totals) is
+    ∙ append_assoc rows done (rows_of n (get_or w.loans i e).id y (totals_of w (get_or w.loans i e)))
+    ∙ ap (λ rs. rows ++ rs) (sym (along_more n w xs w.loans i d e (omega arith) lt))
