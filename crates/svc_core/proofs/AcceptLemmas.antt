@@ -5,9 +5,10 @@ use Rattle.std.specs.List.{All}
 use Rattle.std.proofs.lemmas.Bool.Decides.{nat_tests}
 use Rattle.std.proofs.lemmas.Int.{ints}
 use Rattle.std.proofs.lemmas.List.{length-map}
+use Rattle.std.proofs.lemmas.List.Elements.{All-map}
 use Rattle.std.specs.Option.{option_map}
 use Rattle.svc_base.specs.Sums.{total_by}
-use Rattle.svc_base.proofs.SumLemmas.{total_by-same}
+use Rattle.svc_base.proofs.SumLemmas.{total_by-same, total_by-map}
 use Rattle.svc_types.specs.declared.account.Act.TheVariants as act
 use Rattle.svc_types.specs.declared.terms.Terms.{Terms}
 use Rattle.svc_types.specs.declared.requests.Command.{Command}
@@ -36,7 +37,7 @@ use Rattle.svc_loan.specs.Kept.{KeptLoan}
 use Rattle.svc_loan.specs.Loans.{find_kept, OfLoan, held_in}
 use Rattle.svc_core.specs.declared.position.Position.{Position}
 use Rattle.svc_core.specs.declared.scope.Scope.TheVariants as scope
-use Rattle.svc_core.specs.Appending.{MayAppend, MayAppendAll, IsCashOf}
+use Rattle.svc_core.specs.Appending.{MayAppend, MayAppendAll, IsCashOf, rows_along}
 use Rattle.svc_core.specs.Cash.{IsKeptIn}
 use Rattle.svc_core.specs.Positions.{CanRead, IsPosition, IsLine, position, position_of, no_position, line_after}
 use Rattle.svc_core.specs.Rows.{IsCash}
@@ -45,7 +46,7 @@ use Rattle.svc_core.proofs.RuleLemmas.{find-held}
 use Rattle.svc_core.proofs.SameLemmas.{SameReports, rows_changed, rows_boarded}
 use Rattle.svc_core.proofs.PositionLemmas.{all_held, position_within}
 use Rattle.svc_core.proofs.LineLemmas.{line_over, custody_is, line_within, line_changed, line_boarded}
-use Rattle.svc_core.proofs.AppendLemmas.{next_after, earlier_before, AreLater}
+use Rattle.svc_core.proofs.AppendLemmas.{next_after, earlier_before, cash_within, along_is}
 
 -- ---- the loans of a sound world can be read, and the line lies within the limits
 
@@ -244,3 +245,56 @@ accepted_new n id w v t rows custody x y is formed fresh made cash xe ye xw yw =
     let later = later_world n w v (command.Board id t) is formed fresh made in
     let new = subst (IsTakenOn n (boarded id t w.today) w) (sym made) (taken_on n id w t fresh) in
     new_added n w v (boarded id t w.today) rows custody x y is later cash new xe ye xw yw
+
+-- ---- a command on all loans
+
+pub every_numbers : (n : ℕ) (w : World) (c : Command) → scope_of c ≡ scope.Every → numbers_of (after n w c).loans ≡ numbers_of w.loans
+unfolding after loans_after
+every_numbers n w (command.Day d) is = mapped_numbers (on_day d) w.loans (λ k. refl)
+every_numbers n w (command.Board i t) is = absurd (cc)
+every_numbers n w (command.Pay i d c over) is = absurd (cc)
+every_numbers n w (command.Curtail i d c) is = absurd (cc)
+every_numbers n w (command.Payoff i d c) is = absurd (cc)
+every_numbers n w (command.Deposit i d c) is = absurd (cc)
+every_numbers n w (command.Disburse i d c line) is = absurd (cc)
+every_numbers n w (command.Refund i c) is = absurd (cc)
+every_numbers n w (command.Waive i c) is = absurd (cc)
+every_numbers n w (command.Reverse i number) is = absurd (cc)
+every_numbers n w (command.Line i line kind month every c) is = absurd (cc)
+every_numbers n w (command.Drop i line) is = absurd (cc)
+every_numbers n w (command.Analyse i plan) is = absurd (cc)
+every_numbers n w (command.Close p) is = refl
+every_numbers n w (command.Remit p) is = refl
+every_numbers n w (command.Retype i from kind) is = absurd (cc)
+
+-- the cash of the totals before it is what the accounts held
+totals_cash : (account : CashAccount) (n : ℕ) (w : World) → IsWorld n w → total_by (cash_of account) (map (totals_of w) w.loans) ≡ total_by (holds account w) w.loans
+totals_cash account n w is = total_by-map (cash_of account) (totals_of w) w.loans ∙ held_sum account w w.loans (accounts n w is)
+
+may_append_all : (n : ℕ) (w v : World) (rows : List Row) (custody : Custody) → IsWorld n w → IsWorld (n + 1) v → IsCash n w rows custody → numbers_of v.loans ≡ numbers_of w.loans → MayAppendAll (n + 1) v (map (totals_of w) w.loans) rows
+may_append_all n w v rows custody is later cash numbers = record {
+  count = length-map w.loans (totals_of w) ∙ sym (length_by v.loans w.loans numbers);
+  rising = later.rising;
+  earlier = earlier n rows cash.numbers;
+  each = All-map AreTotals (totals_of w) w.loans (λ k d lt. totals_within w _ (limited_held n w is k d lt) is.reports);
+  cash = λ account. All-map (IsCashOf account) (totals_of w) w.loans (λ k d lt. cash_within account w _ (limited_held n w is k d lt) is.reports);
+  balances = λ account. balances account n w rows custody cash ∙ sym (totals_cash account n w is);
+}
+
+-- what adding the rows of a command on all loans asks, and what it leaves
+pub record AreAdded (n : ℕ) (w v : World) (rows : List Row) (xs : List Totals) : Type 0 where
+  pub later : IsWorld (n + 1) v
+  pub may : MayAppendAll (n + 1) v xs rows
+  pub made : rows_along (n + 1) v xs v.loans ≡ rows_made (n + 1) w v
+  pub count : length v.loans ≡ length w.loans
+
+pub accepted_all : (n : ℕ) (w v : World) (c : Command) (rows : List Row) (custody : Custody) (xs : List Totals) → IsWorld n w → IsCommand c → refusal_of n w c ≡ None → scope_of c ≡ scope.Every → v ≡ after (n + 1) w c → IsCash n w rows custody → xs ≡ map (totals_of w) w.loans → AreAdded n w v rows xs
+accepted_all n w v c rows custody xs is formed fresh every made cash totals =
+    let later = later_world n w v c is formed fresh made in
+    let numbers : numbers_of v.loans ≡ numbers_of w.loans = ap (λ (x : World). numbers_of x.loans) made ∙ every_numbers (n + 1) w c every in
+    record {
+      later = later;
+      may = subst (λ ts. MayAppendAll (n + 1) v ts rows) (sym totals) (may_append_all n w v rows custody is later cash numbers);
+      made = ap (λ ts. rows_along (n + 1) v ts v.loans) totals ∙ along_is (n + 1) w v w.loans v.loans numbers (all_found w.loans is.rising);
+      count = length_by v.loans w.loans numbers;
+    }
