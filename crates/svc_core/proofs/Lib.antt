@@ -5,6 +5,7 @@ pub mod AnalysingLemmas
 <<<<<<< HEAD
 <<<<<<< HEAD
 <<<<<<< HEAD
+<<<<<<< HEAD
 pub mod CoreLemmas
 pub mod PartsLemmas
 pub mod BoundLemmas
@@ -31,3 +32,10 @@ pub mod ClosingWorlds
 pub mod ReadyLemmas
 pub mod AskLemmas
 >>>>>>> hD
+=======
+pub mod SameLemmas
+pub mod AppendLemmas
+pub mod PositionLemmas
+pub mod LineLemmas
+pub mod AcceptLemmas
+>>>>>>> hC

@@ -30,6 +30,9 @@ held_at remitted k = pi_held (collected (books_now k.held)) k.remitted (is_settl
 abbrev pub advanced_at : Option ℕ → KeptLoan → ℤ
 advanced_at remitted k = pi_advanced (collected (books_now k.held)) k.remitted (is_settled_at remitted k)
 
+abbrev pub residual_at : Option ℕ → KeptLoan → ℤ
+residual_at remitted k = pi_residual (collected (books_now k.held)) k.remitted (is_settled_at remitted k)
+
 -- its total of each part
 unfoldable pub totals_at : Option ℕ → KeptLoan → Totals
 totals_at remitted k = record {
@@ -43,7 +46,7 @@ totals_at remitted k = record {
   pi_advance = advanced_at remitted k;
   escrow_advance = escrow_advanced (books_now k.held).escrow;
   remitted = k.remitted;
-  residual = pi_residual (collected (books_now k.held)) k.remitted (is_settled_at remitted k);
+  residual = residual_at remitted k;
 }
 
 -- a loan is kept as a world has it: what was remitted for it, and the months that are closed from its boarded one on

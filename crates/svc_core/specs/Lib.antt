@@ -8,6 +8,7 @@ pub mod Rows
 <<<<<<< HEAD
 <<<<<<< HEAD
 <<<<<<< HEAD
+<<<<<<< HEAD
 pub mod Rules
 pub mod Core
 pub mod Bound
@@ -21,3 +22,7 @@ pub mod Reported
 pub mod Preparing
 pub mod Asking
 >>>>>>> hD
+=======
+pub mod Positions
+pub mod Appending
+>>>>>>> hC

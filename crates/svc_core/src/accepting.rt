@@ -1,72 +1,199 @@
-//! stub
-ghost use Rattle.std.specs.Prelude.{◌≡◌, ◌+◌, ◌≤◌, ◌++◌, length, None, Some, OnOk, IfErr, IfOk, vec_capacity};
-ghost use Rattle.std.specs.Option.{option_map};
+//! The cash side of accepting a command: its rows, and the custodial line after it.
+
+ghost use Rattle.std.specs.Prelude.{◌≡◌, ◌+◌, ◌*◌, ◌≤◌, None, ◌++◌, length, map, vec_capacity};
 ghost use Rattle.std.specs.List.{All};
-ghost use Rattle.svc_types.specs.declared.requests.Command.TheVariants as command;
-ghost use Rattle.svc_types.specs.Requests.{IsCommand, IsQuery};
-ghost use Rattle.svc_world.specs.World.{after, today_after};
-ghost use Rattle.svc_world.specs.Refusals.{refusal_of, query_refusal};
-ghost use Rattle.svc_world.specs.Answers.{answer_to};
+ghost use Rattle.svc_types.specs.declared.requests.Command.TheVariants.{Board};
+ghost use Rattle.svc_types.specs.Requests.{IsCommand};
+ghost use Rattle.custodial_book.specs.Rows.{rows_of};
+ghost use Rattle.svc_world.specs.Custody.{custody_of, rows_made, totals_of};
 ghost use Rattle.svc_world.specs.Judging.{extra_of};
-ghost use Rattle.svc_world.specs.Custody.{rows_made, custody_of};
+ghost use Rattle.svc_world.specs.Refusals.{refusal_of};
+ghost use Rattle.svc_world.specs.World.{after, today_after};
+ghost use Rattle.svc_loan.specs.Loans.{held_in};
+ghost use Rattle.svc_core.specs.Appending.{MayAppend, MayAppendAll, rows_along};
 ghost use Rattle.svc_core.specs.Cash.{IsKeptIn};
-ghost use Rattle.svc_core.specs.State.{world_of, IsState};
+ghost use Rattle.svc_core.specs.Costs.{accepting_cost};
+ghost use Rattle.svc_core.specs.Positions as rule;
+ghost use Rattle.svc_core.specs.Positions.{CanRead, IsLine, IsPosition};
+ghost use Rattle.svc_core.specs.Ready.{HasRoomForOne, HasRoomForNew, HasRoomForAll, IsBoarding};
 ghost use Rattle.svc_core.specs.Rows.{IsCash};
 ghost use Rattle.svc_core.specs.Scope.{scope_of};
-ghost use Rattle.svc_core.specs.Ready.{HasRoomForOne, HasRoomForNew, HasRoomForAll, IsBoarding, IsReadyFor};
-ghost use Rattle.svc_core.specs.Costs.{accepting_cost, preparing_cost, asking_cost};
+ghost use Rattle.svc_core.specs.State.{world_of, IsState};
+ghost use Rattle.svc_core.specs.declared.scope.Scope.TheVariants as scope;
 
-use crate::fault::CoreFault;
-use crate::scope::Scope;
+use crate::changing::change_one;
+use crate::custody_line::{line_after, whole_line};
+use crate::everyone::change_all;
+use crate::position::{Position, no_position, position_at, position_of};
 use crate::state::{Cash, Scratch, State};
-use std::alloc::Global;
+use crate::taking_on::change_new;
+use custodial_book::{Book, Totals};
 use std::sync::ledger::Ledger;
-use svc_base::{OutOfMemory, Steps};
+use svc_base::Steps;
 use svc_loan::Loan;
 use svc_replay::LoanBooks;
-use svc_types::{Command, Extra, Query, Terms};
-use svc_world::Answer;
+use svc_types::{Command, Extra, Terms};
 
-pub(crate) fn accept_one<B: LoanBooks, L: Ledger>(count: u32, id: u32, command: &Command, state: &mut State<B>, cash: &mut Cash, scratch: &mut Scratch, steps: &mut Steps<L>) -> Extra
+/// Accepts a command on one loan, for which there is room: changes the loan, adds the command's rows, and moves the
+/// custodial line. Before it `count` commands were accepted.
+pub(crate) fn accept_one<B: LoanBooks, L: Ledger>(
+    count: u32,
+    id: u32,
+    command: &Command,
+    state: &mut State<B>,
+    cash: &mut Cash,
+    scratch: &mut Scratch,
+    steps: &mut Steps<L>,
+) -> Extra
     requires state { IsState count state.old.today state.old.loans state.old.seals }
-    requires cash { IsCash count (world_of state.old.today state.old.loans state.old.seals) cash.old.book.rows cash.old.custody }
     requires command { IsCommand command.now }
+    requires scope { scope_of command.now ≡ scope.One id }
     requires fresh { refusal_of count (world_of state.old.today state.old.loans state.old.seals) command.now ≡ None }
-    requires scope { scope_of command.now ≡ Scope.One id }
-    requires room { HasRoomForOne id state.old.today state.old.loans state.old.seals cash.old.book.spare (vec_capacity scratch.old.dues) }
-    ensures world { world_of state.new.today state.new.loans state.new.seals ≡ after (count + 1) (world_of state.old.today state.old.loans state.old.seals) command.now }
+    requires room { HasRoomForOne id state.old.today state.old.loans state.old.seals cash.old.book.spare
+        (vec_capacity scratch.old.dues) }
+    requires cash { IsCash count (world_of state.old.today state.old.loans state.old.seals)
+        cash.old.book.rows cash.old.custody }
+    ensures world { world_of state.new.today state.new.loans state.new.seals
+        ≡ after (count + 1) (world_of state.old.today state.old.loans state.old.seals) command.now }
     ensures kept { All (IsKeptIn (world_of state.new.today state.new.loans state.new.seals)) state.new.loans.loans }
-    ensures extra { result ≡ extra_of (world_of state.old.today state.old.loans state.old.seals) (after (count + 1) (world_of state.old.today state.old.loans state.old.seals) command.now) command.now }
-    ensures rows { cash.new.book.rows ≡ cash.old.book.rows ++ rows_made (count + 1) (world_of state.old.today state.old.loans state.old.seals) (world_of state.new.today state.new.loans state.new.seals) }
+    ensures extra { result ≡ extra_of (world_of state.old.today state.old.loans state.old.seals)
+        (after (count + 1) (world_of state.old.today state.old.loans state.old.seals) command.now) command.now }
+    ensures steps { steps.new ≤ steps.old + accepting_cost B.cost B.month_cost
+        (world_of state.old.today state.old.loans state.old.seals)
+        (world_of state.new.today state.new.loans state.new.seals) command.now }
+    ensures rows { cash.new.book.rows ≡ cash.old.book.rows
+        ++ rows_made (count + 1) (world_of state.old.today state.old.loans state.old.seals)
+        (world_of state.new.today state.new.loans state.new.seals) }
     ensures custody { cash.new.custody ≡ custody_of (world_of state.new.today state.new.loans state.new.seals) }
-    ensures steps { steps.new ≤ steps.old + accepting_cost B.cost B.month_cost (world_of state.old.today state.old.loans state.old.seals) (world_of state.new.today state.new.loans state.new.seals) command.now }
-{ Extra::Plain }
+{
+    let before = position_of(state, id);
+    let extra = change_one(count, id, command, state, &mut scratch.dues, steps);
+    let later = position_of(state, id);
+    add(cash, count + 1, id, &before, &later);
+    extra
+}
 
-pub(crate) fn accept_new<B: LoanBooks>(count: u32, id: u32, terms: &Terms, loan: Box<Loan<B>>, state: &mut State<B>, cash: &mut Cash) -> Extra
+/// Accepts the command that takes a loan on, for which there is room: puts it among the others, adds the command's
+/// rows, and moves the custodial line.
+pub(crate) fn accept_new<B: LoanBooks>(
+    count: u32,
+    id: u32,
+    terms: &Terms,
+    loan: Box<Loan<B>>,
+    state: &mut State<B>,
+    cash: &mut Cash,
+)
     requires state { IsState count state.old.today state.old.loans state.old.seals }
-    requires cash { IsCash count (world_of state.old.today state.old.loans state.old.seals) cash.old.book.rows cash.old.custody }
-    requires command { IsCommand (command.Board id terms.now) }
-    requires fresh { refusal_of count (world_of state.old.today state.old.loans state.old.seals) (command.Board id terms.now) ≡ None }
-    requires room { HasRoomForNew state.old.loans cash.old.book.spare }
+    requires command { IsCommand (Board id terms.now) }
+    requires fresh { refusal_of count (world_of state.old.today state.old.loans state.old.seals)
+        (Board id terms.now) ≡ None }
     requires boarding { IsBoarding id terms.now state.old.today loan.value }
-    ensures world { world_of state.new.today state.new.loans state.new.seals ≡ after (count + 1) (world_of state.old.today state.old.loans state.old.seals) (command.Board id terms.now) }
+    requires room { HasRoomForNew state.old.loans cash.old.book.spare }
+    requires cash { IsCash count (world_of state.old.today state.old.loans state.old.seals)
+        cash.old.book.rows cash.old.custody }
+    ensures world { world_of state.new.today state.new.loans state.new.seals
+        ≡ after (count + 1) (world_of state.old.today state.old.loans state.old.seals) (Board id terms.now) }
     ensures kept { All (IsKeptIn (world_of state.new.today state.new.loans state.new.seals)) state.new.loans.loans }
-    ensures extra { result ≡ extra_of (world_of state.old.today state.old.loans state.old.seals) (after (count + 1) (world_of state.old.today state.old.loans state.old.seals) (command.Board id terms.now)) (command.Board id terms.now) }
-    ensures rows { cash.new.book.rows ≡ cash.old.book.rows ++ rows_made (count + 1) (world_of state.old.today state.old.loans state.old.seals) (world_of state.new.today state.new.loans state.new.seals) }
+    ensures rows { cash.new.book.rows ≡ cash.old.book.rows
+        ++ rows_made (count + 1) (world_of state.old.today state.old.loans state.old.seals)
+        (world_of state.new.today state.new.loans state.new.seals) }
     ensures custody { cash.new.custody ≡ custody_of (world_of state.new.today state.new.loans state.new.seals) }
-{ Extra::Plain }
+{
+    change_new(count, id, terms, loan, state);
+    let later = position_of(state, id);
+    add(cash, count + 1, id, &no_position(), &later);
+}
 
-pub(crate) fn accept_all<B: LoanBooks, L: Ledger>(count: u32, command: &Command, state: &mut State<B>, cash: &mut Cash, scratch: &mut Scratch, steps: &mut Steps<L>) -> Extra
+/// Accepts a command on all loans, for which there is room: changes them, adds the command's rows, and sums the
+/// custodial line anew.
+pub(crate) fn accept_all<B: LoanBooks, L: Ledger>(
+    count: u32,
+    command: &Command,
+    state: &mut State<B>,
+    cash: &mut Cash,
+    scratch: &mut Scratch,
+    steps: &mut Steps<L>,
+) -> Extra
     requires state { IsState count state.old.today state.old.loans state.old.seals }
-    requires cash { IsCash count (world_of state.old.today state.old.loans state.old.seals) cash.old.book.rows cash.old.custody }
     requires command { IsCommand command.now }
+    requires scope { scope_of command.now ≡ scope.Every }
     requires fresh { refusal_of count (world_of state.old.today state.old.loans state.old.seals) command.now ≡ None }
-    requires scope { scope_of command.now ≡ Scope.Every }
-    requires room { HasRoomForAll (today_after state.old.today command.now) state.old.loans state.old.seals cash.old.book.spare (vec_capacity scratch.old.totals) (vec_capacity scratch.old.lines) }
-    ensures world { world_of state.new.today state.new.loans state.new.seals ≡ after (count + 1) (world_of state.old.today state.old.loans state.old.seals) command.now }
+    requires room { HasRoomForAll (today_after state.old.today command.now) state.old.loans state.old.seals
+        cash.old.book.spare (vec_capacity scratch.old.totals) (vec_capacity scratch.old.lines) }
+    requires cash { IsCash count (world_of state.old.today state.old.loans state.old.seals)
+        cash.old.book.rows cash.old.custody }
+    ensures world { world_of state.new.today state.new.loans state.new.seals
+        ≡ after (count + 1) (world_of state.old.today state.old.loans state.old.seals) command.now }
     ensures kept { All (IsKeptIn (world_of state.new.today state.new.loans state.new.seals)) state.new.loans.loans }
-    ensures extra { result ≡ extra_of (world_of state.old.today state.old.loans state.old.seals) (after (count + 1) (world_of state.old.today state.old.loans state.old.seals) command.now) command.now }
-    ensures rows { cash.new.book.rows ≡ cash.old.book.rows ++ rows_made (count + 1) (world_of state.old.today state.old.loans state.old.seals) (world_of state.new.today state.new.loans state.new.seals) }
+    ensures extra { result ≡ extra_of (world_of state.old.today state.old.loans state.old.seals)
+        (after (count + 1) (world_of state.old.today state.old.loans state.old.seals) command.now) command.now }
+    ensures steps { steps.new ≤ steps.old + accepting_cost B.cost B.month_cost
+        (world_of state.old.today state.old.loans state.old.seals)
+        (world_of state.new.today state.new.loans state.new.seals) command.now }
+    ensures rows { cash.new.book.rows ≡ cash.old.book.rows
+        ++ rows_made (count + 1) (world_of state.old.today state.old.loans state.old.seals)
+        (world_of state.new.today state.new.loans state.new.seals) }
     ensures custody { cash.new.custody ≡ custody_of (world_of state.new.today state.new.loans state.new.seals) }
-    ensures steps { steps.new ≤ steps.old + accepting_cost B.cost B.month_cost (world_of state.old.today state.old.loans state.old.seals) (world_of state.new.today state.new.loans state.new.seals) command.now }
-{ Extra::Plain }
+{
+    collect(state, &mut scratch.totals);
+    let extra = change_all(count, command, state, &mut scratch.lines, steps);
+    append_all(&mut cash.book, count + 1, state, &scratch.totals);
+    cash.custody = whole_line(state);
+    extra
+}
+
+/// Adds the rows of a command for a loan, and moves the custodial line by what its position changed by.
+fn add(cash: &mut Cash, number: u32, loan: u32, before: &Position, later: &Position)
+    requires may { MayAppend number loan cash.old.book.rows before.now.totals later.now.totals }
+    requires room { 11 ≤ cash.old.book.spare }
+    requires line { IsLine cash.old.custody }
+    requires before { IsPosition before.now }
+    requires later { IsPosition later.now }
+    ensures rows { cash.new.book.rows
+        ≡ cash.old.book.rows ++ rows_of number loan before.now.totals later.now.totals }
+    ensures custody { cash.new.custody ≡ rule.line_after cash.old.custody before.now later.now }
+{
+    append_one(&mut cash.book, number, loan, &before.totals, &later.totals);
+    cash.custody = line_after(&cash.custody, before, later);
+}
+
+/// Adds the rows of a command for a loan, for which there is room.
+fn append_one(book: &mut Book, number: u32, loan: u32, before: &Totals, later: &Totals)
+    requires may { MayAppend number loan book.old.rows before.now later.now }
+    requires room { 11 ≤ book.old.spare }
+    ensures rows { book.new.rows ≡ book.old.rows ++ rows_of number loan before.now later.now }
+    ensures room { book.old.spare ≤ book.new.spare + 11 }
+{
+    match book.append(number, loan, before, later) {
+        Ok(()) => {}
+        Err(_) => unreachable!(),
+    }
+}
+
+/// The totals that all loans have, in the order of numbers.
+fn collect<B: LoanBooks>(state: &State<B>, totals: &mut Vec<Totals>)
+    requires read { CanRead (world_of state.now.today state.now.loans state.now.seals) state.now.loans.loans }
+    requires room { length state.now.loans.loans ≤ vec_capacity totals.old }
+    ensures { totals.new.items ≡ map (totals_of (world_of state.now.today state.now.loans state.now.seals))
+        (held_in state.now.loans.loans) }
+{
+    totals.clear();
+    for i in 0..state.loans.len() {
+        totals.push_reserved(position_at(state, i).totals);
+    }
+}
+
+/// Adds the rows of a command for all loans, by the totals that they had before it.
+fn append_all<B: LoanBooks>(book: &mut Book, number: u32, state: &State<B>, totals: &[Totals])
+    requires read { CanRead (world_of state.now.today state.now.loans state.now.seals) state.now.loans.loans }
+    requires may { MayAppendAll number (world_of state.now.today state.now.loans state.now.seals)
+        totals.now book.old.rows }
+    requires room { 11 * length state.now.loans.loans ≤ book.old.spare }
+    ensures { book.new.rows ≡ book.old.rows ++ rows_along number
+        (world_of state.now.today state.now.loans state.now.seals) totals.now (held_in state.now.loans.loans) }
+{
+    for i in 0..state.loans.len() {
+        let id = state.loans.at(i).id();
+        append_one(book, number, id, &totals[i], &position_at(state, i).totals);
+    }
+}

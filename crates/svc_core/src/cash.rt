@@ -6,7 +6,9 @@ ghost use Rattle.svc_world.specs.Custody as custody;
 ghost use Rattle.svc_world.specs.Worlds.{IsLimited};
 ghost use Rattle.svc_loan.specs.Moved.{moved_of};
 ghost use Rattle.svc_core.specs.Cash as rule;
+ghost use Rattle.svc_core.specs.Positions.{position_at};
 
+use crate::position::Position;
 use advance_book::{PiPosition, escrow_position, position};
 use custodial_book::Totals;
 use svc_base::{Cents, Day, Month, month_of};
@@ -14,17 +16,32 @@ use svc_loan::{Loan, Moved};
 use svc_replay::LoanBooks;
 use svc_types::Books;
 
-/// A loan's total of each part of custodial cash, in cents, where that month was remitted last.
-#[tactic(auto, unfolding(crate::specs::Cash::totals_at))]
-pub(crate) fn totals_of<B: LoanBooks>(loan: &Loan<B>, remitted: Option<Month>) -> Totals
+/// What custody holds for a loan, in cents, where that month was remitted last.
+pub(crate) fn kept_position<B: LoanBooks>(loan: &Loan<B>, remitted: Option<Month>) -> Position
     requires limited { IsLimited loan.now.held.account }
     requires remitted { IsSum loan.now.remitted }
-    ensures { result ≡ rule.totals_at remitted loan.now }
+    ensures { result ≡ position_at remitted loan.now }
 {
     let books = loan.now();
+    let pi = pi_of(loan, remitted);
+    Position {
+        totals: totals(loan.moved(), books, loan.remitted(), pi),
+        suspense: books.suspense,
+        escrow: books.escrow,
+        held: pi.held,
+    }
+}
+
+/// Where a loan's principal and interest stand, where that month was remitted last.
+fn pi_of<B: LoanBooks>(loan: &Loan<B>, remitted: Option<Month>) -> PiPosition
+    requires limited { IsLimited loan.now.held.account }
+    requires remitted { IsSum loan.now.remitted }
+    ensures held { result.held ≡ rule.held_at remitted loan.now }
+    ensures advanced { result.advanced ≡ rule.advanced_at remitted loan.now }
+    ensures residual { result.residual ≡ rule.residual_at remitted loan.now }
+{
     let settled = is_settled(loan, remitted);
-    let pi = position(collected(books), loan.remitted(), settled);
-    totals(loan.moved(), books, loan.remitted(), pi)
+    position(collected(loan.now()), loan.remitted(), settled)
 }
 
 /// The totals of a loan by its parts.

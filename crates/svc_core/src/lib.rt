@@ -11,6 +11,7 @@ mod closing;
 <<<<<<< HEAD
 <<<<<<< HEAD
 <<<<<<< HEAD
+<<<<<<< HEAD
 mod fault;
 =======
 mod entering;
@@ -25,6 +26,13 @@ mod fault;
 mod laws;
 mod others;
 mod parts;
+=======
+mod custody_line;
+mod everyone;
+mod laws;
+mod others;
+mod position;
+>>>>>>> hC
 mod posted;
 mod preparing;
 mod refusals;
@@ -39,10 +47,14 @@ mod sent;
 >>>>>>> hB
 mod state;
 <<<<<<< HEAD
+<<<<<<< HEAD
 mod verdict;
 =======
 mod taking_on;
 >>>>>>> hA
+=======
+mod taking_on;
+>>>>>>> hC
 
 pub use fault::CoreFault;
 pub use laws::replies_are_known;

@@ -1,0 +1,168 @@
+-- The numbers of the custodial line.
+use Rattle.std.proofs.Common.{◌≡◌, ℕ, zero, suc, ◌+◌, ◌*◌, ◌≤◌, ◌<◌, List, [], ◌∷◌, length, take, get_or, ℤ, pos, neg_ℤ, ◌+ℤ◌, ◌-ℤ◌, ◌≤ℤ◌, w64, to_z, of_z, arith, refl, sym, ap, ◌∙◌}
+use Rattle.std.specs.Prelude.{Some}
+use Rattle.std.specs.List.{All}
+use Rattle.std.proofs.lemmas.Int.{ints}
+use Rattle.std.proofs.lemmas.List.Elements.{All-head, All-tail}
+use Rattle.svc_base.specs.Sums.{total_by}
+use Rattle.svc_base.proofs.SumLemmas.{total_by-same}
+use Rattle.svc_base.proofs.CentsRules.{cents}
+use Rattle.advance_book.specs.Positions.{escrow_advanced}
+use Rattle.svc_world.specs.declared.custody.Custody.{Custody}
+use Rattle.svc_world.specs.Held.{Held, find_loan, with_loan, changed, books_now}
+use Rattle.svc_world.specs.World.{World}
+use Rattle.svc_world.specs.Custody.{totals_of, held_for, advanced_for, borrower_cash, custody_of}
+use Rattle.svc_world.proofs.CashLemmas.{sum_with_loan}
+use Rattle.svc_loan.proofs.ClosedLemmas.{cents_same}
+use Rattle.svc_core.specs.Positions.{IsHolding, IsPosition, IsLinePart, IsLineSum, IsLine, position_of, no_position, line_after}
+use Rattle.svc_core.proofs.SameLemmas.{SameReports, held_same, advanced_same, sum_changed}
+
+abbrev lined : ℤ → ℤ → ℤ → ℤ → ℤ → ℤ → ℤ → Custody
+lined t p s e a h i = record { t = t; p = p; suspense = s; escrow = e; escrow_advance = a; held = h; pi_advance = i }
+
+pub same_line : {t t' p p' s s' e e' a a' h h' i i' : ℤ} → t ≡ t' → p ≡ p' → s ≡ s' → e ≡ e' → a ≡ a' → h ≡ h' → i ≡ i' → lined t p s e a h i ≡ lined t' p' s' e' a' h' i'
+same_line q r u v w x y = rw (q, r, u, v, w, x, y) refl
+
+-- ---- as they are passed on
+
+sum_same : (z : ℤ) → neg_ℤ (pos 5_000_000_000_000_000_000) ≤ℤ z → z ≤ℤ pos 5_000_000_000_000_000_000 → to_z w64 (of_z w64 z) ≡ z
+sum_same z low high = grind (arith, cents)
+
+pub part_passed : (z : ℤ) → IsHolding z → IsLinePart (to_z w64 (of_z w64 z))
+part_passed z h =
+    let l = h.low in let m = h.high in
+    let same = cents_same z (omega (arith, ints, l)) (omega (arith, ints, m)) in
+    record { low = omega (arith, ints, same, l); high = omega (arith, ints, same, m) }
+
+pub whole_passed : (x s e a : ℤ) → x ≡ to_z w64 (of_z w64 s) +ℤ to_z w64 (of_z w64 e) +ℤ to_z w64 (of_z w64 a) → IsHolding s → IsHolding e → IsHolding a → IsLinePart (to_z w64 (of_z w64 x))
+whole_passed x s e a is hs he ha =
+    let s1 = hs.low in let s2 = hs.high in
+    let e1 = he.low in let e2 = he.high in
+    let a1 = ha.low in let a2 = ha.high in
+    let ss = cents_same s (omega (arith, ints, s1)) (omega (arith, ints, s2)) in
+    let es = cents_same e (omega (arith, ints, e1)) (omega (arith, ints, e2)) in
+    let as' = cents_same a (omega (arith, ints, a1)) (omega (arith, ints, a2)) in
+    let low : neg_ℤ (pos 300_000_000_000_000) ≤ℤ x = omega (arith, ints, is, ss, es, as', s1, e1, a1) in
+    let high : x ≤ℤ pos 300_000_000_000_000 = omega (arith, ints, is, ss, es, as', s2, e2, a2) in
+    let same = cents_same x (omega (arith, ints, low)) (omega (arith, ints, high)) in
+    record { low = omega (arith, ints, same, low); high = omega (arith, ints, same, high) }
+
+pub sum_passed : (x s b a b' a' : ℤ) → x ≡ to_z w64 (of_z w64 s) +ℤ (to_z w64 (of_z w64 a) -ℤ to_z w64 (of_z w64 b)) → IsLineSum s → IsLinePart b → IsLinePart a → b ≡ b' → a ≡ a' → to_z w64 (of_z w64 x) ≡ s +ℤ (a' -ℤ b')
+sum_passed x s b a b' a' is hs hb ha be ae =
+    let s1 = hs.low in let s2 = hs.high in
+    let b1 = hb.low in let b2 = hb.high in
+    let a1 = ha.low in let a2 = ha.high in
+    let ss = sum_same s (omega (arith, ints, s1)) (omega (arith, ints, s2)) in
+    let bs = cents_same b (omega (arith, ints, b1)) (omega (arith, ints, b2)) in
+    let as' = cents_same a (omega (arith, ints, a1)) (omega (arith, ints, a2)) in
+    let low : neg_ℤ (pos 4_200_000_000_000_000_000) ≤ℤ x = omega (arith, ints, is, ss, bs, as', s1, b2, a1) in
+    let high : x ≤ℤ pos 4_200_000_000_000_000_000 = omega (arith, ints, is, ss, bs, as', s2, b1, a2) in
+    let same = sum_same x (omega (arith, ints, low)) (omega (arith, ints, high)) in
+    omega (arith, ints, same, is, ss, bs, as', be, ae)
+
+-- ---- the line of some loans
+
+abbrev pub line_over : World → List Held → Custody
+line_over w ls = lined (total_by borrower_cash ls) (total_by (held_for w) ls) (total_by (λ (l : Held). (books_now l).suspense) ls) (total_by (λ (l : Held). (books_now l).escrow) ls) (total_by (λ (l : Held). escrow_advanced (books_now l).escrow) ls) (total_by (held_for w) ls) (total_by (advanced_for w) ls)
+
+pub custody_is : (w : World) → custody_of w ≡ line_over w w.loans
+unfolding custody_of
+custody_is w = refl
+
+record AreWithin (n : ℕ) (z : ℤ) : Type 0 where
+  low : neg_ℤ (pos (300_000_000_000_000 * n)) ≤ℤ z
+  high : z ≤ℤ pos (300_000_000_000_000 * n)
+
+parts_within : (f : Held → ℤ) (ls : List Held) → All (λ (l : Held). IsLinePart (f l)) ls → AreWithin (length ls) (total_by f ls)
+parts_within f [] h = record { low = omega (arith, ints); high = omega (arith, ints) }
+parts_within f (l ∷ ls) h =
+    let here = All-head (λ (k : Held). IsLinePart (f k)) l ls h in
+    let rest = parts_within f ls (All-tail (λ (k : Held). IsLinePart (f k)) l ls h) in
+    let l1 = here.low in let h1 = here.high in
+    let l2 = rest.low in let h2 = rest.high in
+    record { low = omega (arith, ints, l1, l2); high = omega (arith, ints, h1, h2) }
+
+parts_sum : (f : Held → ℤ) (ls : List Held) → length ls ≤ 12_000 → All (λ (l : Held). IsLinePart (f l)) ls → IsLineSum (total_by f ls)
+parts_sum f ls few h =
+    let sum = parts_within f ls h in
+    let l = sum.low in let m = sum.high in
+    record { low = omega (arith, ints, l, few); high = omega (arith, ints, m, few) }
+
+as_part : (z : ℤ) → IsHolding z → IsLinePart z
+as_part z h = let l = h.low in let m = h.high in record { low = omega (arith, ints, l); high = omega (arith, ints, m) }
+
+three_parts : (x y z : ℤ) → IsHolding x → IsHolding y → IsHolding z → IsLinePart (x +ℤ y +ℤ z)
+three_parts x y z a b c =
+    let l1 = a.low in let h1 = a.high in
+    let l2 = b.low in let h2 = b.high in
+    let l3 = c.low in let h3 = c.high in
+    record { low = omega (arith, ints, l1, l2, l3); high = omega (arith, ints, h1, h2, h3) }
+
+pub line_within : (w : World) (ls : List Held) → length ls ≤ 12_000 → All (λ (l : Held). IsPosition (position_of w l)) ls → IsLine (line_over w ls)
+unfolding totals_of
+line_within w ls few h = record {
+  t_sum = parts_sum borrower_cash ls few (λ k d lt. three_parts _ _ _ (h k d lt).unapplied (h k d lt).balance (h k d lt).advance);
+  p_sum = parts_sum (held_for w) ls few (λ k d lt. as_part _ (h k d lt).investors);
+  suspense_sum = parts_sum (λ (l : Held). (books_now l).suspense) ls few (λ k d lt. as_part _ (h k d lt).unapplied);
+  escrow_sum = parts_sum (λ (l : Held). (books_now l).escrow) ls few (λ k d lt. as_part _ (h k d lt).balance);
+  escrow_advance_sum = parts_sum (λ (l : Held). escrow_advanced (books_now l).escrow) ls few (λ k d lt. as_part _ (h k d lt).advance);
+  held_sum = parts_sum (held_for w) ls few (λ k d lt. as_part _ (h k d lt).investors);
+  pi_advance_sum = parts_sum (advanced_for w) ls few (λ k d lt. as_part _ (h k d lt).advanced);
+}
+
+-- with one loan more
+total_more : (f : Held → ℤ) (ls : List Held) (i : ℕ) (d : Held) → i < length ls → total_by f (take i ls) +ℤ (f (get_or ls i d) -ℤ pos 0) ≡ total_by f (take (i + 1) ls)
+total_more f [] i d lt = absurd (omega arith)
+total_more f (l ∷ ls) zero d lt = omega (arith, ints)
+total_more f (l ∷ ls) (suc i) d lt =
+    let next : suc i + 1 ≡ suc (i + 1) = omega arith in
+    let same = ap (λ j. total_by f (take j (l ∷ ls))) next in
+    omega (arith, ints, same, total_more f ls i d (omega arith))
+
+pub line_more : (w : World) (ls : List Held) (i : ℕ) (d : Held) → i < length ls → line_after (line_over w (take i ls)) no_position (position_of w (get_or ls i d)) ≡ line_over w (take (i + 1) ls)
+unfolding totals_of
+line_more w ls i d lt = same_line
+    (total_more borrower_cash ls i d lt)
+    (total_more (held_for w) ls i d lt)
+    (total_more (λ (l : Held). (books_now l).suspense) ls i d lt)
+    (total_more (λ (l : Held). (books_now l).escrow) ls i d lt)
+    (total_more (λ (l : Held). escrow_advanced (books_now l).escrow) ls i d lt)
+    (total_more (held_for w) ls i d lt)
+    (total_more (advanced_for w) ls i d lt)
+
+-- ---- the line after one loan changed
+
+moved_sum : (g k : Held → ℤ) (id : ℕ) (f : Held → Held) (ls : List Held) (l : Held) → ((x : Held) → k x ≡ g x) → find_loan id ls ≡ Some l → total_by k (changed id f ls) ≡ total_by g ls +ℤ (k (f l) -ℤ g l)
+moved_sum g k id f ls l same e =
+    let moved = sum_changed k id f ls l e in
+    let all = total_by-same k g ls (λ i d lt. same (get_or ls i d)) in
+    let one = same l in
+    omega (arith, ints, moved, all, one)
+
+pub line_changed : (id : ℕ) (w v : World) (f : Held → Held) (ls : List Held) (l : Held) → SameReports w v → find_loan id ls ≡ Some l → line_over v (changed id f ls) ≡ line_after (line_over w ls) (position_of w l) (position_of v (f l))
+unfolding totals_of
+line_changed id w v f ls l same e = same_line
+    (moved_sum borrower_cash borrower_cash id f ls l (λ x. refl) e)
+    (moved_sum (held_for w) (held_for v) id f ls l (λ x. held_same w v x same) e)
+    (moved_sum (λ (x : Held). (books_now x).suspense) (λ (x : Held). (books_now x).suspense) id f ls l (λ x. refl) e)
+    (moved_sum (λ (x : Held). (books_now x).escrow) (λ (x : Held). (books_now x).escrow) id f ls l (λ x. refl) e)
+    (moved_sum (λ (x : Held). escrow_advanced (books_now x).escrow) (λ (x : Held). escrow_advanced (books_now x).escrow) id f ls l (λ x. refl) e)
+    (moved_sum (held_for w) (held_for v) id f ls l (λ x. held_same w v x same) e)
+    (moved_sum (advanced_for w) (advanced_for v) id f ls l (λ x. advanced_same w v x same) e)
+
+new_sum : (g k : Held → ℤ) (l : Held) (ls : List Held) → ((x : Held) → k x ≡ g x) → total_by k (with_loan l ls) ≡ total_by g ls +ℤ (k l -ℤ pos 0)
+new_sum g k l ls same =
+    let more = sum_with_loan k l ls in
+    let all = total_by-same k g ls (λ i d lt. same (get_or ls i d)) in
+    omega (arith, ints, more, all)
+
+pub line_boarded : (w v : World) (l : Held) (ls : List Held) → SameReports w v → line_over v (with_loan l ls) ≡ line_after (line_over w ls) no_position (position_of v l)
+unfolding totals_of
+line_boarded w v l ls same = same_line
+    (new_sum borrower_cash borrower_cash l ls (λ x. refl))
+    (new_sum (held_for w) (held_for v) l ls (λ x. held_same w v x same))
+    (new_sum (λ (x : Held). (books_now x).suspense) (λ (x : Held). (books_now x).suspense) l ls (λ x. refl))
+    (new_sum (λ (x : Held). (books_now x).escrow) (λ (x : Held). (books_now x).escrow) l ls (λ x. refl))
+    (new_sum (λ (x : Held). escrow_advanced (books_now x).escrow) (λ (x : Held). escrow_advanced (books_now x).escrow) l ls (λ x. refl))
+    (new_sum (held_for w) (held_for v) l ls (λ x. held_same w v x same))
+    (new_sum (advanced_for w) (advanced_for v) l ls (λ x. advanced_same w v x same))

@@ -1,0 +1,13 @@
+use Rattle.std.proofs.Common.{◌≡◌, ◌≤◌, length, take}
+use Rattle.svc_loan.specs.Loans.{held_in}
+use Rattle.svc_core.specs.State.{world_of}
+use Rattle.svc_core.proofs.LineLemmas.{line_over}
+use Rattle.svc_core.proofs.custody_line.whole_line.Given as goal
+
+abbrev pub invariant-loop-i : goal.invariant-loop-i
+invariant-loop-i g l = record {
+  line : l.line ≡ line_over (world_of l.state.today l.state.loans l.state.seals) (take l.i (held_in l.state.loans.loans));
+  end : l.i-end ≡ length l.state.loans.loans;
+  same : l.state ≡ l.fn.state;
+  from : l.i ≤ l.i-end;
+}

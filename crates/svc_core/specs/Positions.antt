@@ -1,0 +1,111 @@
+-- What custody holds for a loan, and what it counts for in the custodial line.
+use Rattle.std.specs.Prelude.{ℕ, ◌≤◌, List, length, Option, Some, None, ℤ, pos, neg_ℤ, ◌+ℤ◌, ◌-ℤ◌, ◌≤ℤ◌}
+use Rattle.std.specs.List.{All}
+use Rattle.custodial_book.specs.Rows.{AreTotals}
+use Rattle.svc_world.specs.declared.custody.Custody.{Custody}
+use Rattle.svc_world.specs.Held.{Held, books_now}
+use Rattle.svc_world.specs.World.{World}
+use Rattle.svc_world.specs.Worlds.{IsLimited, AreReports}
+use Rattle.svc_world.specs.Custody.{totals_of, no_totals, held_for}
+use Rattle.svc_loan.specs.Kept.{KeptLoan}
+use Rattle.svc_core.specs.Cash.{totals_at, held_at, IsKeptIn}
+use Rattle.svc_core.specs.declared.position.Position.{Position}
+
+-- what custody holds for a loan
+abbrev pub position_of : World → Held → Position
+position_of w l = record {
+  totals = totals_of w l;
+  suspense = (books_now l).suspense;
+  escrow = (books_now l).escrow;
+  held = held_for w l;
+}
+
+-- the same, read off a loan as it is kept, where that month was remitted last
+abbrev pub position_at : Option ℕ → KeptLoan → Position
+position_at remitted k = record {
+  totals = totals_at remitted k;
+  suspense = (books_now k.held).suspense;
+  escrow = (books_now k.held).escrow;
+  held = held_at remitted k;
+}
+
+-- for a loan that is not there it holds nothing
+abbrev pub no_position : Position
+no_position = record { totals = no_totals; suspense = pos 0; escrow = pos 0; held = pos 0 }
+
+abbrev pub position : World → Option Held → Position
+position w None = no_position
+position w (Some l) = position_of w l
+
+-- what a loan counts for in the custodial line
+abbrev pub line_of : Position → Custody
+line_of x = record {
+  t = x.suspense +ℤ x.escrow +ℤ x.totals.escrow_advance;
+  p = x.held;
+  suspense = x.suspense;
+  escrow = x.escrow;
+  escrow_advance = x.totals.escrow_advance;
+  held = x.held;
+  pi_advance = x.totals.pi_advance;
+}
+
+-- the custodial line after one loan's position changed
+abbrev pub line_after : Custody → Position → Position → Custody
+line_after c before later = record {
+  t = c.t +ℤ ((line_of later).t -ℤ (line_of before).t);
+  p = c.p +ℤ ((line_of later).p -ℤ (line_of before).p);
+  suspense = c.suspense +ℤ ((line_of later).suspense -ℤ (line_of before).suspense);
+  escrow = c.escrow +ℤ ((line_of later).escrow -ℤ (line_of before).escrow);
+  escrow_advance = c.escrow_advance +ℤ ((line_of later).escrow_advance -ℤ (line_of before).escrow_advance);
+  held = c.held +ℤ ((line_of later).held -ℤ (line_of before).held);
+  pi_advance = c.pi_advance +ℤ ((line_of later).pi_advance -ℤ (line_of before).pi_advance);
+}
+
+-- an amount that custody may hold for a loan: no further from 0 than 10^14 cents
+pub record IsHolding (z : ℤ) : Type 0 where
+  pub low : neg_ℤ (pos 100_000_000_000_000) ≤ℤ z
+  pub high : z ≤ℤ pos 100_000_000_000_000
+
+-- what custody may hold for a loan
+pub record IsPosition (x : Position) : Type 0 where
+  pub all : AreTotals x.totals
+  pub unapplied : IsHolding x.suspense
+  pub balance : IsHolding x.escrow
+  pub advance : IsHolding x.totals.escrow_advance
+  pub investors : IsHolding x.held
+  pub advanced : IsHolding x.totals.pi_advance
+
+-- what a loan may count for in the custodial line: three such amounts
+pub record IsLinePart (z : ℤ) : Type 0 where
+  pub low : neg_ℤ (pos 300_000_000_000_000) ≤ℤ z
+  pub high : z ≤ℤ pos 300_000_000_000_000
+
+pub record AreLineParts (c : Custody) : Type 0 where
+  pub t_part : IsLinePart c.t
+  pub p_part : IsLinePart c.p
+  pub suspense_part : IsLinePart c.suspense
+  pub escrow_part : IsLinePart c.escrow
+  pub escrow_advance_part : IsLinePart c.escrow_advance
+  pub held_part : IsLinePart c.held
+  pub pi_advance_part : IsLinePart c.pi_advance
+
+-- a sum of that over 12,000 loans
+pub record IsLineSum (z : ℤ) : Type 0 where
+  pub low : neg_ℤ (pos 3_600_000_000_000_000_000) ≤ℤ z
+  pub high : z ≤ℤ pos 3_600_000_000_000_000_000
+
+pub record IsLine (c : Custody) : Type 0 where
+  pub t_sum : IsLineSum c.t
+  pub p_sum : IsLineSum c.p
+  pub suspense_sum : IsLineSum c.suspense
+  pub escrow_sum : IsLineSum c.escrow
+  pub escrow_advance_sum : IsLineSum c.escrow_advance
+  pub held_sum : IsLineSum c.held
+  pub pi_advance_sum : IsLineSum c.pi_advance
+
+-- the positions of these loans can be read off as they are kept
+pub record CanRead (w : World) (ks : List KeptLoan) : Type 0 where
+  pub reports : AreReports w
+  pub few : length ks ≤ 12_000
+  pub limited : All (λ (k : KeptLoan). IsLimited k.held.account) ks
+  pub kept : All (IsKeptIn w) ks
