@@ -68,7 +68,6 @@ pub(crate) fn analysis_from<B: LoanBooks>(loan: &Loan<B>, begins: Month) -> Anal
     requires { begins ≡ world.year_begins loan.now.held }
     ensures whole { result ≡ world.analysis_of loan.now.held }
     ensures base { result.base ≡ monthly (world.year_of_loan loan.now.held) }
-<<<<<<< HEAD
     ensures cushion { result.cushion
         ≡ kept_back (world.year_of_loan loan.now.held) (world.cushion_months loan.now.held) }
     ensures opening { result.opening ≡ world.opening_of loan.now.held }
@@ -78,9 +77,7 @@ pub(crate) fn analysis_from<B: LoanBooks>(loan: &Loan<B>, begins: Month) -> Anal
     ensures base_high { result.base ≤ℤ pos 160_000_000_000 }
     ensures opening_low { pos 0 ≤ℤ result.opening }
     ensures opening_high { result.opening ≤ℤ pos 2_240_000_000_000 }
-=======
     ensures small { IsSmallAnalysis result }
->>>>>>> hD
 {
     loan.is_sound();
     analyse(&loan.lines().year(begins), loan.terms().cushion)

@@ -1,4 +1,5 @@
-//! The core of the servicer.
+//! The core of the servicer: it judges and accepts commands, and answers queries, over books however they
+//! are kept.
 #![tactic(auto)]
 
 mod accepting;
@@ -8,57 +9,29 @@ mod boarding;
 mod cash;
 mod changing;
 mod closing;
-<<<<<<< HEAD
-<<<<<<< HEAD
-<<<<<<< HEAD
-<<<<<<< HEAD
-mod fault;
-=======
+mod custody_line;
 mod entering;
-mod figures;
->>>>>>> hA
-=======
 mod everyone;
->>>>>>> hB
-=======
 mod fault;
->>>>>>> hD
+mod figures;
 mod laws;
 mod others;
 mod parts;
-=======
-mod custody_line;
-mod everyone;
-mod laws;
-mod others;
 mod position;
->>>>>>> hC
 mod posted;
 mod preparing;
 mod refusals;
-<<<<<<< HEAD
 mod refusing;
-mod scope;
-mod servicing;
-=======
 mod reporting;
 mod scope;
 mod sent;
->>>>>>> hB
+mod servicing;
 mod state;
-<<<<<<< HEAD
-<<<<<<< HEAD
+mod taking_on;
 mod verdict;
-=======
-mod taking_on;
->>>>>>> hA
-=======
-mod taking_on;
->>>>>>> hC
 
 pub use fault::CoreFault;
 pub use laws::replies_are_known;
-pub use fault::CoreFault;
 pub use posted::Posted;
 pub use servicing::Core;
 pub use verdict::Verdict;
