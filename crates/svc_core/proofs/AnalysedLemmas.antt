@@ -1,11 +1,10 @@
 -- The entry of an escrow analysis that no rule refuses.
-use Rattle.std.proofs.Common.{◌≡◌, ℕ, ◌+◌, ◌≤◌, ◌<◌, true, false, cond, List, [], ◌∷◌, ◌++◌, length, arith, refl, sym, ap, subst, ◌∙◌}
-use Rattle.std.specs.Prelude.{◌==◌, Some, None, if◌then◌else◌}
+use Rattle.std.proofs.Common.{◌≡◌, ℕ, ◌+◌, ◌<◌, true, false, cond, List, [], ◌∷◌, ◌++◌, length, arith, refl, sym, ap, subst, ◌∙◌}
+use Rattle.std.specs.Prelude.{◌==◌, Some, None}
 use Rattle.std.specs.Option.{option_map_or}
 use Rattle.std.proofs.lemmas.Bool.Decides.{nat_tests}
 use Rattle.svc_base.specs.Calendar.{IsReadDay, month_of, months_end}
 use Rattle.svc_types.specs.declared.account.Act.TheVariants as act
-use Rattle.svc_types.specs.declared.account.Entry.{Entry}
 use Rattle.svc_types.specs.declared.escrow.Plan.{Plan}
 use Rattle.svc_types.specs.declared.escrow.Settled.{Settled}
 use Rattle.svc_types.specs.declared.escrow.Figures.{Figures}
@@ -20,7 +19,6 @@ use Rattle.svc_world.specs.Reports.{months_of, changes_of}
 use Rattle.svc_world.specs.World.{World, entry, with_analysis, loans_after, seals_after, after}
 use Rattle.svc_world.specs.Judging.{extra_of}
 use Rattle.svc_world.specs.Refusals.{refusal_of, case_of, full_of_entries, adjustments_full, analyse_cases}
-use Rattle.svc_world.specs.Worlds.{IsWorld}
 use Rattle.svc_world.proofs.AnalysisLemmas.{is_settlement}
 use Rattle.svc_world.proofs.CaseLemmas.{past, past_of, room_left}
 use Rattle.svc_world.proofs.NamedLoans.{named_loan, asked}

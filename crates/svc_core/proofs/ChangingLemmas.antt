@@ -1,10 +1,9 @@
 -- A loan that a command changes from a month on: what is recorded of it, the world after it, and its cost.
-use Rattle.std.proofs.Common.{◌≡◌, ℕ, suc, ◌+◌, ◌-◌, ◌≤◌, ◌<◌, max, true, false, cond, List, [], ◌∷◌, ◌++◌, map, length, arith, refl, sym, ap, subst, ◌∙◌, length-append}
-use Rattle.std.specs.Prelude.{Option, Some, None, IfSome, MatchOption, is_some}
+use Rattle.std.proofs.Common.{◌≡◌, ℕ, ◌+◌, ◌-◌, ◌≤◌, ◌<◌, true, false, cond, List, [], ◌∷◌, ◌++◌, map, length, arith, refl, sym, ap, subst, ◌∙◌, length-append}
+use Rattle.std.specs.Prelude.{Option, Some, None, IfSome, MatchOption}
 use Rattle.std.specs.List.{All, range_with_len}
 use Rattle.std.specs.Option.{option_map_or}
 use Rattle.std.proofs.lemmas.List.FromFn.{length-map-range_with_len}
-use Rattle.svc_base.specs.Calendar.{month_of}
 use Rattle.svc_spec.specs.Accounts.{Account}
 use Rattle.remit_types.specs.declared.dues.MonthDue.{MonthDue}
 use Rattle.period_adjust.specs.Sealed.{Sealed, Reporting, State, reporting}
@@ -18,7 +17,6 @@ use Rattle.svc_world.specs.Held.{Held, find_loan, boarded_month, changed}
 use Rattle.svc_world.specs.LoanDues.{due_of}
 use Rattle.svc_world.specs.Reports.{months_of, changes_of}
 use Rattle.svc_world.specs.World.{World}
-use Rattle.svc_world.specs.Worlds.{IsHeld, IsWorld}
 use Rattle.svc_world.proofs.CarryLemmas.{due_small}
 use Rattle.svc_world.proofs.AddUpLemmas.{may_record}
 use Rattle.svc_world.proofs.LoanListLemmas.{find_changed}
@@ -32,7 +30,7 @@ use Rattle.svc_core.specs.Cash.{IsKeptIn}
 use Rattle.svc_core.specs.State.{world_of, IsState}
 use Rattle.svc_core.specs.Costs.{changing_cost, entering_cost}
 use Rattle.svc_core.specs.Changing.{dues_since, world_with}
-use Rattle.svc_core.proofs.KeptInLemmas.{StayKept, kept_on, changed_stay, kept_all, held_found, IsKeptOf, kept_of, dues_to_end}
+use Rattle.svc_core.proofs.KeptInLemmas.{kept_on, changed_stay, kept_all, held_found, kept_of, dues_to_end}
 
 -- the loan with a number is there, and something holds of it
 pub record IsKeptLoan (id : ℕ) (ks : List KeptLoan) (P : KeptLoan → Type 0) : Type 0 where

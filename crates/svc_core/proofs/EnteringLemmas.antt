@@ -1,7 +1,6 @@
 -- The entry that a command makes: no rule refuses it, so it may be added.
-use Rattle.std.proofs.Common.{◌≡◌, ℕ, ◌+◌, ◌≤◌, ◌<◌, List, length, get_or, arith, refl, sym, ap, subst, ◌∙◌}
-use Rattle.std.specs.Prelude.{Some, None, ℤ, pos, ◌+ℤ◌, ◌≤ℤ◌}
-use Rattle.std.specs.List.{All}
+use Rattle.std.proofs.Common.{◌≡◌, ℕ, ◌+◌, ◌≤◌, ◌<◌, length, get_or, arith, refl, sym, ap, subst}
+use Rattle.std.specs.Prelude.{Some, None, ℤ}
 use Rattle.std.proofs.lemmas.Int.{ints}
 use Rattle.svc_base.specs.Calendar.{IsDay, month_of}
 use Rattle.svc_base.proofs.CentsRules.{from_not_int_lt}
@@ -18,7 +17,7 @@ use Rattle.period_adjust.specs.Sealed.{State}
 use Rattle.svc_world.specs.Held.{Held, find_loan, books_now, with_entry}
 use Rattle.svc_world.specs.World.{World, entry, loans_after, seals_after, after}
 use Rattle.svc_world.specs.Refusals.{refusal_of, asks_no_more, over_principal, payoff_short, no_such_line, over_refund, over_waiver, dated_cases, present_cases}
-use Rattle.svc_world.specs.Worlds.{IsHeld, IsWorld}
+use Rattle.svc_world.specs.Worlds.{IsWorld}
 use Rattle.svc_world.proofs.LimitedLemmas.{available_covered}
 use Rattle.svc_world.proofs.CaseLemmas.{dated, present}
 use Rattle.svc_world.proofs.NamedLoans.{named_loan, room_enough, asked}
@@ -103,7 +102,7 @@ made_pay n id d w c over h exists e =
     let low = it.amount.low in
     record {
       may = may_enter n id d w (act.Pay c over) l q.few q.loan.found
-      (dated_entry w d c (asks_no_more l) l (act.Pay c over) limited exists it (entered_sum c it.amount) (entered_named c it.amount) refl (omega (arith, ints, low)));
+          (dated_entry w d c (asks_no_more l) l (act.Pay c over) limited exists it (entered_sum c it.amount) (entered_named c it.amount) refl (omega (arith, ints, low)));
       world = refl;
     }
 
@@ -117,7 +116,7 @@ made_curtail n id d w c h exists e =
     let low = it.amount.low in
     record {
       may = may_enter n id d w (act.Curtail c) l q.few q.loan.found
-      (dated_entry w d c (over_principal d c l) l (act.Curtail c) limited exists it (entered_sum c it.amount) (entered_named c it.amount) refl (omega (arith, ints, low)));
+          (dated_entry w d c (over_principal d c l) l (act.Curtail c) limited exists it (entered_sum c it.amount) (entered_named c it.amount) refl (omega (arith, ints, low)));
       world = refl;
     }
 
@@ -131,7 +130,7 @@ made_payoff n id d w c h exists e =
     let low = it.amount.low in
     record {
       may = may_enter n id d w (act.Payoff c) l q.few q.loan.found
-      (dated_entry w d c (payoff_short d c l) l (act.Payoff c) limited exists it (entered_sum c it.amount) (entered_named c it.amount) refl (omega (arith, ints, low)));
+          (dated_entry w d c (payoff_short d c l) l (act.Payoff c) limited exists it (entered_sum c it.amount) (entered_named c it.amount) refl (omega (arith, ints, low)));
       world = refl;
     }
 
@@ -145,7 +144,7 @@ made_deposit n id d w c h exists e =
     let low = it.amount.low in
     record {
       may = may_enter n id d w (act.Deposit c) l q.few q.loan.found
-      (dated_entry w d c (asks_no_more l) l (act.Deposit c) limited exists it (entered_sum c it.amount) (entered_named c it.amount) refl (omega (arith, ints, low)));
+          (dated_entry w d c (asks_no_more l) l (act.Deposit c) limited exists it (entered_sum c it.amount) (entered_named c it.amount) refl (omega (arith, ints, low)));
       world = refl;
     }
 
@@ -158,7 +157,7 @@ made_disburse n id d line w c h exists e =
     let it = dated w d c (no_such_line line) l q.loan.rest in
     record {
       may = may_enter n id d w (act.Disburse c line) l q.few q.loan.found
-      (dated_entry w d c (no_such_line line l) l (act.Disburse c line) limited exists it (entered_sum c it.amount) (entered_named c it.amount) refl (omega (arith, ints)));
+          (dated_entry w d c (no_such_line line l) l (act.Disburse c line) limited exists it (entered_sum c it.amount) (entered_named c it.amount) refl (omega (arith, ints)));
       world = refl;
     }
 
@@ -173,7 +172,7 @@ made_refund n id w c h e =
     let covered = available_covered l.account c held.limited le in
     record {
       may = may_enter n id w.today w (act.Refund c) l q.few q.loan.found
-      (present_entry n w c (over_refund c l) l (act.Refund c) held h.today.exists it (entered_sum c it.amount) (entered_named c it.amount) (omega (arith, ints, covered)));
+          (present_entry n w c (over_refund c l) l (act.Refund c) held h.today.exists it (entered_sum c it.amount) (entered_named c it.amount) (omega (arith, ints, covered)));
       world = refl;
     }
 
@@ -187,7 +186,7 @@ made_waive n id w c h e =
     let covered = held.limited.covered in
     record {
       may = may_enter n id w.today w (act.Waive c) l q.few q.loan.found
-      (present_entry n w c (over_waiver c l) l (act.Waive c) held h.today.exists it (entered_sum c it.amount) (entered_named c it.amount) (omega (arith, ints, covered)));
+          (present_entry n w c (over_waiver c l) l (act.Waive c) held h.today.exists it (entered_sum c it.amount) (entered_named c it.amount) (omega (arith, ints, covered)));
       world = refl;
     }
 

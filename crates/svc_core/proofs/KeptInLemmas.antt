@@ -1,6 +1,6 @@
 -- Loans stay kept as the world has them where their numbers, their boarded months, the months that are closed of
 -- them and what was remitted for them stay.
-use Rattle.std.proofs.Common.{◌≡◌, ℕ, ◌+◌, ◌-◌, ◌≤◌, max, true, false, cond, List, [], ◌∷◌, map, length, get_or, arith, refl, sym, ap, subst, ◌∙◌}
+use Rattle.std.proofs.Common.{◌≡◌, ℕ, ◌+◌, ◌-◌, ◌≤◌, true, false, cond, List, [], ◌∷◌, map, length, get_or, arith, refl, sym, ap, subst, ◌∙◌}
 use Rattle.std.proofs.Math.ListN.{get_or-map as get_mapped}
 use Rattle.std.specs.Prelude.{◌==◌, Option, Some, None, if◌then◌else◌}
 use Rattle.std.specs.List.{All, range_with_len}
@@ -8,7 +8,6 @@ use Rattle.std.specs.Option.{option_map}
 use Rattle.std.proofs.lemmas.List.{length-map}
 use Rattle.std.proofs.lemmas.List.Elements.{All-head, All-tail}
 use Rattle.svc_base.specs.Sums.{total_by}
-use Rattle.period_adjust.specs.Sealed.{State}
 use Rattle.period_adjust.specs.Conditions.{last_month}
 use Rattle.period_adjust.specs.Kept.{month_after}
 use Rattle.svc_world.specs.Held.{Held, find_loan, changed, boarded_month}

@@ -1,6 +1,6 @@
 -- A command that changes a loan in no closed month: an escrow line, a change of remittance type.
-use Rattle.std.proofs.Common.{◌≡◌, ℕ, ◌+◌, ◌-◌, ◌≤◌, ◌<◌, max, Bool, true, false, cond, not, List, [], ◌∷◌, ◌++◌, length, arith, refl, sym, ap, subst, ◌∙◌, append-nil}
-use Rattle.std.specs.Prelude.{◌==◌, nat_le, nat_lt, ◌&&◌, Option, Some, None, IfSome}
+use Rattle.std.proofs.Common.{◌≡◌, ℕ, ◌+◌, ◌-◌, ◌≤◌, Bool, true, false, cond, not, List, [], ◌∷◌, ◌++◌, length, arith, refl, sym, ap, subst, ◌∙◌, append-nil}
+use Rattle.std.specs.Prelude.{◌==◌, nat_le, nat_lt, ◌&&◌, Option, Some, None}
 use Rattle.std.specs.List.{All, list_any}
 use Rattle.std.specs.Option.{option_map_or}
 use Rattle.std.proofs.lemmas.Bool.Decides.{nat_tests}
@@ -22,16 +22,15 @@ use Rattle.svc_world.specs.LoanDues.{type_change}
 use Rattle.svc_world.specs.Reports.{months_of, changes_of}
 use Rattle.svc_world.specs.World.{World, loans_after, seals_after, after}
 use Rattle.svc_world.specs.Refusals.{case, case_of, first_of, refusal_of, line_cases, has_line, no_such_line, retype_cases, with_last}
-use Rattle.svc_world.specs.Worlds.{IsWorld}
 use Rattle.svc_world.proofs.CaseLemmas.{past, past_last}
 use Rattle.svc_world.proofs.NamedLoans.{named_loan, asked}
 use Rattle.svc_world.proofs.QuietWorlds.{IsQuiet, quiet_none}
-use Rattle.svc_world.proofs.LoanWorlds.{line_quiet, drop_quiet, retype_quiet, end_by}
+use Rattle.svc_world.proofs.LoanWorlds.{retype_quiet, end_by}
 use Rattle.svc_world.proofs.LoanListLemmas.{find_changed}
 use Rattle.svc_world.proofs.DayWorlds.{none_pending}
-use Rattle.svc_loan.specs.Kept.{KeptLoan, IsReady}
+use Rattle.svc_loan.specs.Kept.{KeptLoan}
 use Rattle.svc_loan.specs.Closed.{months_cost, closed_cost}
-use Rattle.svc_loan.specs.Loans.{KeptLoans, OfLoan, held_in, closed_in, remitted_in}
+use Rattle.svc_loan.specs.Loans.{KeptLoans, OfLoan, held_in}
 use Rattle.svc_loan.proofs.KeptLemmas.{of_found, found_of}
 use Rattle.svc_core.specs.Cash.{IsKeptIn}
 use Rattle.svc_core.specs.State.{world_of, IsState}

@@ -1,5 +1,5 @@
 -- A reversal that no rule refuses.
-use Rattle.std.proofs.Common.{◌≡◌, ℕ, ◌+◌, ◌≤◌, ◌<◌, true, false, cond, List, [], ◌∷◌, refl, sym, ap, subst, ◌∙◌}
+use Rattle.std.proofs.Common.{◌≡◌, ℕ, ◌+◌, true, false, cond, List, [], ◌∷◌, refl, sym, ap, subst, ◌∙◌}
 use Rattle.std.specs.Prelude.{◌==◌, Option, Some, None, is_some}
 use Rattle.std.specs.List.{find}
 use Rattle.std.specs.Option.{option_map_or}
@@ -14,11 +14,10 @@ use Rattle.period_adjust.specs.Sealed.{State}
 use Rattle.svc_world.specs.Held.{Held, find_loan, changed, with_reversal}
 use Rattle.svc_world.specs.World.{World, loans_after, seals_after, after}
 use Rattle.svc_world.specs.Refusals.{case, first_of, refusal_of, is_analysis, adjustments_full, entry_reversal_cases, reversal_cases}
-use Rattle.svc_world.specs.Worlds.{IsWorld}
 use Rattle.svc_world.proofs.CaseLemmas.{past, past_of, HasRoom, room_left}
 use Rattle.svc_world.proofs.NamedLoans.{named_loan, room_enough, asked}
 use Rattle.svc_world.proofs.ChangedWorlds.{IsChange}
-use Rattle.svc_world.proofs.LoanWorlds.{find_all, reversal_change}
+use Rattle.svc_world.proofs.LoanWorlds.{reversal_change}
 use Rattle.svc_loan.specs.Kept.{KeptLoan}
 use Rattle.svc_loan.specs.Loans.{KeptLoans, OfLoan, held_in, closed_in, remitted_in}
 use Rattle.svc_loan.proofs.KeptLemmas.{of_found, found_of}

@@ -1,7 +1,7 @@
 -- A loan that is taken on: nothing was remitted for it, and none of its months is closed.
-use Rattle.std.proofs.Common.{◌≡◌, ℕ, ◌+◌, ◌≤◌, ◌<◌, max, true, false, cond, List, [], ◌∷◌, ◌++◌, length, get_or, arith, refl, sym, ap, subst, ◌∙◌}
-use Rattle.std.specs.Prelude.{◌==◌, nat_lt, nat_le, Option, Some, None, IfSome, ℤ, pos, ◌+ℤ◌}
-use Rattle.std.specs.List.{All, filter}
+use Rattle.std.proofs.Common.{◌≡◌, ℕ, ◌+◌, true, false, cond, List, [], ◌∷◌, ◌++◌, get_or, arith, refl, sym, ap, subst, ◌∙◌}
+use Rattle.std.specs.Prelude.{◌==◌, nat_lt, nat_le, Option, Some, None, pos}
+use Rattle.std.specs.List.{All}
 use Rattle.std.specs.Option.{option_map}
 use Rattle.std.proofs.lemmas.Int.{ints}
 use Rattle.std.proofs.lemmas.Bool.Decides.{nat_tests}
@@ -12,13 +12,12 @@ use Rattle.svc_types.specs.declared.requests.Command.TheVariants as command
 use Rattle.period_adjust.specs.declared.report_line.ReportLine.{ReportLine}
 use Rattle.period_adjust.specs.Sealed.{Sealed, State, reporting}
 use Rattle.period_adjust.specs.Conditions.{last_month}
-use Rattle.period_adjust.specs.Kept.{month_after}
 use Rattle.svc_world.specs.Held.{Held, find_loan, boarded, boarded_month, with_loan}
 use Rattle.svc_world.specs.Reports.{months_of, changes_of}
 use Rattle.svc_world.specs.World.{World, loans_after, seals_after, after}
 use Rattle.svc_world.specs.Custody.{sent_of_line, sent_for, remitted_reports, remitted_for}
 use Rattle.svc_world.specs.Refusals.{refusal_of}
-use Rattle.svc_world.specs.Worlds.{IsThere, IsListed, IsWorld}
+use Rattle.svc_world.specs.Worlds.{IsThere, IsListed}
 use Rattle.svc_world.proofs.BoardWorlds.{boarding, board_none}
 use Rattle.svc_world.proofs.DayWorlds.{none_pending}
 use Rattle.svc_world.proofs.LoanWorlds.{end_by}

@@ -1,6 +1,7 @@
 -- What a command on one loan changes: the entry that it makes, the dues that it moves, and the world with the
 -- loan changed.
-use Rattle.std.specs.Prelude.{◌≡◌, ℕ, ◌+◌, ◌-◌, ◌<◌, ◌≤◌, List, ◌++◌, map, length, Option, Some, None, ◌+ℤ◌, ◌≤ℤ◌}
+use Rattle.std.specs.Prelude.{◌≡◌, ℕ, ◌+◌, ◌-◌, ◌<◌, ◌≤◌, ◌+ℤ◌, ◌≤ℤ◌, List, ◌++◌, map, length}
+use Rattle.std.specs.Prelude.{Option, Some, None}
 use Rattle.std.specs.List.{range_with_len}
 use Rattle.svc_base.specs.Calendar.{IsDay, month_of}
 use Rattle.svc_types.specs.declared.account.Act.TheVariants as act

@@ -33,8 +33,8 @@ use svc_loan::Loans;
 use svc_replay::LoanBooks;
 use svc_types::{Act, Command, Entry, Extra, Figures, Plan, RemitType, Settled};
 
-/// Makes the change of a command on one loan, as the one after `count` others, and answers what its reply says
-/// beside its number.
+/// Makes the change of a command on one loan, as the one after `count` others, and answers what its reply
+/// says beside its number.
 pub(crate) fn change_one<B: LoanBooks, L: Ledger>(
     count: u32,
     id: u32,
@@ -56,7 +56,8 @@ pub(crate) fn change_one<B: LoanBooks, L: Ledger>(
     ensures kept { All (IsKeptIn (world_of state.new.today state.new.loans state.new.seals))
         state.new.loans.loans }
     ensures extra { result ≡ extra_of (world_of state.old.today state.old.loans state.old.seals)
-        (after (count + 1) (world_of state.old.today state.old.loans state.old.seals) command.now) command.now }
+        (after (count + 1) (world_of state.old.today state.old.loans state.old.seals) command.now)
+        command.now }
     ensures steps { steps.new ≤ steps.old + accepting_cost B.cost B.month_cost
         (world_of state.old.today state.old.loans state.old.seals)
         (world_of state.new.today state.new.loans state.new.seals) command.now }
@@ -70,7 +71,8 @@ pub(crate) fn change_one<B: LoanBooks, L: Ledger>(
     }
 }
 
-/// The entry that a command makes by what it says alone, under its number. That of an analysis asks for the loan.
+/// The entry that a command makes by what it says alone, under its number. That of an analysis asks for
+/// the loan.
 fn entry_made(number: u32, today: Day, command: &Command) -> Option<Entry>
     ensures { result ≡ rule.entry_made number today command.now }
 {
@@ -80,7 +82,10 @@ fn entry_made(number: u32, today: Day, command: &Command) -> Option<Entry>
         Command::Payoff(_, day, cents) => (day, Act::Payoff(cents)),
         Command::Deposit(_, day, cents) => (day, Act::Deposit(cents)),
         Command::Disburse {
-            day, amount, line, ..
+            day,
+            amount,
+            line,
+            ..
         } => (day, Act::Disburse(amount, line)),
         Command::Refund(_, cents) => (today, Act::Refund(cents)),
         Command::Waive(_, cents) => (today, Act::Waive(cents)),
@@ -112,7 +117,8 @@ fn change_other<B: LoanBooks, L: Ledger>(
     ensures kept { All (IsKeptIn (world_of state.new.today state.new.loans state.new.seals))
         state.new.loans.loans }
     ensures extra { result ≡ extra_of (world_of state.old.today state.old.loans state.old.seals)
-        (after (count + 1) (world_of state.old.today state.old.loans state.old.seals) command.now) command.now }
+        (after (count + 1) (world_of state.old.today state.old.loans state.old.seals) command.now)
+        command.now }
     ensures steps { steps.new ≤ steps.old + accepting_cost B.cost B.month_cost
         (world_of state.old.today state.old.loans state.old.seals)
         (world_of state.new.today state.new.loans state.new.seals) command.now }
@@ -204,7 +210,8 @@ fn retype<B: LoanBooks, L: Ledger>(
     state.loans.retype(id, from, kind, steps);
 }
 
-/// Settles the escrow analysis of a loan by a plan, as the command after `count` others, and answers its numbers.
+/// Settles the escrow analysis of a loan by a plan, as the command after `count` others, and answers its
+/// numbers.
 fn analyse<B: LoanBooks, L: Ledger>(
     count: u32,
     id: u32,
@@ -250,7 +257,8 @@ fn settled_now<B: LoanBooks>(
     requires today { OfLoan id loans.now.loans (λ k. k.held.account.today ≡ today) }
     requires calendar { month_number today + 1 < months_end }
     requires lawful { OfLoan id loans.now.loans (λ k. world.loan_plan_fault k.held plan.now ≡ None) }
-    requires act { OfLoan id loans.now.loans (λ k. IsAct (act.Analyse (world.settlement_of k.held plan.now))) }
+    requires act { OfLoan id loans.now.loans
+        (λ k. IsAct (act.Analyse (world.settlement_of k.held plan.now))) }
     ensures settled { OfLoan id loans.now.loans (λ k. result.0 ≡ world.settlement_of k.held plan.now) }
     ensures figures { OfLoan id loans.now.loans (λ k. result.1 ≡ world.settled_figures k.held plan.now) }
 {

@@ -1,5 +1,5 @@
-//! Commands that may change what is due of a loan for closed months: an entry, and a reversal. What they change is
-//! recorded for the investor.
+//! Commands that may change what is due of a loan for closed months: an entry, and a reversal. What they
+//! change is recorded for the investor.
 
 ghost use Rattle.std.specs.Prelude.{◌≡◌, ◌+◌, ◌≤◌, true, is_some, Some, None, length, vec_capacity};
 ghost use Rattle.std.specs.List.{All};
@@ -58,8 +58,8 @@ pub(crate) fn enter<B: LoanBooks, L: Ledger>(
     record_dues(count + 1, id, month, dues, &state.loans, &mut state.seals);
 }
 
-/// Reverses an entry of a loan as the command after `count` others, and records what it changes in the dues of
-/// closed months.
+/// Reverses an entry of a loan as the command after `count` others, and records what it changes in the dues
+/// of closed months.
 pub(crate) fn reverse<B: LoanBooks, L: Ledger>(
     count: u32,
     id: u32,

@@ -15,8 +15,8 @@ use svc_loan::Loan;
 use svc_replay::LoanBooks;
 use svc_types::Terms;
 
-/// Takes a loan on that was made for the command with these terms, as the one after `count` others. Nothing else
-/// changes.
+/// Takes a loan on that was made for the command with these terms, as the one after `count` others. Nothing
+/// else changes.
 pub(crate) fn change_new<B: LoanBooks>(
     count: u32,
     id: u32,

@@ -1,4 +1,4 @@
-use Rattle.std.proofs.Common.{sym, ◌∙◌}
+use Rattle.std.proofs.Common.{◌∙◌}
 use Rattle.svc_core.specs.State.{world_of}
 use Rattle.svc_core.proofs.AnalysedLemmas.{analysing, asks_today, asks_lawful, asks_act, may_analyse, figures_are, analysed_world}
 use Rattle.svc_core.proofs.changing.analyse.Goals as goal

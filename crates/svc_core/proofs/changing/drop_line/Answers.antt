@@ -1,4 +1,4 @@
-use Rattle.std.proofs.Common.{◌+◌, sym, ◌∙◌}
+use Rattle.std.proofs.Common.{sym, ◌∙◌}
 use Rattle.svc_world.specs.Held.{without_bill}
 use Rattle.svc_world.proofs.LoanWorlds.{drop_quiet}
 use Rattle.svc_core.proofs.QuietLemmas.{quiet_world, quiet_kept, drop_fits, drop_world}

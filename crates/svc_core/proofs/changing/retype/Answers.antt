@@ -1,4 +1,4 @@
-use Rattle.std.proofs.Common.{◌+◌, sym, ◌∙◌}
+use Rattle.std.proofs.Common.{sym, ◌∙◌}
 use Rattle.svc_world.specs.Held.{with_type}
 use Rattle.svc_world.specs.LoanDues.{type_change}
 use Rattle.svc_world.proofs.LoanWorlds.{retype_quiet}

@@ -1,4 +1,4 @@
-use Rattle.std.proofs.Common.{◌+◌, sym, ◌∙◌}
+use Rattle.std.proofs.Common.{sym, ◌∙◌}
 use Rattle.svc_world.specs.Held.{with_bill}
 use Rattle.svc_world.proofs.LoanWorlds.{line_quiet}
 use Rattle.svc_core.proofs.QuietLemmas.{quiet_world, quiet_kept, line_fits, line_world}

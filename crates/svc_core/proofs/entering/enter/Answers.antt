@@ -7,9 +7,8 @@ use Rattle.svc_loan.specs.Closed.{closed_cost}
 use Rattle.svc_core.specs.State.{world_of}
 use Rattle.svc_core.specs.Costs.{entering_cost}
 use Rattle.svc_core.specs.Changing.{dues_since}
-use Rattle.svc_core.proofs.ChangingLemmas.{IsChanging, AreChanged, IsRecorded, asks_since, asks_room, later_since, later_change, later_room, world_after, kept_after, steps_after}
+use Rattle.svc_core.proofs.ChangingLemmas.{AreChanged, IsRecorded, asks_since, asks_room, later_since, later_change, later_room, world_after, kept_after, steps_after}
 use Rattle.svc_core.proofs.EnteringLemmas.{entering, may_post, few_entries}
-use Rattle.svc_core.proofs.entering.enter.Given.{Over}
 use Rattle.svc_core.proofs.entering.enter.Goals as goal
 
 pub copy_dues-requires-clause-since : goal.copy_dues-requires-clause-since
