@@ -5,26 +5,68 @@ ghost use Rattle.std.specs.List.{All};
 ghost use Rattle.svc_base.specs.Calendar.{last_day};
 ghost use Rattle.svc_base.specs.Text.{IsReadMonth};
 ghost use Rattle.svc_types.specs.declared.requests.Command.TheVariants as command;
+ghost use Rattle.svc_types.specs.Requests.{IsCommand};
 ghost use Rattle.period_adjust.specs.Conditions.{MayClose};
 ghost use Rattle.period_adjust.specs.Kept.{remit_fault};
 ghost use Rattle.period_adjust.specs.Totals as totals;
-ghost use Rattle.svc_world.specs.World.{after};
+ghost use Rattle.svc_world.specs.World.{after, today_after};
 ghost use Rattle.svc_world.specs.Refusals.{refusal_of};
 ghost use Rattle.svc_world.specs.Judging.{extra_of};
 ghost use Rattle.svc_loan.specs.Kept.{IsReady};
 ghost use Rattle.svc_loan.specs.Loans.{held_in};
 ghost use Rattle.svc_core.specs.Cash.{IsKeptIn};
 ghost use Rattle.svc_core.specs.Costs as cost;
+ghost use Rattle.svc_core.specs.Scope.{scope_of};
 ghost use Rattle.svc_core.specs.State.{world_of, IsState};
 
 use crate::reporting::fill_lines;
+use crate::scope::Scope;
 use crate::sent::{closed_extra, remit_lines, remitted_extra, report_of};
 use crate::state::State;
 use period_adjust::{ReportLine, Seals};
 use std::sync::ledger::Ledger;
 use svc_base::{Day, Month, Steps};
 use svc_replay::LoanBooks;
-use svc_types::Extra;
+use svc_types::{Command, Extra};
+
+/// What a command on all loans, which nothing refuses, changes of the world, and what the reply to it says. There
+/// is room for it, so it takes no memory and cannot fail.
+pub(crate) fn change_all<B: LoanBooks, L: Ledger>(
+    count: u32,
+    command: &Command,
+    state: &mut State<B>,
+    lines: &mut Vec<ReportLine>,
+    steps: &mut Steps<L>,
+) -> Extra
+    requires state { IsState count state.old.today state.old.loans state.old.seals }
+    requires command { IsCommand command.now }
+    requires scope { scope_of command.now ≡ Scope.Every }
+    requires fresh { refusal_of count (world_of state.old.today state.old.loans state.old.seals)
+        command.now ≡ None }
+    requires loans { All (IsReady (today_after state.old.today command.now)) state.old.loans.loans }
+    requires lines { length state.old.loans.loans ≤ vec_capacity lines.old }
+    requires report_lines { length state.old.loans.loans ≤ state.old.seals.line_room }
+    requires report { 1 ≤ state.old.seals.report_room }
+    ensures world { world_of state.new.today state.new.loans state.new.seals
+        ≡ after (count + 1) (world_of state.old.today state.old.loans state.old.seals) command.now }
+    ensures kept { All (IsKeptIn (world_of state.new.today state.new.loans state.new.seals))
+        state.new.loans.loans }
+    ensures extra { result ≡ extra_of (world_of state.old.today state.old.loans state.old.seals)
+        (after (count + 1) (world_of state.old.today state.old.loans state.old.seals) command.now) command.now }
+    ensures steps { steps.new ≤ steps.old + cost.accepting_cost B.cost B.month_cost
+        (world_of state.old.today state.old.loans state.old.seals)
+        (world_of state.new.today state.new.loans state.new.seals) command.now }
+{
+    match *command {
+        Command::Day(day) => {
+            change_day(count, day, state, steps);
+            Extra::Plain
+        }
+        Command::Close(month) => change_close(count, month, state, lines, steps),
+        Command::Remit(month) => change_remit(count, month, state),
+        _ => unreachable!(),
+    }
+}
 
 /// Moves the business day of all loans on. It takes no memory and cannot fail.
 fn change_day<B: LoanBooks, L: Ledger>(
