@@ -206,7 +206,10 @@ fn accept_scoped<B: LoanBooks, L: Ledger>(
     match scope_of(command) {
         Scope::One(id) => accept_one(count, id, command, state, cash, scratch, steps),
         Scope::New(id, terms) => match boarding {
-            Some(loan) => accept_new(count, id, &terms, loan, state, cash),
+            Some(loan) => {
+                accept_new(count, id, &terms, loan, state, cash);
+                Extra::Plain
+            }
             None => unreachable!(),
         },
         Scope::Every => accept_all(count, command, state, cash, scratch, steps),

@@ -1,8 +1,12 @@
-use Rattle.std.proofs.Common.{rules, ◌≡◌, ◌+◌, ◌≤◌, List, length, arith, sym, ap, subst, ◌∙◌}
+use Rattle.std.proofs.Common.{vec_capacity, rules, ◌≡◌, ◌+◌, ◌≤◌, List, length, arith, sym, ap, subst, ◌∙◌}
 use Rattle.std.specs.Prelude.{None, Some}
 use Rattle.svc_types.specs.Keys.{IsKey}
 use Rattle.svc_world.specs.Judging.{judged, Fresh}
 use Rattle.svc_world.specs.Refusals.{refusal_of}
+use Rattle.std.specs.Option.{option_map}
+use Rattle.svc_world.specs.World.{today_after}
+use Rattle.svc_core.specs.Scope.{scope_of}
+use Rattle.svc_core.specs.Ready.{IsReadyFor}
 use Rattle.svc_core.specs.State.{world_of}
 use Rattle.svc_core.proofs.PartsLemmas.{count_few, state_is, judged_here, refused_steps, fresh_steps, parts_same}
 use Rattle.svc_core.proofs.parts.judge_new.Goals as goal
@@ -62,5 +66,5 @@ returns-clause-prepared g c =
       key_formed = subst IsKey c.bytes.ensures.value c.bytes.ensures.key;
       formed = c.requires.command;
       place = c.in_ok-reserve.ensures.room;
-      ready = c.in_ok-prepare.ensures.ready;
+      ready = subst (λ d. IsReadyFor (scope_of c.args.command.now) d (today_after d c.args.command.now) c.prepare.new.state.loans c.prepare.new.state.seals c.prepare.new.cash.book.spare (vec_capacity c.prepare.new.scratch.dues) (vec_capacity c.prepare.new.scratch.totals) (vec_capacity c.prepare.new.scratch.lines) (option_map (λ b. b.value) c.prepare.new.boarding)) (sym c.in_ok-prepare.ensures.today) c.in_ok-prepare.ensures.ready;
     }
