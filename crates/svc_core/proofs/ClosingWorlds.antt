@@ -5,7 +5,7 @@ use Rattle.std.specs.List.{All, filter}
 use Rattle.std.specs.Option.{option_map_or}
 use Rattle.std.proofs.lemmas.Bool.Decides.{nat_tests}
 use Rattle.std.proofs.lemmas.List.Elements.{All-head, All-tail, All-cons, All-nil}
-use Rattle.svc_base.specs.Calendar.{month_of, last_day}
+use Rattle.svc_base.specs.Calendar.{last_day}
 use Rattle.svc_base.specs.Text.{IsReadMonth}
 use Rattle.svc_base.specs.Sums.{total_by}
 use Rattle.svc_types.specs.declared.requests.Command.TheVariants as command
@@ -27,13 +27,13 @@ use Rattle.svc_world.specs.Refusals.{refusal_of}
 use Rattle.svc_world.specs.Judging.{report_for, closed_extra, extra_of}
 use Rattle.svc_world.specs.Worlds.{IsWorld}
 use Rattle.svc_world.proofs.QuietWorlds.{after_month}
-use Rattle.svc_world.proofs.ClosedWorlds.{IsClosing, closing, closing_may, closed_report, close_keeps}
+use Rattle.svc_world.proofs.ClosedWorlds.{closing, closing_may, close_keeps}
 use Rattle.svc_loan.specs.Kept.{KeptLoan, IsReady}
 use Rattle.svc_loan.specs.Loans.{KeptLoans, MayCloseMonth, closed_by, held_in, closed_in, remitted_in}
 use Rattle.svc_core.specs.Cash.{IsKeptIn}
 use Rattle.svc_core.specs.Reported.{IsClosedFor, AreSent}
 use Rattle.svc_core.specs.State.{world_of, IsState}
-use Rattle.svc_core.proofs.EveryoneLemmas.{IsKeptAs, of_held, kept_by}
+use Rattle.svc_core.proofs.EveryoneLemmas.{of_held, kept_by}
 use Rattle.svc_core.proofs.ReportedLemmas.{lines_most, held_length}
 use Rattle.svc_core.proofs.SentWorlds.{found_sent}
 
@@ -49,14 +49,14 @@ close_may n p today loans seals h fresh ready =
     let w = world_of today loans seals in
     let c = (closing n p w fresh).0 in
     λ i d lt boarded.
-        let k = get_or loans.loans i d in
-        let first : last_month seals.reporting.reports ≡ None → p ≤ boarded_month k.held = λ none. of_held (λ (l : Held). p ≤ boarded_month l) loans.loans (c.first none) i d lt in
-        let day = of_held (λ (l : Held). l.account.today ≡ today) loans.loans (λ j x in'. (h.world.held j x in').today) i d lt in
-        let later = after_month p today h.world.today.exists c.ended in (
-          next_closed (last_month seals.reporting.reports) p (boarded_month k.held) k.closed c.next first (h.kept i d lt).closed boarded,
-          omega (arith, day, later),
-          (ready i d lt).closing,
-        )
+    let k = get_or loans.loans i d in
+    let first : last_month seals.reporting.reports ≡ None → p ≤ boarded_month k.held = λ none. of_held (λ (l : Held). p ≤ boarded_month l) loans.loans (c.first none) i d lt in
+    let day = of_held (λ (l : Held). l.account.today ≡ today) loans.loans (λ j x in'. (h.world.held j x in').today) i d lt in
+    let later = after_month p today h.world.today.exists c.ended in (
+      next_closed (last_month seals.reporting.reports) p (boarded_month k.held) k.closed c.next first (h.kept i d lt).closed boarded,
+      omega (arith, day, later),
+      (ready i d lt).closing,
+    )
 
 -- ---- and then it is
 

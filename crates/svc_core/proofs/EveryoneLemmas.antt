@@ -1,5 +1,5 @@
 -- Commands on all loans: what is kept of each, and what they cost.
-use Rattle.std.proofs.Common.{◌≡◌, ℕ, ◌+◌, ◌≤◌, max, List, [], ◌∷◌, map, ℤ, arith, refl, sym, ap, subst, ◌∙◌}
+use Rattle.std.proofs.Common.{◌≡◌, ℕ, ◌+◌, ◌≤◌, max, List, [], ◌∷◌, map, ℤ, arith, refl, sym, ap, ◌∙◌}
 use Rattle.std.specs.Prelude.{None, sum_by}
 use Rattle.std.specs.List.{All}
 use Rattle.std.proofs.lemmas.List.Elements.{All-head, All-tail, All-cons, All-nil}
@@ -15,7 +15,6 @@ use Rattle.svc_world.specs.Reports.{months_of, changes_of}
 use Rattle.svc_world.specs.World.{World, loans_after, seals_after, after}
 use Rattle.svc_world.specs.Custody.{remitted_for}
 use Rattle.svc_world.specs.Refusals.{refusal_of}
-use Rattle.svc_world.specs.Worlds.{IsHeld, IsWorld}
 use Rattle.svc_world.proofs.DayWorlds.{day_later, day_none, none_pending}
 use Rattle.svc_loan.specs.Kept.{KeptLoan}
 use Rattle.svc_loan.specs.Loans.{KeptLoans, held_in, closed_in, remitted_in, advance_cost}

@@ -1,8 +1,8 @@
 -- What the reports of a sound world send, and the one that is remitted next.
-use Rattle.std.proofs.Common.{◌≡◌, ℕ, suc, ◌+◌, ◌≤◌, ◌<◌, Bool, true, false, not, cond, List, [], ◌∷◌, ◌++◌, map, length, take, get_or, max, ℤ, pos, ◌+ℤ◌, arith, refl, sym, ap, subst, ◌∙◌}
-use Rattle.std.specs.Prelude.{◌==◌, nat_le, nat_lt, is_some, Option, Some, None, if◌then◌else◌}
+use Rattle.std.proofs.Common.{◌≡◌, ℕ, suc, ◌+◌, ◌≤◌, ◌<◌, Bool, true, false, not, cond, List, [], ◌∷◌, ◌++◌, map, length, take, get_or, pos, ◌+ℤ◌, arith, refl, sym, ap, subst, ◌∙◌}
+use Rattle.std.specs.Prelude.{◌==◌, nat_le, is_some, Option, Some, None, if◌then◌else◌}
 use Rattle.std.specs.List.{All, AllPairs, filter}
-use Rattle.std.specs.Option.{option_map, option_map_or}
+use Rattle.std.specs.Option.{option_map_or}
 use Rattle.std.proofs.lemmas.Int.{ints}
 use Rattle.std.proofs.lemmas.Bool.Decides.{nat_tests}
 use Rattle.std.proofs.lemmas.List.{take_more}
@@ -22,7 +22,7 @@ use Rattle.period_adjust.specs.Kept.{AreConsecutive, is_after, next_remit, remit
 use Rattle.svc_world.specs.Held.{Held, find_loan}
 use Rattle.svc_world.specs.Reports.{months_of, changes_of}
 use Rattle.svc_world.specs.World.{World, loans_after, seals_after, after}
-use Rattle.svc_world.specs.Custody.{sent_of_line, sent_for, remitted_reports, remitted_for}
+use Rattle.svc_world.specs.Custody.{sent_for, remitted_reports, remitted_for}
 use Rattle.svc_world.specs.Refusals.{case, refusal_of, full_of_commands, not_closed, is_closed_by, expected_remit, remit_cases}
 use Rattle.svc_world.specs.Judging.{report_for, net_of, extra_of}
 use Rattle.svc_world.specs.Worlds.{IsThere, IsPassed, sent_part, IsWorld}
@@ -33,11 +33,11 @@ use Rattle.svc_world.proofs.RemittedLemmas.{later_none, remitted_within}
 use Rattle.svc_loan.specs.Kept.{KeptLoan}
 use Rattle.svc_loan.specs.Loans.{KeptLoans, find_kept, held_in, closed_in, remitted_in}
 use Rattle.svc_core.specs.Cash.{IsKeptIn}
-use Rattle.svc_core.specs.Reported.{IsSmallPart, IsSmallRemitted, AreSent, interest_of, principal_of, remitted_with}
+use Rattle.svc_core.specs.Reported.{IsSmallPart, IsSmallRemitted, AreSent, remitted_with}
 use Rattle.svc_core.specs.State.{world_of, IsState}
 use Rattle.svc_core.proofs.RuleLemmas.{find-held, some-mapped}
 use Rattle.svc_core.proofs.RemittingLemmas.{by_loan, own_here}
-use Rattle.svc_core.proofs.EveryoneLemmas.{IsKeptAs, kept_by}
+use Rattle.svc_core.proofs.EveryoneLemmas.{kept_by}
 
 -- ---- no more lines than loans
 
@@ -108,8 +108,8 @@ report_sent n w h = λ j x lt.
     let loans = h.few in
     let few = lines_few w.loans r.lines h.rising up there in
     let small : (part : DuePart) (i : ℕ) (d : ReportLine) → i < length r.lines → IsSmallPart (part_of_line part (get_or r.lines i d) +ℤ part_of_sums part (get_or r.lines i d)) = λ part i d in'.
-        let id = (get_or r.lines i d).loan in
-        subst IsSmallPart (part_here part r i d up in') (passed_small part id rs j x lt (h.reports.passed part j id) (h.reports.passed part (j + 1) id)) in
+    let id = (get_or r.lines i d).loan in
+    subst IsSmallPart (part_here part r i d up in') (passed_small part id rs j x lt (h.reports.passed part j id) (h.reports.passed part (j + 1) id)) in
     record {
       few = omega (arith, few, loans);
       rising = up;
@@ -267,12 +267,12 @@ remit_kept n p today loans later seals sealed r h may found is held closed remit
     let w = world_of today loans seals in
     let done = world_of today later (with_remitted seals p) in
     let kept = kept_by done (λ (k : KeptLoan). k.held) (λ (k : KeptLoan). k.closed) (remitted_with r.lines) loans.loans later.loans held closed remitted (λ i d lt.
-        let k = get_or loans.loans i d in
-        let before = h.kept i d lt in
-        record {
-          sent = ap (λ z. z +ℤ sent_for k.held.id r) before.remitted ∙ sym (remitted_more n p k.held.id w r h.world may found);
-          months = before.closed;
-        })
+    let k = get_or loans.loans i d in
+    let before = h.kept i d lt in
+    record {
+      sent = ap (λ z. z +ℤ sent_for k.held.id r) before.remitted ∙ sym (remitted_more n p k.held.id w r h.world may found);
+      months = before.closed;
+    })
     in
     subst (λ (s : State). All (IsKeptIn (world_of today later s)) later.loans) (sym is) kept
 

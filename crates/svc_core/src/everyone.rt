@@ -29,8 +29,8 @@ use svc_base::{Day, Month, Steps};
 use svc_replay::LoanBooks;
 use svc_types::{Command, Extra};
 
-/// What a command on all loans, which nothing refuses, changes of the world, and what the reply to it says. There
-/// is room for it, so it takes no memory and cannot fail.
+/// What a command on all loans, which nothing refuses, changes of the world, and what the reply to it says.
+/// There is room for it, so it takes no memory and cannot fail.
 pub(crate) fn change_all<B: LoanBooks, L: Ledger>(
     count: u32,
     command: &Command,
@@ -52,7 +52,8 @@ pub(crate) fn change_all<B: LoanBooks, L: Ledger>(
     ensures kept { All (IsKeptIn (world_of state.new.today state.new.loans state.new.seals))
         state.new.loans.loans }
     ensures extra { result ≡ extra_of (world_of state.old.today state.old.loans state.old.seals)
-        (after (count + 1) (world_of state.old.today state.old.loans state.old.seals) command.now) command.now }
+        (after (count + 1) (world_of state.old.today state.old.loans state.old.seals) command.now)
+        command.now }
     ensures steps { steps.new ≤ steps.old + cost.accepting_cost B.cost B.month_cost
         (world_of state.old.today state.old.loans state.old.seals)
         (world_of state.new.today state.new.loans state.new.seals) command.now }
@@ -90,9 +91,9 @@ fn change_day<B: LoanBooks, L: Ledger>(
     state.today = day;
 }
 
-/// Closes a month, of which nothing is wrong: its report is sealed with a line of each loan that is reported, and
-/// the month of each loan that was boarded by it is closed. There is room for it, so it takes no memory and
-/// cannot fail.
+/// Closes a month, of which nothing is wrong: its report is sealed with a line of each loan that is
+/// reported, and the month of each loan that was boarded by it is closed. There is room for it, so it takes
+/// no memory and cannot fail.
 fn change_close<B: LoanBooks, L: Ledger>(
     count: u32,
     month: Month,

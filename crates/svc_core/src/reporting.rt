@@ -1,6 +1,7 @@
 //! The lines of a month's report, from the loans.
 
-ghost use Rattle.std.specs.Prelude.{◌≡◌, ◌+◌, ◌<◌, ◌≤◌, ◌||◌, [], ◌∷◌, ◌++◌, not, length, vec_len, vec_capacity};
+ghost use Rattle.std.specs.Prelude.{◌≡◌, ◌+◌, ◌<◌, ◌≤◌, ◌||◌, [], ◌∷◌, ◌++◌, not, length};
+ghost use Rattle.std.specs.Prelude.{vec_len, vec_capacity};
 ghost use Rattle.std.specs.List.{All};
 ghost use Rattle.svc_base.specs.Calendar.{months_begin};
 ghost use Rattle.svc_world.specs.Held.{boarded_month};
@@ -34,12 +35,7 @@ pub(crate) fn fill_lines<B: LoanBooks>(
 }
 
 /// Adds the line of a loan, where it is reported.
-fn add_line<B: LoanBooks>(
-    lines: &mut Vec<ReportLine>,
-    loan: &Loan<B>,
-    seals: &Seals,
-    month: Month,
-)
+fn add_line<B: LoanBooks>(lines: &mut Vec<ReportLine>, loan: &Loan<B>, seals: &Seals, month: Month)
     requires month { months_begin < month }
     requires closed { IsClosedFor month loan.now }
     requires room { vec_len lines.old < vec_capacity lines.old }
@@ -72,11 +68,7 @@ fn has_line(before: &Carry, due: &MonthDue, adjusted: bool) -> bool
     ensures { result ≡ (not (rule.is_zero before.now.upb) || not (rule.is_zero before.now.balance)
         || not (rule.is_zero due.now.interest) || not (rule.is_zero due.now.principal) || adjusted) }
 {
-    before.upb != 0
-        || before.balance != 0
-        || due.interest != 0
-        || due.principal != 0
-        || adjusted
+    before.upb != 0 || before.balance != 0 || due.interest != 0 || due.principal != 0 || adjusted
 }
 
 /// The line of a loan for a month that is closed.

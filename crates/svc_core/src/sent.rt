@@ -8,7 +8,8 @@ ghost use Rattle.period_adjust.specs.Conditions.{IsClosed};
 ghost use Rattle.svc_world.specs.Custody as rule;
 ghost use Rattle.svc_world.specs.Judging.{report_for, closed_extra, net_of};
 ghost use Rattle.svc_loan.specs.Loans.{held_in, closed_in, remitted_in, find_kept};
-ghost use Rattle.svc_core.specs.Reported.{IsSmallPart, IsSmallSent, IsSmallRemitted, AreSent, interest_of, principal_of, remitted_with};
+ghost use Rattle.svc_core.specs.Reported.{IsSmallPart, IsSmallSent, IsSmallRemitted, AreSent};
+ghost use Rattle.svc_core.specs.Reported.{interest_of, principal_of, remitted_with};
 
 use period_adjust::{Report, ReportLine, Seals};
 use svc_base::{Cents, Month};

@@ -1,4 +1,4 @@
-use Rattle.std.proofs.Common.{◌≡◌, ◌+◌, ◌≤◌, length, arith, ◌∙◌}
+use Rattle.std.proofs.Common.{◌≡◌, ◌+◌, arith, ◌∙◌}
 use Rattle.svc_types.specs.declared.requests.Command.TheVariants as command
 use Rattle.svc_world.specs.Reports.{lines_of}
 use Rattle.svc_world.specs.World.{after}

@@ -1,10 +1,9 @@
-use Rattle.std.proofs.Common.{◌≡◌, List, sym, ap, subst, ◌∙◌}
-use Rattle.std.specs.Prelude.{Some, true, is_some}
+use Rattle.std.proofs.Common.{◌≡◌, List, sym, subst, ◌∙◌}
+use Rattle.std.specs.Prelude.{true, is_some}
 use Rattle.std.specs.List.{All}
 use Rattle.period_adjust.specs.declared.report_line.ReportLine.{ReportLine}
 use Rattle.period_adjust.specs.Sealed.{State}
 use Rattle.period_adjust.specs.Conditions.{IsClosed}
-use Rattle.svc_world.specs.Judging.{report_for}
 use Rattle.svc_loan.specs.Loans.{find_kept}
 use Rattle.svc_core.specs.Reported.{AreSent}
 use Rattle.svc_core.specs.State.{world_of}

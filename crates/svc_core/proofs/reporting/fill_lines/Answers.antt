@@ -1,10 +1,8 @@
 use Rattle.std.proofs.Common.{◌≡◌, ◌<◌, ◌∷◌, [], ◌++◌, length, take, vec_len, rules, arith, refl, sym, ap, ◌∙◌}
 use Rattle.std.proofs.lemmas.List.{length-take}
 use Rattle.svc_world.specs.Reports.{lines_of}
-use Rattle.svc_loan.specs.Kept.{KeptLoan}
 use Rattle.svc_loan.specs.Loans.{held_in}
 use Rattle.svc_core.proofs.ReportedLemmas.{lines_none, lines_most, lines_more, held_length}
-use Rattle.svc_core.proofs.reporting.fill_lines.Given.{Over}
 use Rattle.svc_core.proofs.reporting.fill_lines.Goals as goal
 
 pub loop-i-init : goal.loop-i-init

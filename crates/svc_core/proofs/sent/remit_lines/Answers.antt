@@ -1,4 +1,4 @@
-use Rattle.std.proofs.Common.{◌≤ℤ◌, ◌+ℤ◌, pos, neg_ℤ, get_or, w64, to_z, of_z, ◌∙◌, subst, sym}
+use Rattle.std.proofs.Common.{◌≤ℤ◌, ◌+ℤ◌, pos, neg_ℤ, get_or, w64, to_z, of_z, ◌∙◌}
 use Rattle.svc_loan.specs.Kept.{KeptLoan}
 use Rattle.svc_loan.specs.Loans.{OfLoan, find_kept}
 use Rattle.svc_core.proofs.RemittingLemmas.{IsWithinLimits, no_line, sent_same, may_send, all_sent, of_weaker}
