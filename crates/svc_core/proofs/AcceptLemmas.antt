@@ -177,7 +177,7 @@ one_added n id w v rows custody x y is later cash h xe ye xw yw =
     ∙ ap (λ (z : Position). rows_of (n + 1) id x.totals z.totals) (sym ye) in
     let numbers : numbers_of v.loans ≡ numbers_of w.loans = ap numbers_of h.loans ∙ changed_numbers id h.change w.loans h.keeps in
     record {
-      may = may_by n id w v rows custody x.totals y.totals later cash made (λ account. rows_are_cash account (n + 1) w v rows is.rising numbers (accounts n w is) (accounts (n + 1) v later)) xw.all yw.all;
+      may = may_by n id w v rows custody x.totals y.totals later cash made (λ account. rows_are_cash account (n + 1) w v rows is.rising numbers (accounts n w is) (accounts (n + 1) v later)) xw.totals yw.totals;
       made = sym made;
       line = sym (one_line id w v h ∙ ap (λ z. line_after (custody_of w) z (position v (find_loan id v.loans))) (sym xe) ∙ ap (line_after (custody_of w) x) (sym ye));
     }
@@ -228,7 +228,7 @@ new_added n w v l rows custody x y is later cash h xe ye xw yw =
     ∙ ap (λ (z : Position). rows_of (n + 1) l.id z.totals (position_of v l).totals) (sym xe)
     ∙ ap (λ (z : Position). rows_of (n + 1) l.id x.totals z.totals) (sym (ye ∙ new_later n l w v h)) in
     record {
-      may = may_by n l.id w v rows custody x.totals y.totals later cash made (λ account. boarding_rows_are_cash account (n + 1) w v rows l is.rising h.loans h.new (accounts n w is) (accounts (n + 1) v later)) xw.all yw.all;
+      may = may_by n l.id w v rows custody x.totals y.totals later cash made (λ account. boarding_rows_are_cash account (n + 1) w v rows l is.rising h.loans h.new (accounts n w is) (accounts (n + 1) v later)) xw.totals yw.totals;
       made = sym made;
       line = sym (
           custody_is v
