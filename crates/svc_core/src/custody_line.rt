@@ -4,7 +4,8 @@ ghost use Rattle.std.specs.Prelude.{◌≡◌, ◌+ℤ◌, ◌-ℤ◌};
 ghost use Rattle.svc_world.specs.Custody.{custody_of};
 ghost use Rattle.svc_core.specs.State.{world_of};
 ghost use Rattle.svc_core.specs.Positions as rule;
-ghost use Rattle.svc_core.specs.Positions.{CanRead, IsHolding, IsPosition, IsShare, AreShares, IsLineSum, IsLine};
+ghost use Rattle.svc_core.specs.Positions.{CanRead, IsHolding, IsPosition, IsLine};
+ghost use Rattle.svc_core.specs.Positions.{IsShare, AreShares, IsLineSum};
 
 use crate::position::{Position, no_position, position_at};
 use crate::state::State;
@@ -32,7 +33,7 @@ pub(crate) fn line_after(line: &Custody, before: &Position, later: &Position) ->
     }
 }
 
-/// A sum over all loans after the part of one of them changed.
+/// A sum over all loans after one loan's share of it changed.
 #[tactic(auto, using(svc_base::proofs::CentsRules::cents))]
 fn sum_after(sum: Cents, was: Cents, is: Cents) -> Cents
     requires sum { IsLineSum sum }
@@ -50,7 +51,11 @@ fn share_of(position: &Position) -> Custody
     ensures limits { AreShares result }
 {
     Custody {
-        t: borrower_cash(position.suspense, position.escrow, position.totals.escrow_advance),
+        t: borrower_cash(
+            position.suspense,
+            position.escrow,
+            position.totals.escrow_advance,
+        ),
         p: position.held,
         suspense: position.suspense,
         escrow: position.escrow,

@@ -1,8 +1,7 @@
-use Rattle.std.proofs.Common.{◌≡◌, get_or, refl, sym, ap, subst, ◌∙◌}
+use Rattle.std.proofs.Common.{◌≡◌, refl, sym, ap, subst, ◌∙◌}
 use Rattle.std.proofs.Math.ListN.{get_or-map as get_mapped}
 use Rattle.std.proofs.lemmas.List.{get_or_default, length-map}
 use Rattle.std.proofs.Common.{arith}
-use Rattle.svc_world.specs.Held.{Held}
 use Rattle.svc_world.specs.World.{World}
 use Rattle.svc_loan.specs.Kept.{KeptLoan}
 use Rattle.svc_loan.specs.Loans.{held_in}

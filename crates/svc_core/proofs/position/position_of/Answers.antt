@@ -1,10 +1,7 @@
 use Rattle.std.proofs.Common.{◌≡◌, refl, sym, ap, subst, ◌∙◌}
-use Rattle.std.specs.Prelude.{Some, None}
 use Rattle.std.specs.Option.{option_map}
 use Rattle.svc_world.specs.World.{World}
-use Rattle.svc_world.specs.Held.{find_loan}
 use Rattle.svc_loan.specs.Kept.{KeptLoan}
-use Rattle.svc_loan.specs.Loans.{find_kept, held_in}
 use Rattle.svc_core.specs.Positions as rule
 use Rattle.svc_core.specs.Positions.{IsPosition}
 use Rattle.svc_core.specs.State.{world_of}
