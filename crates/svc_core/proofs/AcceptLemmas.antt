@@ -1,6 +1,6 @@
 -- What accepting a command does to rows and to the custodial line, from the worlds before and after it.
-use Rattle.std.proofs.Common.{◌≡◌, ℕ, ◌+◌, ◌≤◌, ◌<◌, List, [], ◌∷◌, ◌++◌, map, length, get_or, true, arith, refl, sym, ap, subst, ◌∙◌}
-use Rattle.std.specs.Prelude.{◌==◌, if◌then◌else◌, pos, ◌+ℤ◌, ◌-ℤ◌, Option, Some, None, MatchOption}
+use Rattle.std.proofs.Common.{◌≡◌, ℕ, ◌+◌, ◌≤◌, ◌<◌, List, ◌++◌, map, length, get_or, true, arith, refl, sym, ap, subst, ◌∙◌}
+use Rattle.std.specs.Prelude.{◌==◌, if◌then◌else◌, ◌+ℤ◌, ◌-ℤ◌, Option, Some, None, MatchOption}
 use Rattle.std.specs.List.{All}
 use Rattle.std.proofs.lemmas.Bool.Decides.{nat_tests}
 use Rattle.std.proofs.lemmas.Int.{ints}
@@ -27,9 +27,9 @@ use Rattle.svc_world.specs.World.{World, entry, with_analysis, loans_after, seal
 use Rattle.svc_world.specs.Worlds.{IsLimited, IsWorld}
 use Rattle.svc_world.specs.Refusals.{refusal_of}
 use Rattle.svc_world.specs.Custody.{totals_of, rows_made, rows_between, custody_of, borrower_cash, held_for}
-use Rattle.svc_world.proofs.LoanListLemmas.{KeepsNumber, IsFound, all_found, find_changed, find_boarded, numbers_of, changed_numbers, mapped_numbers, length_by}
-use Rattle.svc_world.proofs.CashLemmas.{holds, cash_is_held, rows_are_cash, boarding_rows_are_cash, held_sum}
-use Rattle.svc_world.proofs.RemittedLemmas.{balance_within, totals_within, held_within}
+use Rattle.svc_world.proofs.LoanListLemmas.{KeepsNumber, all_found, find_changed, find_boarded, numbers_of, changed_numbers, mapped_numbers, length_by}
+use Rattle.svc_world.proofs.CashLemmas.{holds, rows_are_cash, boarding_rows_are_cash, held_sum}
+use Rattle.svc_world.proofs.RemittedLemmas.{balance_within, totals_within}
 use Rattle.svc_world.proofs.LawLemmas.{accounts}
 use Rattle.svc_world.proofs.HistoryLemmas.{accepted_keeps}
 use Rattle.svc_world.proofs.BoardWorlds.{boarding}
@@ -177,7 +177,7 @@ one_added n id w v rows custody x y is later cash h xe ye xw yw =
     ∙ ap (λ (z : Position). rows_of (n + 1) id x.totals z.totals) (sym ye) in
     let numbers : numbers_of v.loans ≡ numbers_of w.loans = ap numbers_of h.loans ∙ changed_numbers id h.change w.loans h.keeps in
     record {
-      may = may_by n id w v rows custody x.totals y.totals later cash made (λ account. rows_are_cash account (n + 1) w v rows is.rising numbers (accounts n w is) (accounts (n + 1) v later)) xw.all yw.all;
+      may = may_by n id w v rows custody x.totals y.totals later cash made (λ account. rows_are_cash account (n + 1) w v rows is.rising numbers (accounts n w is) (accounts (n + 1) v later)) xw.totals yw.totals;
       made = sym made;
       line = sym (one_line id w v h ∙ ap (λ z. line_after (custody_of w) z (position v (find_loan id v.loans))) (sym xe) ∙ ap (line_after (custody_of w) x) (sym ye));
     }
@@ -228,7 +228,7 @@ new_added n w v l rows custody x y is later cash h xe ye xw yw =
     ∙ ap (λ (z : Position). rows_of (n + 1) l.id z.totals (position_of v l).totals) (sym xe)
     ∙ ap (λ (z : Position). rows_of (n + 1) l.id x.totals z.totals) (sym (ye ∙ new_later n l w v h)) in
     record {
-      may = may_by n l.id w v rows custody x.totals y.totals later cash made (λ account. boarding_rows_are_cash account (n + 1) w v rows l is.rising h.loans h.new (accounts n w is) (accounts (n + 1) v later)) xw.all yw.all;
+      may = may_by n l.id w v rows custody x.totals y.totals later cash made (λ account. boarding_rows_are_cash account (n + 1) w v rows l is.rising h.loans h.new (accounts n w is) (accounts (n + 1) v later)) xw.totals yw.totals;
       made = sym made;
       line = sym (
           custody_is v
@@ -237,7 +237,7 @@ new_added n w v l rows custody x y is later cash h xe ye xw yw =
           ∙ ap (λ (z : Custody). line_after z no_position (position_of v l)) (sym (custody_is w))
           ∙ ap (λ z. line_after (custody_of w) z (position_of v l)) (sym xe)
           ∙ ap (line_after (custody_of w) x) (sym (ye ∙ new_later n l w v h))
-      );
+          );
     }
 
 pub accepted_new : (n id : ℕ) (w v : World) (t : Terms) (rows : List Row) (custody : Custody) (x y : Position) → IsWorld n w → IsCommand (command.Board id t) → refusal_of n w (command.Board id t) ≡ None → v ≡ after (n + 1) w (command.Board id t) → IsCash n w rows custody → x ≡ no_position → y ≡ position v (find_loan id v.loans) → IsPosition x → IsPosition y → IsAdded n id w v rows x y

@@ -1,15 +1,14 @@
 -- The rows of a command for all loans come after those of earlier commands, and the balances stay within the limits.
 use Rattle.std.proofs.Common.{◌≡◌, ℕ, zero, suc, ◌+◌, ◌-◌, ◌*◌, ◌≤◌, ◌<◌, true, false, cond, inl, inr, List, [], ◌∷◌, ◌++◌, map, length, take, drop, get_or, arith, refl, sym, ap, subst, ◌∙◌, append-nil, append_assoc}
-use Rattle.std.specs.Prelude.{ℤ, pos, ◌+ℤ◌, ◌-ℤ◌, ◌≤ℤ◌, Option, Some, None, IfSome, slice_get}
+use Rattle.std.specs.Prelude.{ℤ, pos, ◌+ℤ◌, ◌-ℤ◌, Option, Some, None, IfSome, slice_get}
 use Rattle.std.specs.Ordering.{int_eq}
 use Rattle.std.specs.List.{All, AllPairs, filter_map, cons_option}
 use Rattle.std.proofs.lemmas.Int.{ints}
 use Rattle.std.proofs.lemmas.List.{length-take, length-drop, length-map}
-use Rattle.std.proofs.lemmas.List.Elements.{All-nil, All-cons, All-head, All-tail, All-append, All-take, All-drop, All-get_or}
+use Rattle.std.proofs.lemmas.List.Elements.{All-nil, All-cons, All-head, All-tail, All-append, All-take, All-drop}
 use Rattle.svc_base.specs.Sums.{total_by}
 use Rattle.custodial_book.specs.declared.part.Account.{Account}
 use Rattle.custodial_book.specs.declared.part.Account.TheVariants.{T, P}
-use Rattle.custodial_book.specs.declared.part.Part.{Part}
 use Rattle.custodial_book.specs.declared.row.Row.{Row}
 use Rattle.custodial_book.specs.declared.row.Totals.{Totals}
 use Rattle.custodial_book.specs.Parts.{parts}
@@ -234,7 +233,7 @@ may_append_here n id w xs rows now i d e x later may lt number are is =
     let done = rows ++ rows_along n w (take i xs) (take i w.loans) in
     subst (λ j. MayAppend n j now y x.totals) (sym number)
     (subst (λ rs. MayAppend n (get_or w.loans i e).id rs y x.totals) (sym are)
-        (subst (λ (z : Position). MayAppend n (get_or w.loans i e).id done y z.totals) (sym is) (may_append_at n w xs rows i d e later may lt)))
+    (subst (λ (z : Position). MayAppend n (get_or w.loans i e).id done y z.totals) (sym is) (may_append_at n w xs rows i d e later may lt)))
 
 pub rows_here : (n id : ℕ) (w : World) (xs : List Totals) (rows now next : List Row) (i : ℕ) (d : Totals) (e : Held) (x : Position) → MayAppendAll n w xs rows → i < length w.loans → id ≡ (get_or w.loans i e).id → now ≡ rows ++ rows_along n w (take i xs) (take i w.loans) → x ≡ position_of w (get_or w.loans i e) → next ≡ now ++ rows_of n id (get_or xs i d) x.totals → next ≡ rows ++ rows_along n w (take (i + 1) xs) (take (i + 1) w.loans)
 rows_here n id w xs rows now next i d e x may lt number are is added =

@@ -1,5 +1,5 @@
 -- The numbers of the custodial line.
-use Rattle.std.proofs.Common.{◌≡◌, ℕ, zero, suc, ◌+◌, ◌*◌, ◌≤◌, ◌<◌, List, [], ◌∷◌, length, take, get_or, ℤ, pos, neg_ℤ, ◌+ℤ◌, ◌-ℤ◌, ◌≤ℤ◌, w64, to_z, of_z, arith, refl, sym, ap, ◌∙◌}
+use Rattle.std.proofs.Common.{◌≡◌, ℕ, zero, suc, ◌+◌, ◌*◌, ◌≤◌, ◌<◌, List, [], ◌∷◌, length, take, get_or, ℤ, pos, neg_ℤ, ◌+ℤ◌, ◌-ℤ◌, ◌≤ℤ◌, w64, to_z, of_z, arith, refl, ap}
 use Rattle.std.specs.Prelude.{Some}
 use Rattle.std.specs.List.{All}
 use Rattle.std.proofs.lemmas.Int.{ints}
@@ -14,7 +14,7 @@ use Rattle.svc_world.specs.World.{World}
 use Rattle.svc_world.specs.Custody.{totals_of, held_for, advanced_for, borrower_cash, custody_of}
 use Rattle.svc_world.proofs.CashLemmas.{sum_with_loan}
 use Rattle.svc_loan.proofs.ClosedLemmas.{cents_same}
-use Rattle.svc_core.specs.Positions.{IsHolding, IsPosition, IsLinePart, IsLineSum, IsLine, position_of, no_position, line_after}
+use Rattle.svc_core.specs.Positions.{IsHolding, IsPosition, IsShare, IsLineSum, IsLine, position_of, no_position, line_after}
 use Rattle.svc_core.proofs.SameLemmas.{SameReports, held_same, advanced_same, sum_changed}
 
 abbrev lined : ℤ → ℤ → ℤ → ℤ → ℤ → ℤ → ℤ → Custody
@@ -28,14 +28,14 @@ same_line q r u v w x y = rw (q, r, u, v, w, x, y) refl
 sum_same : (z : ℤ) → neg_ℤ (pos 5_000_000_000_000_000_000) ≤ℤ z → z ≤ℤ pos 5_000_000_000_000_000_000 → to_z w64 (of_z w64 z) ≡ z
 sum_same z low high = grind (arith, cents)
 
-pub part_passed : (z : ℤ) → IsHolding z → IsLinePart (to_z w64 (of_z w64 z))
-part_passed z h =
+pub share_passed : (z : ℤ) → IsHolding z → IsShare (to_z w64 (of_z w64 z))
+share_passed z h =
     let l = h.low in let m = h.high in
     let same = cents_same z (omega (arith, ints, l)) (omega (arith, ints, m)) in
     record { low = omega (arith, ints, same, l); high = omega (arith, ints, same, m) }
 
-pub whole_passed : (x s e a : ℤ) → x ≡ to_z w64 (of_z w64 s) +ℤ to_z w64 (of_z w64 e) +ℤ to_z w64 (of_z w64 a) → IsHolding s → IsHolding e → IsHolding a → IsLinePart (to_z w64 (of_z w64 x))
-whole_passed x s e a is hs he ha =
+pub cash_passed : (x s e a : ℤ) → x ≡ to_z w64 (of_z w64 s) +ℤ to_z w64 (of_z w64 e) +ℤ to_z w64 (of_z w64 a) → IsHolding s → IsHolding e → IsHolding a → IsShare (to_z w64 (of_z w64 x))
+cash_passed x s e a is hs he ha =
     let s1 = hs.low in let s2 = hs.high in
     let e1 = he.low in let e2 = he.high in
     let a1 = ha.low in let a2 = ha.high in
@@ -47,7 +47,7 @@ whole_passed x s e a is hs he ha =
     let same = cents_same x (omega (arith, ints, low)) (omega (arith, ints, high)) in
     record { low = omega (arith, ints, same, low); high = omega (arith, ints, same, high) }
 
-pub sum_passed : (x s b a b' a' : ℤ) → x ≡ to_z w64 (of_z w64 s) +ℤ (to_z w64 (of_z w64 a) -ℤ to_z w64 (of_z w64 b)) → IsLineSum s → IsLinePart b → IsLinePart a → b ≡ b' → a ≡ a' → to_z w64 (of_z w64 x) ≡ s +ℤ (a' -ℤ b')
+pub sum_passed : (x s b a b' a' : ℤ) → x ≡ to_z w64 (of_z w64 s) +ℤ (to_z w64 (of_z w64 a) -ℤ to_z w64 (of_z w64 b)) → IsLineSum s → IsShare b → IsShare a → b ≡ b' → a ≡ a' → to_z w64 (of_z w64 x) ≡ s +ℤ (a' -ℤ b')
 sum_passed x s b a b' a' is hs hb ha be ae =
     let s1 = hs.low in let s2 = hs.high in
     let b1 = hb.low in let b2 = hb.high in
@@ -73,26 +73,26 @@ record AreWithin (n : ℕ) (z : ℤ) : Type 0 where
   low : neg_ℤ (pos (300_000_000_000_000 * n)) ≤ℤ z
   high : z ≤ℤ pos (300_000_000_000_000 * n)
 
-parts_within : (f : Held → ℤ) (ls : List Held) → All (λ (l : Held). IsLinePart (f l)) ls → AreWithin (length ls) (total_by f ls)
-parts_within f [] h = record { low = omega (arith, ints); high = omega (arith, ints) }
-parts_within f (l ∷ ls) h =
-    let here = All-head (λ (k : Held). IsLinePart (f k)) l ls h in
-    let rest = parts_within f ls (All-tail (λ (k : Held). IsLinePart (f k)) l ls h) in
+shares_within : (f : Held → ℤ) (ls : List Held) → All (λ (l : Held). IsShare (f l)) ls → AreWithin (length ls) (total_by f ls)
+shares_within f [] h = record { low = omega (arith, ints); high = omega (arith, ints) }
+shares_within f (l ∷ ls) h =
+    let here = All-head (λ (k : Held). IsShare (f k)) l ls h in
+    let rest = shares_within f ls (All-tail (λ (k : Held). IsShare (f k)) l ls h) in
     let l1 = here.low in let h1 = here.high in
     let l2 = rest.low in let h2 = rest.high in
     record { low = omega (arith, ints, l1, l2); high = omega (arith, ints, h1, h2) }
 
-parts_sum : (f : Held → ℤ) (ls : List Held) → length ls ≤ 12_000 → All (λ (l : Held). IsLinePart (f l)) ls → IsLineSum (total_by f ls)
-parts_sum f ls few h =
-    let sum = parts_within f ls h in
+shares_sum : (f : Held → ℤ) (ls : List Held) → length ls ≤ 12_000 → All (λ (l : Held). IsShare (f l)) ls → IsLineSum (total_by f ls)
+shares_sum f ls few h =
+    let sum = shares_within f ls h in
     let l = sum.low in let m = sum.high in
     record { low = omega (arith, ints, l, few); high = omega (arith, ints, m, few) }
 
-as_part : (z : ℤ) → IsHolding z → IsLinePart z
-as_part z h = let l = h.low in let m = h.high in record { low = omega (arith, ints, l); high = omega (arith, ints, m) }
+as_share : (z : ℤ) → IsHolding z → IsShare z
+as_share z h = let l = h.low in let m = h.high in record { low = omega (arith, ints, l); high = omega (arith, ints, m) }
 
-three_parts : (x y z : ℤ) → IsHolding x → IsHolding y → IsHolding z → IsLinePart (x +ℤ y +ℤ z)
-three_parts x y z a b c =
+three_shares : (x y z : ℤ) → IsHolding x → IsHolding y → IsHolding z → IsShare (x +ℤ y +ℤ z)
+three_shares x y z a b c =
     let l1 = a.low in let h1 = a.high in
     let l2 = b.low in let h2 = b.high in
     let l3 = c.low in let h3 = c.high in
@@ -101,13 +101,13 @@ three_parts x y z a b c =
 pub line_within : (w : World) (ls : List Held) → length ls ≤ 12_000 → All (λ (l : Held). IsPosition (position_of w l)) ls → IsLine (line_over w ls)
 unfolding totals_of
 line_within w ls few h = record {
-  t_sum = parts_sum borrower_cash ls few (λ k d lt. three_parts _ _ _ (h k d lt).unapplied (h k d lt).balance (h k d lt).advance);
-  p_sum = parts_sum (held_for w) ls few (λ k d lt. as_part _ (h k d lt).investors);
-  suspense_sum = parts_sum (λ (l : Held). (books_now l).suspense) ls few (λ k d lt. as_part _ (h k d lt).unapplied);
-  escrow_sum = parts_sum (λ (l : Held). (books_now l).escrow) ls few (λ k d lt. as_part _ (h k d lt).balance);
-  escrow_advance_sum = parts_sum (λ (l : Held). escrow_advanced (books_now l).escrow) ls few (λ k d lt. as_part _ (h k d lt).advance);
-  held_sum = parts_sum (held_for w) ls few (λ k d lt. as_part _ (h k d lt).investors);
-  pi_advance_sum = parts_sum (advanced_for w) ls few (λ k d lt. as_part _ (h k d lt).advanced);
+  t = shares_sum borrower_cash ls few (λ k d lt. three_shares _ _ _ (h k d lt).suspense (h k d lt).escrow (h k d lt).escrow_advance);
+  p = shares_sum (held_for w) ls few (λ k d lt. as_share _ (h k d lt).held);
+  suspense = shares_sum (λ (l : Held). (books_now l).suspense) ls few (λ k d lt. as_share _ (h k d lt).suspense);
+  escrow = shares_sum (λ (l : Held). (books_now l).escrow) ls few (λ k d lt. as_share _ (h k d lt).escrow);
+  escrow_advance = shares_sum (λ (l : Held). escrow_advanced (books_now l).escrow) ls few (λ k d lt. as_share _ (h k d lt).escrow_advance);
+  held = shares_sum (held_for w) ls few (λ k d lt. as_share _ (h k d lt).held);
+  pi_advance = shares_sum (advanced_for w) ls few (λ k d lt. as_share _ (h k d lt).pi_advance);
 }
 
 -- with one loan more

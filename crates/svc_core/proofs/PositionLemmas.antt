@@ -1,6 +1,6 @@
 -- What custody holds for a loan is what the definitions name, and lies within the limits.
 use Rattle.std.proofs.Common.{◌≡◌, ℕ, zero, suc, ◌+◌, ◌≤◌, ◌<◌, true, false, List, [], ◌∷◌, ◌++◌, map, length, take, get_or, arith, refl, sym, ap, subst, ◌∙◌, cond}
-use Rattle.std.specs.Prelude.{ℤ, pos, neg_ℤ, ◌≤ℤ◌, ◌==◌, ◌&&◌, Option, Some, None, IfSome}
+use Rattle.std.specs.Prelude.{ℤ, ◌==◌, ◌&&◌, Option, Some, None, IfSome}
 use Rattle.std.specs.Ordering.{int_eq}
 use Rattle.std.specs.List.{All}
 use Rattle.std.proofs.lemmas.Int.{ints, clamps}
@@ -21,7 +21,7 @@ use Rattle.svc_loan.specs.Kept.{KeptLoan}
 use Rattle.svc_loan.specs.Loans.{find_kept, held_in}
 use Rattle.svc_core.specs.declared.position.Position.{Position}
 use Rattle.svc_core.specs.Cash.{IsKeptIn, dues_kept, is_settled_at, held_at}
-use Rattle.svc_core.specs.Positions.{position_of, position_at, IsHolding, IsPosition, CanRead}
+use Rattle.svc_core.specs.Positions.{position_of, kept_position, IsHolding, IsPosition, CanRead}
 use Rattle.svc_core.proofs.CashLemmas.{dues_are, totals_are}
 
 abbrev positioned : Totals → ℤ → ℤ → ℤ → Position
@@ -49,7 +49,7 @@ held_are w k h =
     let c = collected (books_now k.held) in
     ap (λ z. pi_held c z (is_settled_at w.remitted k)) h.kept.remitted ∙ ap (pi_held c (remitted_for w k.held.id)) settled
 
-pub position_are : (w : World) (k : KeptLoan) → IsReadIn w k → position_at w.remitted k ≡ position_of w k.held
+pub position_are : (w : World) (k : KeptLoan) → IsReadIn w k → kept_position w.remitted k ≡ position_of w k.held
 position_are w k h = same_position (totals_are w k h.reports.sealed.consecutive h.since h.kept) refl refl (held_are w k h)
 
 pub remitted_sum : (w : World) (k : KeptLoan) → IsReadIn w k → IsSum k.remitted
@@ -79,12 +79,12 @@ position_within w l h r =
     let held = held_within P w l h r in
     let h1 = held.low in let h2 = held.high in
     record {
-      all = totals_within w l h r;
-      unapplied = record { low = omega (arith, ints, s1); high = omega (arith, ints, s2) };
-      balance = record { low = omega (arith, ints, e1); high = omega (arith, ints, e2) };
-      advance = record { low = omega (arith, ints, clamps); high = omega (arith, ints, clamps, e1) };
-      investors = record { low = omega (arith, ints, h1); high = omega (arith, ints, h2) };
-      advanced = advanced_holding w l h r;
+      totals = totals_within w l h r;
+      suspense = record { low = omega (arith, ints, s1); high = omega (arith, ints, s2) };
+      escrow = record { low = omega (arith, ints, e1); high = omega (arith, ints, e2) };
+      escrow_advance = record { low = omega (arith, ints, clamps); high = omega (arith, ints, clamps, e1) };
+      held = record { low = omega (arith, ints, h1); high = omega (arith, ints, h2) };
+      pi_advance = advanced_holding w l h r;
     }
 
 -- ---- the loan with a number, and the one at a place

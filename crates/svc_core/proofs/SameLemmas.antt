@@ -1,18 +1,15 @@
 -- Where reports and what was remitted stay, so does what a loan counts for.
-use Rattle.std.proofs.Common.{◌≡◌, ℕ, Bool, true, false, cond, List, [], ◌∷◌, ◌++◌, map, arith, refl, sym, ap, ◌∙◌, append-nil}
+use Rattle.std.proofs.Common.{◌≡◌, ℕ, Bool, true, false, cond, List, [], ◌∷◌, ◌++◌, map, arith, refl, ap, ◌∙◌, append-nil}
 use Rattle.std.specs.Prelude.{◌==◌, ◌&&◌, nat_lt, ℤ, pos, ◌+ℤ◌, ◌-ℤ◌, Option, Some, None, if◌then◌else◌}
 use Rattle.std.specs.Ordering.{int_eq}
-use Rattle.std.specs.List.{All, AllPairs, filter_map, cons_option}
+use Rattle.std.specs.List.{All, filter_map, cons_option}
 use Rattle.std.proofs.lemmas.Bool.Decides.{nat_tests, Decides-int_eq}
 use Rattle.std.proofs.lemmas.Int.{ints}
 use Rattle.std.proofs.lemmas.List.Elements.{All-head, All-tail}
 use Rattle.svc_base.specs.Sums.{total_by}
-use Rattle.svc_base.proofs.SumLemmas.{total_by-same}
-use Rattle.svc_types.proofs.OrderLemmas.{pairs_head, pairs_tail}
 use Rattle.svc_spec.specs.Totals.{received, returned, refunded, disbursed}
 use Rattle.advance_book.specs.Positions.{pi_held, pi_advanced, pi_residual, escrow_advanced}
 use Rattle.custodial_book.specs.declared.part.Part.{Part}
-use Rattle.custodial_book.specs.declared.row.Row.{Row}
 use Rattle.custodial_book.specs.declared.row.Totals.{Totals}
 use Rattle.custodial_book.specs.Parts.{parts}
 use Rattle.custodial_book.specs.Rows.{total_of, row_of, rows_of}
@@ -21,7 +18,7 @@ use Rattle.svc_world.specs.LoanDues.{due_of}
 use Rattle.svc_world.specs.Reports.{months_of}
 use Rattle.svc_world.specs.World.{World}
 use Rattle.svc_world.specs.Custody.{sent_for, remitted_reports, remitted_for, collected, due_sum, dues_sum, is_remitted_by, is_settled, held_for, advanced_for, totals_of, no_totals, totals_before, rows_between}
-use Rattle.svc_world.proofs.LoanListLemmas.{rises, IsFound, KeepsNumber, found_id}
+use Rattle.svc_world.proofs.LoanListLemmas.{IsFound, KeepsNumber}
 use Rattle.svc_world.proofs.CashLemmas.{rows_nil, rows_cons}
 
 -- the same reports, and the same of them remitted

@@ -6,13 +6,14 @@ use Rattle.custodial_book.specs.declared.part.Account.{Account}
 use Rattle.custodial_book.specs.declared.part.Account.TheVariants.{T, P}
 use Rattle.custodial_book.specs.declared.row.Row.{Row}
 use Rattle.custodial_book.specs.declared.row.Totals.{Totals}
-use Rattle.custodial_book.specs.Rows.{rows_of, balance_of, balance_with, cash_of, AreTotals, IsBalance, ComesNext}
+use Rattle.custodial_book.specs.Rows.{rows_of, balance_of, balance_with, cash_of}
+use Rattle.custodial_book.specs.Rows.{AreTotals, IsBalance, ComesNext}
 use Rattle.svc_world.specs.Held.{Held}
 use Rattle.svc_world.specs.World.{World}
 use Rattle.svc_world.specs.Custody.{totals_of}
 
--- the rows of a command for a loan: they come after those that are there, the totals are such as a loan may have,
--- and so are the balances after them
+-- the rows of a command for a loan may be added: they come after those that are there, the totals are such as
+-- a loan may have, and the balances after them such as an account may have
 pub record MayAppend (n id : ℕ) (rows : List Row) (before later : Totals) : Type 0 where
   pub next : ComesNext n id rows
   pub old : AreTotals before
@@ -31,8 +32,8 @@ pub record IsCashOf (account : Account) (x : Totals) : Type 0 where
   pub low : pos 0 ≤ℤ cash_of account x
   pub high : cash_of account x ≤ℤ pos 40_960_000_000_000
 
--- the rows of a command for all loans may be added: they rise by number, all rows that are there are those of earlier
--- commands, and the balances are what the accounts hold of the totals before it
+-- the rows of a command for all loans may be added: these rise by number, all rows that are there are those
+-- of earlier commands, and the balances are what the accounts hold of the totals before it
 pub record MayAppendAll (n : ℕ) (w : World) (totals : List Totals) (rows : List Row) : Type 0 where
   pub count : length totals ≡ length w.loans
   pub rising : AllPairs (λ (k l : Held). k.id < l.id) w.loans

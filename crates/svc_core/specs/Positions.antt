@@ -21,8 +21,8 @@ position_of w l = record {
 }
 
 -- the same, read off a loan as it is kept, where that month was remitted last
-abbrev pub position_at : Option ℕ → KeptLoan → Position
-position_at remitted k = record {
+abbrev pub kept_position : Option ℕ → KeptLoan → Position
+kept_position remitted k = record {
   totals = totals_at remitted k;
   suspense = (books_now k.held).suspense;
   escrow = (books_now k.held).escrow;
@@ -38,8 +38,8 @@ position w None = no_position
 position w (Some l) = position_of w l
 
 -- what a loan counts for in the custodial line
-abbrev pub line_of : Position → Custody
-line_of x = record {
+abbrev pub share_of : Position → Custody
+share_of x = record {
   t = x.suspense +ℤ x.escrow +ℤ x.totals.escrow_advance;
   p = x.held;
   suspense = x.suspense;
@@ -52,13 +52,13 @@ line_of x = record {
 -- the custodial line after one loan's position changed
 abbrev pub line_after : Custody → Position → Position → Custody
 line_after c before later = record {
-  t = c.t +ℤ ((line_of later).t -ℤ (line_of before).t);
-  p = c.p +ℤ ((line_of later).p -ℤ (line_of before).p);
-  suspense = c.suspense +ℤ ((line_of later).suspense -ℤ (line_of before).suspense);
-  escrow = c.escrow +ℤ ((line_of later).escrow -ℤ (line_of before).escrow);
-  escrow_advance = c.escrow_advance +ℤ ((line_of later).escrow_advance -ℤ (line_of before).escrow_advance);
-  held = c.held +ℤ ((line_of later).held -ℤ (line_of before).held);
-  pi_advance = c.pi_advance +ℤ ((line_of later).pi_advance -ℤ (line_of before).pi_advance);
+  t = c.t +ℤ ((share_of later).t -ℤ (share_of before).t);
+  p = c.p +ℤ ((share_of later).p -ℤ (share_of before).p);
+  suspense = c.suspense +ℤ ((share_of later).suspense -ℤ (share_of before).suspense);
+  escrow = c.escrow +ℤ ((share_of later).escrow -ℤ (share_of before).escrow);
+  escrow_advance = c.escrow_advance +ℤ ((share_of later).escrow_advance -ℤ (share_of before).escrow_advance);
+  held = c.held +ℤ ((share_of later).held -ℤ (share_of before).held);
+  pi_advance = c.pi_advance +ℤ ((share_of later).pi_advance -ℤ (share_of before).pi_advance);
 }
 
 -- an amount that custody may hold for a loan: no further from 0 than 10^14 cents
@@ -68,26 +68,26 @@ pub record IsHolding (z : ℤ) : Type 0 where
 
 -- what custody may hold for a loan
 pub record IsPosition (x : Position) : Type 0 where
-  pub all : AreTotals x.totals
-  pub unapplied : IsHolding x.suspense
-  pub balance : IsHolding x.escrow
-  pub advance : IsHolding x.totals.escrow_advance
-  pub investors : IsHolding x.held
-  pub advanced : IsHolding x.totals.pi_advance
+  pub totals : AreTotals x.totals
+  pub suspense : IsHolding x.suspense
+  pub escrow : IsHolding x.escrow
+  pub escrow_advance : IsHolding x.totals.escrow_advance
+  pub held : IsHolding x.held
+  pub pi_advance : IsHolding x.totals.pi_advance
 
--- what a loan may count for in the custodial line: three such amounts
-pub record IsLinePart (z : ℤ) : Type 0 where
+-- what a loan may count for in a number of the custodial line: three such amounts
+pub record IsShare (z : ℤ) : Type 0 where
   pub low : neg_ℤ (pos 300_000_000_000_000) ≤ℤ z
   pub high : z ≤ℤ pos 300_000_000_000_000
 
-pub record AreLineParts (c : Custody) : Type 0 where
-  pub t_part : IsLinePart c.t
-  pub p_part : IsLinePart c.p
-  pub suspense_part : IsLinePart c.suspense
-  pub escrow_part : IsLinePart c.escrow
-  pub escrow_advance_part : IsLinePart c.escrow_advance
-  pub held_part : IsLinePart c.held
-  pub pi_advance_part : IsLinePart c.pi_advance
+pub record AreShares (c : Custody) : Type 0 where
+  pub t : IsShare c.t
+  pub p : IsShare c.p
+  pub suspense : IsShare c.suspense
+  pub escrow : IsShare c.escrow
+  pub escrow_advance : IsShare c.escrow_advance
+  pub held : IsShare c.held
+  pub pi_advance : IsShare c.pi_advance
 
 -- a sum of that over 12,000 loans
 pub record IsLineSum (z : ℤ) : Type 0 where
@@ -95,13 +95,13 @@ pub record IsLineSum (z : ℤ) : Type 0 where
   pub high : z ≤ℤ pos 3_600_000_000_000_000_000
 
 pub record IsLine (c : Custody) : Type 0 where
-  pub t_sum : IsLineSum c.t
-  pub p_sum : IsLineSum c.p
-  pub suspense_sum : IsLineSum c.suspense
-  pub escrow_sum : IsLineSum c.escrow
-  pub escrow_advance_sum : IsLineSum c.escrow_advance
-  pub held_sum : IsLineSum c.held
-  pub pi_advance_sum : IsLineSum c.pi_advance
+  pub t : IsLineSum c.t
+  pub p : IsLineSum c.p
+  pub suspense : IsLineSum c.suspense
+  pub escrow : IsLineSum c.escrow
+  pub escrow_advance : IsLineSum c.escrow_advance
+  pub held : IsLineSum c.held
+  pub pi_advance : IsLineSum c.pi_advance
 
 -- the positions of these loans can be read off as they are kept
 pub record CanRead (w : World) (ks : List KeptLoan) : Type 0 where

@@ -34,8 +34,8 @@ use svc_loan::Loan;
 use svc_replay::LoanBooks;
 use svc_types::{Command, Extra, Terms};
 
-/// Accepts a command on one loan, for which there is room: changes the loan, adds the command's rows, and moves the
-/// custodial line. Before it `count` commands were accepted.
+/// Accepts a command on one loan, for which there is room: changes the loan, adds the command's rows, and
+/// moves the custodial line. Before it `count` commands were accepted.
 pub(crate) fn accept_one<B: LoanBooks, L: Ledger>(
     count: u32,
     id: u32,
@@ -48,23 +48,27 @@ pub(crate) fn accept_one<B: LoanBooks, L: Ledger>(
     requires state { IsState count state.old.today state.old.loans state.old.seals }
     requires command { IsCommand command.now }
     requires scope { scope_of command.now ≡ scope.One id }
-    requires fresh { refusal_of count (world_of state.old.today state.old.loans state.old.seals) command.now ≡ None }
+    requires fresh { refusal_of count (world_of state.old.today state.old.loans state.old.seals)
+        command.now ≡ None }
     requires room { HasRoomForOne id state.old.today state.old.loans state.old.seals cash.old.book.spare
         (vec_capacity scratch.old.dues) }
     requires cash { IsCash count (world_of state.old.today state.old.loans state.old.seals)
         cash.old.book.rows cash.old.custody }
     ensures world { world_of state.new.today state.new.loans state.new.seals
         ≡ after (count + 1) (world_of state.old.today state.old.loans state.old.seals) command.now }
-    ensures kept { All (IsKeptIn (world_of state.new.today state.new.loans state.new.seals)) state.new.loans.loans }
+    ensures kept { All (IsKeptIn (world_of state.new.today state.new.loans state.new.seals))
+        state.new.loans.loans }
     ensures extra { result ≡ extra_of (world_of state.old.today state.old.loans state.old.seals)
-        (after (count + 1) (world_of state.old.today state.old.loans state.old.seals) command.now) command.now }
+        (after (count + 1) (world_of state.old.today state.old.loans state.old.seals) command.now)
+        command.now }
     ensures steps { steps.new ≤ steps.old + accepting_cost B.cost B.month_cost
         (world_of state.old.today state.old.loans state.old.seals)
         (world_of state.new.today state.new.loans state.new.seals) command.now }
     ensures rows { cash.new.book.rows ≡ cash.old.book.rows
         ++ rows_made (count + 1) (world_of state.old.today state.old.loans state.old.seals)
         (world_of state.new.today state.new.loans state.new.seals) }
-    ensures custody { cash.new.custody ≡ custody_of (world_of state.new.today state.new.loans state.new.seals) }
+    ensures custody { cash.new.custody
+        ≡ custody_of (world_of state.new.today state.new.loans state.new.seals) }
 {
     let before = position_of(state, id);
     let extra = change_one(count, id, command, state, &mut scratch.dues, steps);
@@ -73,8 +77,8 @@ pub(crate) fn accept_one<B: LoanBooks, L: Ledger>(
     extra
 }
 
-/// Accepts the command that takes a loan on, for which there is room: puts it among the others, adds the command's
-/// rows, and moves the custodial line.
+/// Accepts the command that takes a loan on, for which there is room: puts it among the others, adds the
+/// command's rows, and moves the custodial line.
 pub(crate) fn accept_new<B: LoanBooks>(
     count: u32,
     id: u32,
@@ -93,19 +97,21 @@ pub(crate) fn accept_new<B: LoanBooks>(
         cash.old.book.rows cash.old.custody }
     ensures world { world_of state.new.today state.new.loans state.new.seals
         ≡ after (count + 1) (world_of state.old.today state.old.loans state.old.seals) (Board id terms.now) }
-    ensures kept { All (IsKeptIn (world_of state.new.today state.new.loans state.new.seals)) state.new.loans.loans }
+    ensures kept { All (IsKeptIn (world_of state.new.today state.new.loans state.new.seals))
+        state.new.loans.loans }
     ensures rows { cash.new.book.rows ≡ cash.old.book.rows
         ++ rows_made (count + 1) (world_of state.old.today state.old.loans state.old.seals)
         (world_of state.new.today state.new.loans state.new.seals) }
-    ensures custody { cash.new.custody ≡ custody_of (world_of state.new.today state.new.loans state.new.seals) }
+    ensures custody { cash.new.custody
+        ≡ custody_of (world_of state.new.today state.new.loans state.new.seals) }
 {
     change_new(count, id, terms, loan, state);
     let later = position_of(state, id);
     add(cash, count + 1, id, &no_position(), &later);
 }
 
-/// Accepts a command on all loans, for which there is room: changes them, adds the command's rows, and sums the
-/// custodial line anew.
+/// Accepts a command on all loans, for which there is room: changes them, adds the command's rows, and sums
+/// the custodial line anew.
 pub(crate) fn accept_all<B: LoanBooks, L: Ledger>(
     count: u32,
     command: &Command,
@@ -117,23 +123,27 @@ pub(crate) fn accept_all<B: LoanBooks, L: Ledger>(
     requires state { IsState count state.old.today state.old.loans state.old.seals }
     requires command { IsCommand command.now }
     requires scope { scope_of command.now ≡ scope.Every }
-    requires fresh { refusal_of count (world_of state.old.today state.old.loans state.old.seals) command.now ≡ None }
+    requires fresh { refusal_of count (world_of state.old.today state.old.loans state.old.seals)
+        command.now ≡ None }
     requires room { HasRoomForAll (today_after state.old.today command.now) state.old.loans state.old.seals
         cash.old.book.spare (vec_capacity scratch.old.totals) (vec_capacity scratch.old.lines) }
     requires cash { IsCash count (world_of state.old.today state.old.loans state.old.seals)
         cash.old.book.rows cash.old.custody }
     ensures world { world_of state.new.today state.new.loans state.new.seals
         ≡ after (count + 1) (world_of state.old.today state.old.loans state.old.seals) command.now }
-    ensures kept { All (IsKeptIn (world_of state.new.today state.new.loans state.new.seals)) state.new.loans.loans }
+    ensures kept { All (IsKeptIn (world_of state.new.today state.new.loans state.new.seals))
+        state.new.loans.loans }
     ensures extra { result ≡ extra_of (world_of state.old.today state.old.loans state.old.seals)
-        (after (count + 1) (world_of state.old.today state.old.loans state.old.seals) command.now) command.now }
+        (after (count + 1) (world_of state.old.today state.old.loans state.old.seals) command.now)
+        command.now }
     ensures steps { steps.new ≤ steps.old + accepting_cost B.cost B.month_cost
         (world_of state.old.today state.old.loans state.old.seals)
         (world_of state.new.today state.new.loans state.new.seals) command.now }
     ensures rows { cash.new.book.rows ≡ cash.old.book.rows
         ++ rows_made (count + 1) (world_of state.old.today state.old.loans state.old.seals)
         (world_of state.new.today state.new.loans state.new.seals) }
-    ensures custody { cash.new.custody ≡ custody_of (world_of state.new.today state.new.loans state.new.seals) }
+    ensures custody { cash.new.custody
+        ≡ custody_of (world_of state.new.today state.new.loans state.new.seals) }
 {
     collect(state, &mut scratch.totals);
     let extra = change_all(count, command, state, &mut scratch.lines, steps);
@@ -190,7 +200,8 @@ fn append_all<B: LoanBooks>(book: &mut Book, number: u32, state: &State<B>, tota
         totals.now book.old.rows }
     requires room { 11 * length state.now.loans.loans ≤ book.old.spare }
     ensures { book.new.rows ≡ book.old.rows ++ rows_along number
-        (world_of state.now.today state.now.loans state.now.seals) totals.now (held_in state.now.loans.loans) }
+        (world_of state.now.today state.now.loans state.now.seals) totals.now
+        (held_in state.now.loans.loans) }
 {
     for i in 0..state.loans.len() {
         let id = state.loans.at(i).id();

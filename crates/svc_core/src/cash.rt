@@ -6,7 +6,7 @@ ghost use Rattle.svc_world.specs.Custody as custody;
 ghost use Rattle.svc_world.specs.Worlds.{IsLimited};
 ghost use Rattle.svc_loan.specs.Moved.{moved_of};
 ghost use Rattle.svc_core.specs.Cash as rule;
-ghost use Rattle.svc_core.specs.Positions.{position_at};
+ghost use Rattle.svc_core.specs.Positions as positions;
 
 use crate::position::Position;
 use advance_book::{PiPosition, escrow_position, position};
@@ -20,7 +20,7 @@ use svc_types::Books;
 pub(crate) fn kept_position<B: LoanBooks>(loan: &Loan<B>, remitted: Option<Month>) -> Position
     requires limited { IsLimited loan.now.held.account }
     requires remitted { IsSum loan.now.remitted }
-    ensures { result ≡ position_at remitted loan.now }
+    ensures { result ≡ positions.kept_position remitted loan.now }
 {
     let books = loan.now();
     let pi = pi_of(loan, remitted);

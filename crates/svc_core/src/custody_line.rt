@@ -4,7 +4,8 @@ ghost use Rattle.std.specs.Prelude.{◌≡◌, ◌+ℤ◌, ◌-ℤ◌};
 ghost use Rattle.svc_world.specs.Custody.{custody_of};
 ghost use Rattle.svc_core.specs.State.{world_of};
 ghost use Rattle.svc_core.specs.Positions as rule;
-ghost use Rattle.svc_core.specs.Positions.{CanRead, IsHolding, IsPosition, IsLinePart, AreLineParts, IsLineSum, IsLine};
+ghost use Rattle.svc_core.specs.Positions.{CanRead, IsHolding, IsPosition, IsLine};
+ghost use Rattle.svc_core.specs.Positions.{IsShare, AreShares, IsLineSum};
 
 use crate::position::{Position, no_position, position_at};
 use crate::state::State;
@@ -19,8 +20,8 @@ pub(crate) fn line_after(line: &Custody, before: &Position, later: &Position) ->
     requires later { IsPosition later.now }
     ensures { result ≡ rule.line_after line.now before.now later.now }
 {
-    let was = line_of(before);
-    let is = line_of(later);
+    let was = share_of(before);
+    let is = share_of(later);
     Custody {
         t: sum_after(line.t, was.t, is.t),
         p: sum_after(line.p, was.p, is.p),
@@ -32,25 +33,29 @@ pub(crate) fn line_after(line: &Custody, before: &Position, later: &Position) ->
     }
 }
 
-/// A sum over all loans after the part of one of them changed.
+/// A sum over all loans after one loan's share of it changed.
 #[tactic(auto, using(svc_base::proofs::CentsRules::cents))]
 fn sum_after(sum: Cents, was: Cents, is: Cents) -> Cents
     requires sum { IsLineSum sum }
-    requires was { IsLinePart was }
-    requires is { IsLinePart is }
+    requires was { IsShare was }
+    requires is { IsShare is }
     ensures { result ≡ sum +ℤ (is -ℤ was) }
 {
     sum + (is - was)
 }
 
 /// What a loan counts for in the custodial line.
-fn line_of(position: &Position) -> Custody
+fn share_of(position: &Position) -> Custody
     requires { IsPosition position.now }
-    ensures value { result ≡ rule.line_of position.now }
-    ensures limits { AreLineParts result }
+    ensures value { result ≡ rule.share_of position.now }
+    ensures limits { AreShares result }
 {
     Custody {
-        t: whole(position.suspense, position.escrow, position.totals.escrow_advance),
+        t: borrower_cash(
+            position.suspense,
+            position.escrow,
+            position.totals.escrow_advance,
+        ),
         p: position.held,
         suspense: position.suspense,
         escrow: position.escrow,
@@ -62,7 +67,7 @@ fn line_of(position: &Position) -> Custody
 
 /// The borrower's money, with what the servicer advanced.
 #[tactic(auto, using(svc_base::proofs::CentsRules::cents))]
-fn whole(suspense: Cents, escrow: Cents, advance: Cents) -> Cents
+fn borrower_cash(suspense: Cents, escrow: Cents, advance: Cents) -> Cents
     requires suspense { IsHolding suspense }
     requires escrow { IsHolding escrow }
     requires advance { IsHolding advance }
@@ -77,7 +82,7 @@ pub(crate) fn whole_line<B: LoanBooks>(state: &State<B>) -> Custody
     ensures { result ≡ custody_of (world_of state.now.today state.now.loans state.now.seals) }
 {
     let none = no_position();
-    let mut line = line_of(&none);
+    let mut line = share_of(&none);
     for i in 0..state.loans.len() {
         line = line_after(&line, &none, &position_at(state, i));
     }

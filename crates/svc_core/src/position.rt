@@ -13,9 +13,9 @@ use custodial_book::Totals;
 use svc_base::Cents;
 use svc_replay::LoanBooks;
 
-/// What custody holds for a loan, in cents: what it moved so far of each part of custodial cash, its money that is not
-/// yet applied, its escrow balance, and the principal and interest that are held for it.
-#[derive(Clone, Copy, Default)]
+/// What custody holds for a loan, in cents: what it moved so far of each part of custodial cash, its money
+/// that is not yet applied, its escrow balance, and the principal and interest that are held for it.
+#[derive(Clone, Copy)]
 pub(crate) struct Position {
     pub(crate) totals: Totals,
     pub(crate) suspense: Cents,

@@ -1,9 +1,7 @@
-use Rattle.std.proofs.Common.{◌≡◌, ◌+◌, ◌*◌, ◌≤◌, ◌++◌, length, refl, arith, sym, ap, subst, ◌∙◌}
+use Rattle.std.proofs.Common.{◌≡◌, ◌+◌, ◌++◌, length, refl, arith, ap, ◌∙◌}
 use Rattle.std.proofs.lemmas.List.{length-map}
-use Rattle.svc_world.specs.Custody.{rows_made}
 use Rattle.svc_loan.specs.Kept.{KeptLoan}
 use Rattle.svc_loan.specs.Loans.{held_in}
-use Rattle.svc_core.specs.Appending.{rows_along}
 use Rattle.svc_core.specs.State.{world_of}
 use Rattle.svc_core.proofs.AcceptLemmas.{AreAdded, can_read, accepted_all}
 use Rattle.svc_core.proofs.accepting.accept_all.Given.{Over}

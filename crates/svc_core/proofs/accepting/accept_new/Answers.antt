@@ -1,6 +1,5 @@
-use Rattle.std.proofs.Common.{◌≡◌, ◌+◌, ◌++◌, refl, sym, ap, subst, ◌∙◌}
+use Rattle.std.proofs.Common.{◌+◌, ◌++◌, refl, sym, ap, subst, ◌∙◌}
 use Rattle.svc_types.specs.declared.requests.Command.TheVariants.{Board}
-use Rattle.svc_world.specs.Custody.{custody_of}
 use Rattle.svc_core.specs.Positions.{IsLine, line_after}
 use Rattle.svc_core.specs.State.{world_of}
 use Rattle.svc_core.proofs.AcceptLemmas.{IsAdded, can_read, custody_within, accepted_new, later_world}

@@ -1,8 +1,4 @@
-use Rattle.std.proofs.Common.{◌≡◌, ◌+◌, ◌++◌, refl, sym, ap, subst, ◌∙◌}
-use Rattle.std.specs.List.{All}
-use Rattle.svc_world.specs.World.{World}
-use Rattle.svc_world.specs.Worlds.{IsWorld}
-use Rattle.svc_world.specs.Custody.{custody_of}
+use Rattle.std.proofs.Common.{◌+◌, ◌++◌, refl, sym, ap, subst, ◌∙◌}
 use Rattle.svc_loan.specs.Kept.{IsReady}
 use Rattle.svc_core.specs.Positions.{IsLine, line_after}
 use Rattle.svc_core.specs.State.{world_of}

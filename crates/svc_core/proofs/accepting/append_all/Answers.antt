@@ -1,14 +1,11 @@
-use Rattle.std.proofs.Common.{◌≡◌, ◌+◌, ◌≤◌, ◌<◌, [], ◌++◌, length, get_or, refl, arith, sym, ap, ◌∙◌, append-nil}
+use Rattle.std.proofs.Common.{◌<◌, [], ◌++◌, length, refl, arith, sym, ap, ◌∙◌, append-nil}
 use Rattle.std.proofs.Math.ListN.{get_or-map as get_mapped}
-use Rattle.std.proofs.lemmas.List.{length-map, take_all}
-use Rattle.custodial_book.specs.declared.row.Row.{Row}
+use Rattle.std.proofs.lemmas.List.{length-map}
 use Rattle.svc_world.specs.Custody.{no_totals}
 use Rattle.svc_loan.specs.Kept.{KeptLoan}
 use Rattle.svc_loan.specs.Loans.{held_in}
-use Rattle.svc_core.specs.Appending.{rows_along}
 use Rattle.svc_core.specs.State.{world_of}
 use Rattle.svc_core.proofs.AppendLemmas.{along_none, are_later, may_append_here, rows_here}
-use Rattle.svc_core.proofs.accepting.append_all.Given.{Over}
 use Rattle.svc_core.proofs.accepting.append_all.Goals as goal
 
 pub loop-i-init : goal.loop-i-init

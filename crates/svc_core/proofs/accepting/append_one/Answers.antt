@@ -1,4 +1,4 @@
-use Rattle.std.proofs.Common.{◌≡◌, ◌+◌, ◌≤◌, length, length-append, arith, ap, ◌∙◌}
+use Rattle.std.proofs.Common.{◌≡◌, ◌+◌, length, length-append, arith, ap, ◌∙◌}
 use Rattle.custodial_book.specs.Rows.{rows_of}
 use Rattle.svc_core.proofs.AppendLemmas.{few_rows}
 use Rattle.svc_core.proofs.accepting.append_one.Goals as goal

@@ -1,10 +1,9 @@
-use Rattle.std.proofs.Common.{◌≡◌, ◌+◌, ◌≤◌, ◌<◌, length, vec_capacity, rules, arith, refl, sym, ap, ◌∙◌}
+use Rattle.std.proofs.Common.{◌<◌, length, arith}
 use Rattle.std.proofs.lemmas.List.{length-map}
 use Rattle.svc_loan.specs.Kept.{KeptLoan}
 use Rattle.svc_loan.specs.Loans.{held_in}
 use Rattle.svc_core.specs.State.{world_of}
 use Rattle.svc_core.proofs.PositionLemmas.{totals_pushed}
-use Rattle.svc_core.proofs.accepting.collect.Given.{Over}
 use Rattle.svc_core.proofs.accepting.collect.Goals as goal
 
 pub loop-i-preserved : goal.loop-i-preserved

@@ -1,4 +1,4 @@
-use Rattle.std.proofs.Common.{◌≡◌, ◌≤◌, length, map, take, vec_len, vec_capacity}
+use Rattle.std.proofs.Common.{◌≡◌, ◌≤◌, length, map, take, vec_capacity}
 use Rattle.svc_world.specs.Custody.{totals_of}
 use Rattle.svc_loan.specs.Loans.{held_in}
 use Rattle.svc_core.specs.State.{world_of}

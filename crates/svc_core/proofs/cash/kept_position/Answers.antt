@@ -1,5 +1,5 @@
-use Rattle.std.proofs.Common.{◌≡◌, w64, to_z, of_z, rules, arith, ap, ◌∙◌}
-use Rattle.std.specs.Prelude.{ℤ, ◌+ℤ◌}
+use Rattle.std.proofs.Common.{◌≡◌, w64, rules, arith, ap, ◌∙◌}
+use Rattle.std.specs.Prelude.{◌+ℤ◌}
 use Rattle.std.specs.Int.RustNames.{FitsSigned}
 use Rattle.std.proofs.lemmas.Int.{ints, to_z-of_z}
 use Rattle.svc_types.specs.declared.books.Books.{Books}

@@ -1,4 +1,4 @@
-use Rattle.std.proofs.Common.{◌≡◌, ◌+◌, ◌≤◌, ◌<◌, length, take, get_or, arith, refl, sym, ap, subst, ◌∙◌}
+use Rattle.std.proofs.Common.{◌≤◌, ◌<◌, length, take, arith, refl, sym, ap, subst, ◌∙◌}
 use Rattle.std.proofs.lemmas.List.{length-map, length-take, take_all}
 use Rattle.std.proofs.lemmas.List.Elements.{All-take}
 use Rattle.svc_world.specs.Held.{Held}
@@ -10,7 +10,6 @@ use Rattle.svc_core.specs.Positions.{IsLine, IsPosition}
 use Rattle.svc_core.specs.State.{world_of}
 use Rattle.svc_core.proofs.LineLemmas.{line_over, line_within, line_more, custody_is}
 use Rattle.svc_core.proofs.PositionLemmas.{at_place, read_within}
-use Rattle.svc_core.proofs.custody_line.whole_line.Given.{Over}
 use Rattle.svc_core.proofs.custody_line.whole_line.Goals as goal
 
 pub line_after-line-requires-clause-line : goal.line_after-line-requires-clause-line
@@ -31,11 +30,11 @@ loop-i-preserved g c =
     let d = (at_place (held_in ks) i lt).0 in
     record {
       line =
-      c.line_after-line.ensures
-      ∙ ap (λ (x : Custody). rule.line_after x c.no_position-none.result c.position_at.result) c.loop-i.invariant.line
-      ∙ ap (λ x. rule.line_after (line_over w (take i (held_in ks))) x c.position_at.result) c.no_position-none.ensures.value
-      ∙ ap (rule.line_after (line_over w (take i (held_in ks))) rule.no_position) (c.position_at.ensures.value d)
-      ∙ line_more w (held_in ks) i d lt;
+          c.line_after-line.ensures
+          ∙ ap (λ (x : Custody). rule.line_after x c.no_position-none.result c.position_at.result) c.loop-i.invariant.line
+          ∙ ap (λ x. rule.line_after (line_over w (take i (held_in ks))) x c.position_at.result) c.no_position-none.ensures.value
+          ∙ ap (rule.line_after (line_over w (take i (held_in ks))) rule.no_position) (c.position_at.ensures.value d)
+          ∙ line_more w (held_in ks) i d lt;
       end = c.loop-i.invariant.end;
       same = c.loop-i.invariant.same;
       from = (let t = c.loop-i-test.true in omega (arith, t));

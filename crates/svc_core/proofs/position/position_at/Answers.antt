@@ -1,8 +1,7 @@
-use Rattle.std.proofs.Common.{◌≡◌, get_or, refl, sym, ap, subst, ◌∙◌}
+use Rattle.std.proofs.Common.{◌≡◌, refl, sym, ap, subst, ◌∙◌}
 use Rattle.std.proofs.Math.ListN.{get_or-map as get_mapped}
 use Rattle.std.proofs.lemmas.List.{get_or_default, length-map}
 use Rattle.std.proofs.Common.{arith}
-use Rattle.svc_world.specs.Held.{Held}
 use Rattle.svc_world.specs.World.{World}
 use Rattle.svc_loan.specs.Kept.{KeptLoan}
 use Rattle.svc_loan.specs.Loans.{held_in}
@@ -30,7 +29,7 @@ kept_position-requires-clause-remitted g c = remitted_sum (world_of c.args.state
 is : (g : Over) (c : goal.After-kept_position g) → c.kept_position.result ≡ rule.position_of (world_of c.args.state.now.today c.args.state.now.loans c.args.state.now.seals) c.at.result.now.held
 is g c =
     c.kept_position.ensures
-    ∙ ap (λ o. rule.position_at o c.at.result.now) c.remitted.ensures.value
+    ∙ ap (λ o. rule.kept_position o c.at.result.now) c.remitted.ensures.value
     ∙ position_are (world_of c.args.state.now.today c.args.state.now.loans c.args.state.now.seals) c.at.result.now (read g c)
 
 pub returns-clause-value : goal.returns-clause-value

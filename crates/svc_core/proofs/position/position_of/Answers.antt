@@ -1,10 +1,7 @@
 use Rattle.std.proofs.Common.{◌≡◌, refl, sym, ap, subst, ◌∙◌}
-use Rattle.std.specs.Prelude.{Some, None}
 use Rattle.std.specs.Option.{option_map}
 use Rattle.svc_world.specs.World.{World}
-use Rattle.svc_world.specs.Held.{find_loan}
 use Rattle.svc_loan.specs.Kept.{KeptLoan}
-use Rattle.svc_loan.specs.Loans.{find_kept, held_in}
 use Rattle.svc_core.specs.Positions as rule
 use Rattle.svc_core.specs.Positions.{IsPosition}
 use Rattle.svc_core.specs.State.{world_of}
@@ -30,7 +27,7 @@ kept_position-requires-clause-remitted g c = remitted_sum (world_of c.args.state
 is : (g : Over) (c : goal.After-kept_position g) → c.kept_position.result ≡ rule.position_of (world_of c.args.state.now.today c.args.state.now.loans c.args.state.now.seals) c.in-Some.loan.now.held
 is g c =
     c.kept_position.ensures
-    ∙ ap (λ o. rule.position_at o c.in-Some.loan.now) c.remitted.ensures.value
+    ∙ ap (λ o. rule.kept_position o c.in-Some.loan.now) c.remitted.ensures.value
     ∙ position_are (world_of c.args.state.now.today c.args.state.now.loans c.args.state.now.seals) c.in-Some.loan.now (read g c)
 
 pub returns-in-Some-clause-value : goal.returns-in-Some-clause-value
