@@ -29,7 +29,7 @@ use Rattle.svc_world.specs.Worlds.{IsHeld}
 use Rattle.svc_loan.specs.Kept.{KeptLoan}
 use Rattle.svc_loan.specs.Loans.{KeptLoans, find_kept, held_in}
 use Rattle.svc_loan.proofs.ClosedLemmas.{cents_same}
-use Rattle.svc_core.specs.Asking.{AreOnDay, IsPayable, IsSmallAnalysis}
+use Rattle.svc_core.specs.Asking.{AreOnDay, IsPayable}
 use Rattle.svc_core.specs.State.{IsState}
 use Rattle.svc_core.proofs.RuleLemmas.{find-held}
 use Rattle.svc_core.proofs.AnalysingLemmas.{escrow_same}
@@ -131,41 +131,3 @@ held_found id ks k found = find-held ks id ∙ ap (option_map (λ (j : KeptLoan)
 
 pub held_missing : (id : ℕ) (ks : List KeptLoan) → find_kept id ks ≡ None → find_loan id (held_in ks) ≡ None
 held_missing id ks none = find-held ks id ∙ ap (option_map (λ (j : KeptLoan). j.held)) none
-
--- ---- the numbers of an analysis
-
-same_64 : (z : ℤ) → pos 0 ≤ℤ z → z ≤ℤ pos (10 ^ 18) → to_z w64 (of_z w64 z) ≡ z
-same_64 z low high = cents_same z (omega (arith, ints)) (omega (arith, ints))
-
-fits : (z o : ℤ) → z ≤ℤ o → o ≤ℤ pos 2_240_000_000_000 → z ≤ℤ pos (10 ^ 18)
-fits z o le most = omega (arith, ints, le, most)
-
-abbrev figures : ℕ → ℤ → ℤ → ℤ → ℤ → ℤ → ℤ → ℤ → Figures
-figures from base cushion opening balance surplus short deficient = record {
-  from = from;
-  base = base;
-  cushion = cushion;
-  opening = opening;
-  balance = balance;
-  surplus = surplus;
-  short = short;
-  deficient = deficient;
-  refund = pos 0;
-  within30 = pos 0;
-  pay = base;
-}
-
-same_figures : {f f' : ℕ} {b b' c c' o o' e e' s s' h h' d d' : ℤ} → f ≡ f' → b ≡ b' → c ≡ c' → o ≡ o' → e ≡ e' → s ≡ s' → h ≡ h' → d ≡ d' → figures f b c o e s h d ≡ figures f' b' c' o' e' s' h' d'
-same_figures p q r s t u v w = rw (p, q, r, s, t, u, v, w) refl
-
--- those of a loan's analysis, from its parts as they are called
-pub figures_same : (l : Held) (begins : ℕ) (a : Analysis) (p : Parts) (b : Books) → begins ≡ year_begins l → a ≡ analysis_of l → p ≡ parts_of l → b ≡ books_now l → IsSmallAnalysis a → AreParts p → AreBooks l.account.terms b → figures begins (to_z w64 (of_z w64 a.base)) (to_z w64 (of_z w64 a.cushion)) (to_z w64 (of_z w64 a.opening)) (to_z w64 (of_z w64 b.escrow)) (to_z w64 (of_z w64 p.surplus)) (to_z w64 (of_z w64 p.short)) (to_z w64 (of_z w64 p.deficient)) ≡ asked_figures l
-figures_same l begins a p b be ae pe ee small parts books =
-    same_figures be
-    (same_64 a.base small.base_low (fits a.base (pos 160_000_000_000) small.base_high (omega (arith, ints))) ∙ ap (λ (x : Analysis). x.base) ae)
-    (same_64 a.cushion small.cushion_low (fits a.cushion a.opening small.cushion_high small.opening_high) ∙ ap (λ (x : Analysis). x.cushion) ae)
-    (same_64 a.opening small.opening_low (fits a.opening (pos 2_240_000_000_000) small.opening_high (omega (arith, ints))) ∙ ap (λ (x : Analysis). x.opening) ae)
-    (escrow_same b.escrow books.within.escrow_low books.within.escrow_high ∙ ap (λ (x : Books). x.escrow) ee)
-    (same_64 p.surplus parts.surplus_low parts.surplus_high ∙ ap (λ (x : Parts). x.surplus) pe)
-    (same_64 p.short parts.short_low parts.short_high ∙ ap (λ (x : Parts). x.short) pe)
-    (same_64 p.deficient parts.deficient_low parts.deficient_high ∙ ap (λ (x : Parts). x.deficient) pe)

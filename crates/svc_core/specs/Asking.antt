@@ -2,7 +2,6 @@
 use Rattle.std.specs.Prelude.{◌≡◌, ℕ, List, pos, ◌≤ℤ◌}
 use Rattle.std.specs.List.{All}
 use Rattle.svc_types.specs.declared.books.Installment.{Installment}
-use Rattle.escrow_analysis.specs.declared.analysis.Analysis.{Analysis}
 use Rattle.svc_loan.specs.Kept.{KeptLoan}
 
 -- each loan is on that business day
@@ -17,12 +16,3 @@ pub record IsPayable (i : Installment) : Type 0 where
   pub principal_high : i.principal ≤ℤ pos 10_000_000_000
   pub escrow_low : pos 0 ≤ℤ i.escrow
   pub escrow_high : i.escrow ≤ℤ pos 300_000_000_000_000
-
--- an analysis whose amounts are at most those of the largest bills that lines can have
-pub record IsSmallAnalysis (a : Analysis) : Type 0 where
-  pub base_low : pos 0 ≤ℤ a.base
-  pub base_high : a.base ≤ℤ pos 160_000_000_000
-  pub cushion_low : pos 0 ≤ℤ a.cushion
-  pub cushion_high : a.cushion ≤ℤ a.opening
-  pub opening_low : pos 0 ≤ℤ a.opening
-  pub opening_high : a.opening ≤ℤ pos 2_240_000_000_000

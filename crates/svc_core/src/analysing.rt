@@ -6,7 +6,6 @@ ghost use Rattle.escrow_analysis.specs.AggregateAnalysis.{base as monthly, cushi
 ghost use Rattle.escrow_resolve.specs.Parts.{AreParts};
 ghost use Rattle.svc_world.specs.Analysing as world;
 ghost use Rattle.svc_world.specs.Refusals as rule;
-ghost use Rattle.svc_core.specs.Asking.{IsSmallAnalysis};
 ghost use Rattle.svc_core.specs.State.{world_of};
 
 use crate::refusals::refuse_adjustments;
@@ -77,7 +76,6 @@ pub(crate) fn analysis_from<B: LoanBooks>(loan: &Loan<B>, begins: Month) -> Anal
     ensures base_high { result.base ≤ℤ pos 160_000_000_000 }
     ensures opening_low { pos 0 ≤ℤ result.opening }
     ensures opening_high { result.opening ≤ℤ pos 2_240_000_000_000 }
-    ensures small { IsSmallAnalysis result }
 {
     loan.is_sound();
     analyse(&loan.lines().year(begins), loan.terms().cushion)

@@ -18,16 +18,16 @@ ghost use Rattle.svc_world.specs.Held.{find_loan, books_now};
 ghost use Rattle.svc_world.specs.Judging.{report_for};
 ghost use Rattle.svc_world.specs.Refusals as rule;
 ghost use Rattle.svc_world.specs.declared.answer.Answer.TheVariants as answer;
-ghost use Rattle.svc_core.specs.Asking.{AreOnDay, IsPayable, IsSmallAnalysis};
+ghost use Rattle.svc_core.specs.Asking.{AreOnDay, IsPayable};
 ghost use Rattle.svc_core.specs.Costs.{asking_month, asking_cost};
 ghost use Rattle.svc_core.specs.Rows.{IsCash};
 ghost use Rattle.svc_core.specs.State.{world_of, IsState};
 
-use crate::analysing::{analysis_from, parts_of};
+use crate::analysing::analysis_from;
 use crate::fault::CoreFault;
+use crate::figures::figures_with;
 use crate::state::{Cash, State};
 use custodial_book::Row;
-use escrow_analysis::Analysis;
 use period_adjust::Report;
 use std::alloc::Global;
 use std::sync::ledger::Ledger;
@@ -35,7 +35,7 @@ use svc_apply::{open_installment, payoff_due};
 use svc_base::{Cents, Day, Month, OutOfMemory, Steps, month_of};
 use svc_loan::Loan;
 use svc_replay::LoanBooks;
-use svc_types::{Books, Figures, Installment, Query, Refusal};
+use svc_types::{Books, Installment, Query, Refusal};
 use svc_world::{Answer, RowList};
 
 /// What a query is answered, after so many commands. It is refused where a rule holds; beside that it
@@ -202,35 +202,12 @@ fn ask_escrow<B: LoanBooks>(state: &State<B>, id: u32) -> Result<Answer, Refusal
     let loan = loan_named(state, id)?;
     let begins = month_of(state.today).plus(1);
     let analysis = analysis_from(loan, begins);
-    let figures = figures_of(loan, begins, &analysis);
+    let figures = figures_with(loan, state.today, 0, 0, analysis.base);
     Ok(Answer::Escrow {
         loan: id,
         figures,
         analysis,
     })
-}
-
-/// The numbers of a loan's analysis: nothing is settled, and the payment is the base.
-fn figures_of<B: LoanBooks>(loan: &Loan<B>, begins: Month, analysis: &Analysis) -> Figures
-    requires begins { begins ≡ analysing.year_begins loan.now.held }
-    requires analysis { analysis.now ≡ analysing.analysis_of loan.now.held }
-    requires small { IsSmallAnalysis analysis.now }
-    ensures { result ≡ analysing.asked_figures loan.now.held }
-{
-    let parts = parts_of(loan, analysis.opening);
-    Figures {
-        from: begins,
-        base: analysis.base,
-        cushion: analysis.cushion,
-        opening: analysis.opening,
-        balance: loan.now().escrow,
-        surplus: parts.surplus,
-        short: parts.short,
-        deficient: parts.deficient,
-        refund: 0,
-        within30: 0,
-        pay: analysis.base,
-    }
 }
 
 /// The report of a closed month; beside a refusal it fails for want of memory alone.
