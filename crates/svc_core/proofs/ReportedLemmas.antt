@@ -1,10 +1,15 @@
 -- The lines of a month's report, loan by loan.
-use Rattle.std.proofs.Common.{◌≡◌, ℕ, suc, ◌+◌, ◌≤◌, ◌<◌, true, false, cond, List, [], ◌∷◌, ◌++◌, map, take, get_or, length, arith, refl, sym, ap, ◌∙◌}
+use Rattle.std.proofs.Common.{◌≡◌, ℕ, suc, ◌+◌, ◌-◌, ◌≤◌, ◌<◌, Bool, true, false, cond, List, [], ◌∷◌, ◌++◌, map, take, get_or, length, arith, refl, sym, ap, ◌∙◌}
+use Rattle.std.specs.Prelude.{nat_le, not, ◌&&◌, ◌||◌}
 use Rattle.std.specs.List.{filter}
+use Rattle.std.proofs.lemmas.Bool.Decides.{nat_tests}
 use Rattle.std.proofs.lemmas.List.{take_more}
+use Rattle.remit_types.specs.declared.dues.MonthDue.{MonthDue}
+use Rattle.remit_types.specs.declared.dues.Carry.{Carry}
 use Rattle.period_adjust.specs.declared.adjustment.Adjustment.{Adjustment}
-use Rattle.svc_world.specs.Held.{Held}
-use Rattle.svc_world.specs.Reports.{is_reported, line_of, lines_of}
+use Rattle.svc_world.specs.Held.{Held, boarded_month}
+use Rattle.svc_world.specs.LoanDues.{carry_of, due_of}
+use Rattle.svc_world.specs.Reports.{is_zero, is_adjusted, is_reported, line_of, lines_of}
 use Rattle.svc_loan.specs.Kept.{KeptLoan}
 use Rattle.svc_loan.specs.Loans.{held_in}
 
@@ -54,3 +59,18 @@ lines_more pending p ks i k lt is =
     ap (λ js. lines_of pending p (held_in js)) (take_more ks i k lt ∙ ap (λ x. take i ks ++ x ∷ []) (sym is))
     ∙ ap (lines_of pending p) (held_more (take i ks) k)
     ∙ lines_append pending p (held_in (take i ks)) (k.held ∷ [])
+
+-- what is read of a loan for its line
+abbrev any_left : Carry → MonthDue → Bool → Bool
+any_left before due adjusted =
+    not (is_zero before.upb) || not (is_zero before.balance) || not (is_zero due.interest)
+    || not (is_zero due.principal) || adjusted
+
+pub reported_is : (pending : List Adjustment) (p q : ℕ) (l : Held) (before : Carry) (due : MonthDue) (adjusted : Bool) → boarded_month l ≤ p → q + 1 ≡ p → before ≡ carry_of l q → due ≡ due_of l p → adjusted ≡ is_adjusted pending l.id → any_left before due adjusted ≡ is_reported pending p l
+reported_is pending p q l before due adjusted le next carry is pends =
+    let by : nat_le (boarded_month l) p ≡ true = grind (arith, nat_tests) in
+    let back : q ≡ p - 1 = omega (arith, next) in
+    ap (λ b. any_left b due adjusted) (carry ∙ ap (carry_of l) back)
+    ∙ ap (λ d. any_left (carry_of l (p - 1)) d adjusted) is
+    ∙ ap (any_left (carry_of l (p - 1)) (due_of l p)) pends
+    ∙ sym (ap (λ v. v && any_left (carry_of l (p - 1)) (due_of l p) (is_adjusted pending l.id)) by)
