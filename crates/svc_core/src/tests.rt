@@ -2,6 +2,10 @@
 
 ghost use Rattle.std.specs.Prelude.{◌≡◌, ◌≤◌, length, IfSome};
 
+mod commands;
+mod desk;
+mod rows;
+
 use super::*;
 use std::process::Abort;
 use std::test::*;
