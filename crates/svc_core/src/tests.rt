@@ -4,6 +4,8 @@ ghost use Rattle.std.specs.Prelude.{◌≡◌, ◌≤◌, length, IfSome};
 
 mod commands;
 mod desk;
+mod many;
+mod more;
 mod rows;
 
 use super::*;

@@ -373,7 +373,7 @@ fn a_payoff_satisfies_the_loan(rt: HostRuntime) -> Result<(), Fail> {
 }
 
 /// Twelve commands: the loan is paid off, and that month is remitted.
-fn twelve_paid_off<B: LoanBooks, L: Ledger>(rt: &impl Abort, desk: &mut Desk<B, L>) {
+pub(crate) fn paid_off_and_remitted<B: LoanBooks, L: Ledger>(rt: &impl Abort, desk: &mut Desk<B, L>) {
     paid_off(rt, desk);
     desk.ok(rt, &today(rt, b"2024-03-01"));
     desk.closes(rt, b"2023-12", 1, 0, 0);
@@ -388,7 +388,7 @@ fn twelve_paid_off<B: LoanBooks, L: Ledger>(rt: &impl Abort, desk: &mut Desk<B, 
 
 /// The payoff taken back.
 fn payoff_taken_back<B: LoanBooks, L: Ledger>(rt: &impl Abort, desk: &mut Desk<B, L>) {
-    twelve_paid_off(rt, desk);
+    paid_off_and_remitted(rt, desk);
     desk.ok(rt, &reverse(1, 5));
     let rows = [
         (Part::Returned, 20_030_040),
