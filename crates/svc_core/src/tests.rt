@@ -6,6 +6,7 @@ mod commands;
 mod desk;
 mod many;
 mod more;
+mod refused;
 mod rows;
 
 use super::*;

@@ -101,7 +101,13 @@ pub(crate) fn pay(rt: &impl Abort, id: u32, text: &[u8], cents: u32) -> Command
 }
 
 /// A payment, and where what is over goes.
-pub(crate) fn pay_to(rt: &impl Abort, id: u32, text: &[u8], cents: u32, over: Designation) -> Command
+pub(crate) fn pay_to(
+    rt: &impl Abort,
+    id: u32,
+    text: &[u8],
+    cents: u32,
+    over: Designation,
+) -> Command
     ensures { IsCommand result }
 {
     Command::Pay(id, day(rt, text), Cents::from(cents), over)
@@ -223,6 +229,34 @@ pub(crate) fn analyse(id: u32, surplus: SurplusPlan) -> Command
         Plan {
             surplus,
             short: PartPlan::Unsaid,
+            deficient: PartPlan::Unsaid,
+        },
+    )
+}
+
+/// An analysis that asks the shortage within 30 days.
+pub(crate) fn ask_short(id: u32) -> Command
+    ensures { IsCommand result }
+{
+    Command::Analyse(
+        id,
+        Plan {
+            surplus: SurplusPlan::Unsaid,
+            short: PartPlan::Within30,
+            deficient: PartPlan::Unsaid,
+        },
+    )
+}
+
+/// An analysis with a spread of the shortage alone.
+pub(crate) fn spread_short(id: u32, months: u32) -> Command
+    ensures { IsCommand result }
+{
+    Command::Analyse(
+        id,
+        Plan {
+            surplus: SurplusPlan::Unsaid,
+            short: PartPlan::Spread(months),
             deficient: PartPlan::Unsaid,
         },
     )

@@ -68,7 +68,10 @@ impl<B: LoanBooks, L: Ledger> Desk<B, L> {
         let before = self.count();
         assert!(rt; before < 1_000_000);
         let number = before + 1;
-        assert_eq!(rt; self.send_as(rt, number, command), Ok(Reply { number, extra }));
+        assert_eq!(rt;
+            self.send_as(rt, number, command),
+            Ok(Reply { number, extra })
+        );
         assert_eq!(rt; self.count(), number);
     }
 
@@ -142,7 +145,10 @@ impl<B: LoanBooks, L: Ledger> Desk<B, L> {
     {
         let before = self.count();
         assert!(rt; before < 1_000_000);
-        assert_eq!(rt; self.send_as(rt, before + 1, command), Err(CoreFault::Refused(why)));
+        assert_eq!(rt;
+            self.send_as(rt, before + 1, command),
+            Err(CoreFault::Refused(why))
+        );
         assert_eq!(rt; self.count(), before);
     }
 
@@ -165,10 +171,15 @@ impl<B: LoanBooks, L: Ledger> Desk<B, L> {
     pub(crate) fn books_of(&mut self, rt: &impl Abort, query: &Query) -> Seen
         requires { IsQuery query.now }
     {
-        match self.answer(query) {
-            Ok(Answer::Books {
-                books, next, pay, ..
-            }) => seen_in(&books, next, pay),
+        match &self.answer(query) {
+            Ok(
+                Answer::Books {
+                    books,
+                    next,
+                    pay,
+                    ..
+                },
+            ) => seen_in(books, *next, *pay),
             _ => panic!(rt; "no books"),
         }
     }
@@ -180,9 +191,9 @@ impl<B: LoanBooks, L: Ledger> Desk<B, L> {
 
     /// The rows of a command are those of one loan: parts and cents.
     pub(crate) fn rows(&mut self, rt: &impl Abort, number: u32, loan: u32, want: &[(Part, Cents)]) {
-        match self.answer(&Query::Rows(number)) {
+        match &self.answer(&Query::Rows(number)) {
             Ok(Answer::Rows { number: of, rows }) => {
-                assert_eq!(rt; of, number);
+                assert_eq!(rt; *of, number);
                 are_rows(rt, rows.slice(), number, loan, want);
             }
             _ => panic!(rt; "no rows"),
@@ -197,8 +208,8 @@ impl<B: LoanBooks, L: Ledger> Desk<B, L> {
 
     /// The custodial accounts hold this.
     pub(crate) fn holds(&mut self, rt: &impl Abort, want: Custody) {
-        match self.answer(&Query::Custodial) {
-            Ok(Answer::Custodial(custody)) => assert_eq!(rt; custody, want),
+        match &self.answer(&Query::Custodial) {
+            Ok(Answer::Custodial(custody)) => assert_eq!(rt; *custody, want),
             _ => panic!(rt; "no custody"),
         }
     }
@@ -206,12 +217,14 @@ impl<B: LoanBooks, L: Ledger> Desk<B, L> {
     /// What pays a loan off on a day.
     pub(crate) fn pays_off(&mut self, rt: &impl Abort, id: u32, text: &[u8], want: Cents) {
         let day = crate::tests::commands::day(rt, text);
-        match self.answer(&Query::Payoff(id, day)) {
-            Ok(Answer::Payoff {
-                loan,
-                day: on,
-                cents,
-            }) => assert!(rt; loan == id && on == day && cents == want),
+        match &self.answer(&Query::Payoff(id, day)) {
+            Ok(
+                Answer::Payoff {
+                    loan,
+                    day: on,
+                    cents,
+                },
+            ) => assert!(rt; *loan == id && *on == day && *cents == want),
             _ => panic!(rt; "no payoff"),
         }
     }
@@ -225,7 +238,7 @@ impl<B: LoanBooks, L: Ledger> Desk<B, L> {
         adjustments: &[Adjustment],
     ) {
         let month = month(rt, text);
-        match self.answer(&Query::Report(month)) {
+        match &self.answer(&Query::Report(month)) {
             Ok(Answer::Report(report)) => {
                 assert!(rt; report.month() == month);
                 assert_eq!(rt; report.lines(), lines);
@@ -238,7 +251,7 @@ impl<B: LoanBooks, L: Ledger> Desk<B, L> {
     /// The report of a month sends these adjustments.
     pub(crate) fn sends(&mut self, rt: &impl Abort, text: &[u8], adjustments: &[Adjustment]) {
         let month = month(rt, text);
-        match self.answer(&Query::Report(month)) {
+        match &self.answer(&Query::Report(month)) {
             Ok(Answer::Report(report)) => assert_eq!(rt; report.adjustments(), adjustments),
             _ => panic!(rt; "no report"),
         }
@@ -247,7 +260,7 @@ impl<B: LoanBooks, L: Ledger> Desk<B, L> {
     /// The trial of a month is of a report with these lines.
     pub(crate) fn trial(&mut self, rt: &impl Abort, text: &[u8], lines: &[ReportLine]) {
         let month = month(rt, text);
-        match self.answer(&Query::Trial(month)) {
+        match &self.answer(&Query::Trial(month)) {
             Ok(Answer::Trial(report)) => {
                 assert!(rt; report.month() == month);
                 assert_eq!(rt; report.lines(), lines);
@@ -258,10 +271,14 @@ impl<B: LoanBooks, L: Ledger> Desk<B, L> {
 
     /// What an escrow analysis of a loan would find.
     pub(crate) fn escrow(&mut self, rt: &impl Abort, id: u32) -> (Figures, Analysis) {
-        match self.answer(&Query::Escrow(id)) {
-            Ok(Answer::Escrow {
-                figures, analysis, ..
-            }) => (figures, analysis),
+        match &self.answer(&Query::Escrow(id)) {
+            Ok(
+                Answer::Escrow {
+                    figures,
+                    analysis,
+                    ..
+                },
+            ) => (*figures, *analysis),
             _ => panic!(rt; "no analysis"),
         }
     }
@@ -276,7 +293,11 @@ impl<B: LoanBooks, L: Ledger> Desk<B, L> {
     }
 
     /// Judges a command under the key of the next number, and accepts it where it is fresh.
-    pub(crate) fn judged_and_accepted(&mut self, rt: &impl Abort, command: &Command) -> Option<Reply>
+    pub(crate) fn judged_and_accepted(
+        &mut self,
+        rt: &impl Abort,
+        command: &Command,
+    ) -> Option<Reply>
         requires { IsCommand command.now }
     {
         let key = read_key_of(rt, self.count() + 1);

@@ -91,19 +91,36 @@ fn month_ended<B: LoanBooks, L: Ledger>(rt: &impl Abort, desk: &mut Desk<B, L>) 
     desk.remits(rt, b"2024-02", 4_629_720);
     desk.remits(rt, b"2024-03", 4_106_862);
     assert_eq!(rt; desk.count(), 121);
-    desk.holds(rt, Custody { pi_advance: 634_452, ..EMPTY });
+    desk.holds(
+        rt,
+        Custody {
+            pi_advance: 634_452,
+            ..EMPTY
+        },
+    );
     ten_owe(rt, desk);
 }
 
 #[test]
 fn forty_loans_have_a_month(rt: HostRuntime) -> Result<(), Fail> {
-    month_of_forty(&rt, &mut Desk::<Plain, Brand>::new(rt.alloc(), Blank::new(1))?);
-    month_of_forty(&rt, &mut Desk::<Checked, Brand>::new(rt.alloc(), Blank::new(1))?);
+    month_of_forty(
+        &rt,
+        &mut Desk::<Plain, Brand>::new(rt.alloc(), Blank::new(1))?,
+    );
+    month_of_forty(
+        &rt,
+        &mut Desk::<Checked, Brand>::new(rt.alloc(), Blank::new(1))?,
+    );
     Ok(())
 }
 
 /// The loans from 1 to that one pay 1.00 on that day.
-fn each_pays<B: LoanBooks, L: Ledger>(rt: &impl Abort, desk: &mut Desk<B, L>, last: u32, text: &[u8])
+fn each_pays<B: LoanBooks, L: Ledger>(
+    rt: &impl Abort,
+    desk: &mut Desk<B, L>,
+    last: u32,
+    text: &[u8],
+)
     requires { last ≤ 1_000 }
 {
     for place in 0..last {
@@ -136,8 +153,14 @@ fn thousands<B: LoanBooks, L: Ledger>(rt: &impl Abort, desk: &mut Desk<B, L>) {
 
 #[test]
 fn three_thousand_payments_are_counted(rt: HostRuntime) -> Result<(), Fail> {
-    thousands(&rt, &mut Desk::<Plain, Brand>::new(rt.alloc(), Blank::new(1))?);
-    thousands(&rt, &mut Desk::<Checked, Brand>::new(rt.alloc(), Blank::new(1))?);
+    thousands(
+        &rt,
+        &mut Desk::<Plain, Brand>::new(rt.alloc(), Blank::new(1))?,
+    );
+    thousands(
+        &rt,
+        &mut Desk::<Checked, Brand>::new(rt.alloc(), Blank::new(1))?,
+    );
     Ok(())
 }
 
@@ -167,7 +190,13 @@ fn judged_alone<B: LoanBooks, L: Ledger>(rt: &impl Abort, desk: &mut Desk<B, L>)
 
 #[test]
 fn judging_alone_changes_nothing(rt: HostRuntime) -> Result<(), Fail> {
-    judged_alone(&rt, &mut Desk::<Plain, Brand>::new(rt.alloc(), Blank::new(1))?);
-    judged_alone(&rt, &mut Desk::<Checked, Brand>::new(rt.alloc(), Blank::new(1))?);
+    judged_alone(
+        &rt,
+        &mut Desk::<Plain, Brand>::new(rt.alloc(), Blank::new(1))?,
+    );
+    judged_alone(
+        &rt,
+        &mut Desk::<Checked, Brand>::new(rt.alloc(), Blank::new(1))?,
+    );
     Ok(())
 }

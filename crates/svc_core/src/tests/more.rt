@@ -13,9 +13,7 @@ use std::test::Fail;
 use svc_base::Cents;
 use svc_checkpoint::Checked;
 use svc_replay::{LoanBooks, Plain};
-use svc_types::{
-    Designation, Extra, Figures, PlanFault, Query, Refusal, RemitType, SurplusPlan,
-};
+use svc_types::{Designation, Extra, Figures, PlanFault, Query, Refusal, RemitType, SurplusPlan};
 use svc_world::Custody;
 
 /// What a payment of 2024-02-01 leaves of a loan just taken on: the month of the open installment, and its
@@ -31,13 +29,22 @@ fn leaves<B: LoanBooks, L: Ledger>(
     desk.ok(rt, &pay_to(rt, 1, b"2024-02-01", payment.0, payment.1));
     let seen = desk.books_of(rt, &Query::Books(1));
     assert!(rt; seen.next == Some(month(rt, next)));
-    assert_eq!(rt; [seen.upb, seen.escrow, seen.suspense, seen.principal], left);
+    assert_eq!(rt;
+        [seen.upb, seen.escrow, seen.suspense, seen.principal],
+        left
+    );
 }
 
 /// What is over is paid on the principal.
 fn over_to_principal<B: LoanBooks, L: Ledger>(rt: &impl Abort, desk: &mut Desk<B, L>) {
     let left = [19_930_090, 0, 0, 69_910];
-    leaves(rt, desk, (169_910, Designation::Principal), b"2024-03", left);
+    leaves(
+        rt,
+        desk,
+        (169_910, Designation::Principal),
+        b"2024-03",
+        left,
+    );
     let rows = [
         (Part::Received, 169_910),
         (Part::Collected, 169_910),
@@ -60,19 +67,43 @@ fn over_waits<B: LoanBooks, L: Ledger>(rt: &impl Abort, desk: &mut Desk<B, L>) {
 
 #[test]
 fn what_is_over_goes_where_it_is_designated(rt: HostRuntime) -> Result<(), Fail> {
-    over_to_principal(&rt, &mut Desk::<Plain, Brand>::new(rt.alloc(), Blank::new(1))?);
-    over_to_principal(&rt, &mut Desk::<Checked, Brand>::new(rt.alloc(), Blank::new(1))?);
-    over_to_escrow(&rt, &mut Desk::<Plain, Brand>::new(rt.alloc(), Blank::new(1))?);
-    over_to_escrow(&rt, &mut Desk::<Checked, Brand>::new(rt.alloc(), Blank::new(1))?);
-    over_waits(&rt, &mut Desk::<Plain, Brand>::new(rt.alloc(), Blank::new(1))?);
-    over_waits(&rt, &mut Desk::<Checked, Brand>::new(rt.alloc(), Blank::new(1))?);
+    over_to_principal(
+        &rt,
+        &mut Desk::<Plain, Brand>::new(rt.alloc(), Blank::new(1))?,
+    );
+    over_to_principal(
+        &rt,
+        &mut Desk::<Checked, Brand>::new(rt.alloc(), Blank::new(1))?,
+    );
+    over_to_escrow(
+        &rt,
+        &mut Desk::<Plain, Brand>::new(rt.alloc(), Blank::new(1))?,
+    );
+    over_to_escrow(
+        &rt,
+        &mut Desk::<Checked, Brand>::new(rt.alloc(), Blank::new(1))?,
+    );
+    over_waits(
+        &rt,
+        &mut Desk::<Plain, Brand>::new(rt.alloc(), Blank::new(1))?,
+    );
+    over_waits(
+        &rt,
+        &mut Desk::<Checked, Brand>::new(rt.alloc(), Blank::new(1))?,
+    );
     Ok(())
 }
 
 /// Two installments' cents, of which the second is paid on the principal.
 fn twice_to_principal<B: LoanBooks, L: Ledger>(rt: &impl Abort, desk: &mut Desk<B, L>) {
     let left = [19_860_180, 0, 0, 139_820];
-    leaves(rt, desk, (239_820, Designation::Principal), b"2024-03", left);
+    leaves(
+        rt,
+        desk,
+        (239_820, Designation::Principal),
+        b"2024-03",
+        left,
+    );
 }
 
 /// Two installments' cents, which pay both.
@@ -89,12 +120,30 @@ fn too_few<B: LoanBooks, L: Ledger>(rt: &impl Abort, desk: &mut Desk<B, L>) {
 
 #[test]
 fn what_is_due_is_paid_before_what_is_over(rt: HostRuntime) -> Result<(), Fail> {
-    twice_to_principal(&rt, &mut Desk::<Plain, Brand>::new(rt.alloc(), Blank::new(1))?);
-    twice_to_principal(&rt, &mut Desk::<Checked, Brand>::new(rt.alloc(), Blank::new(1))?);
-    twice_ahead(&rt, &mut Desk::<Plain, Brand>::new(rt.alloc(), Blank::new(1))?);
-    twice_ahead(&rt, &mut Desk::<Checked, Brand>::new(rt.alloc(), Blank::new(1))?);
-    too_few(&rt, &mut Desk::<Plain, Brand>::new(rt.alloc(), Blank::new(1))?);
-    too_few(&rt, &mut Desk::<Checked, Brand>::new(rt.alloc(), Blank::new(1))?);
+    twice_to_principal(
+        &rt,
+        &mut Desk::<Plain, Brand>::new(rt.alloc(), Blank::new(1))?,
+    );
+    twice_to_principal(
+        &rt,
+        &mut Desk::<Checked, Brand>::new(rt.alloc(), Blank::new(1))?,
+    );
+    twice_ahead(
+        &rt,
+        &mut Desk::<Plain, Brand>::new(rt.alloc(), Blank::new(1))?,
+    );
+    twice_ahead(
+        &rt,
+        &mut Desk::<Checked, Brand>::new(rt.alloc(), Blank::new(1))?,
+    );
+    too_few(
+        &rt,
+        &mut Desk::<Plain, Brand>::new(rt.alloc(), Blank::new(1))?,
+    );
+    too_few(
+        &rt,
+        &mut Desk::<Checked, Brand>::new(rt.alloc(), Blank::new(1))?,
+    );
     Ok(())
 }
 
@@ -131,10 +180,12 @@ const MONTHS: Analysis = Analysis {
     cushion: 26_000,
     opening: 104_000,
     trial: [
-        -37_000, -24_000, -47_000, -34_000, -21_000, -78_000, -65_000, -52_000, -39_000, -26_000, -13_000, 0,
+        -37_000, -24_000, -47_000, -34_000, -21_000, -78_000, -65_000, -52_000, -39_000, -26_000,
+        -13_000, 0,
     ],
     target: [
-        67_000, 80_000, 57_000, 70_000, 83_000, 26_000, 39_000, 52_000, 65_000, 78_000, 91_000, 104_000,
+        67_000, 80_000, 57_000, 70_000, 83_000, 26_000, 39_000, 52_000, 65_000, 78_000, 91_000,
+        104_000,
     ],
 };
 
@@ -154,8 +205,14 @@ fn analysed<B: LoanBooks, L: Ledger>(rt: &impl Abort, desk: &mut Desk<B, L>) {
 
 #[test]
 fn a_surplus_is_refunded(rt: HostRuntime) -> Result<(), Fail> {
-    analysed(&rt, &mut Desk::<Plain, Brand>::new(rt.alloc(), Blank::new(1))?);
-    analysed(&rt, &mut Desk::<Checked, Brand>::new(rt.alloc(), Blank::new(1))?);
+    analysed(
+        &rt,
+        &mut Desk::<Plain, Brand>::new(rt.alloc(), Blank::new(1))?,
+    );
+    analysed(
+        &rt,
+        &mut Desk::<Checked, Brand>::new(rt.alloc(), Blank::new(1))?,
+    );
     Ok(())
 }
 
@@ -186,13 +243,23 @@ fn escrow_advanced<B: LoanBooks, L: Ledger>(rt: &impl Abort, desk: &mut Desk<B, 
         ..EMPTY
     };
     desk.holds(rt, high);
-    desk.no(rt, &disburse(rt, 2, b"2024-06-12", 100, 9), Refusal::NoSuchLine);
+    desk.no(
+        rt,
+        &disburse(rt, 2, b"2024-06-12", 100, 9),
+        Refusal::NoSuchLine,
+    );
 }
 
 #[test]
 fn a_bill_above_escrow_is_advanced(rt: HostRuntime) -> Result<(), Fail> {
-    escrow_advanced(&rt, &mut Desk::<Plain, Brand>::new(rt.alloc(), Blank::new(1))?);
-    escrow_advanced(&rt, &mut Desk::<Checked, Brand>::new(rt.alloc(), Blank::new(1))?);
+    escrow_advanced(
+        &rt,
+        &mut Desk::<Plain, Brand>::new(rt.alloc(), Blank::new(1))?,
+    );
+    escrow_advanced(
+        &rt,
+        &mut Desk::<Checked, Brand>::new(rt.alloc(), Blank::new(1))?,
+    );
     Ok(())
 }
 
@@ -244,10 +311,22 @@ fn typed_back<B: LoanBooks, L: Ledger>(rt: &impl Abort, desk: &mut Desk<B, L>) {
 
 #[test]
 fn a_loan_is_retyped_from_a_month_on(rt: HostRuntime) -> Result<(), Fail> {
-    paid_before(&rt, &mut Desk::<Plain, Brand>::new(rt.alloc(), Blank::new(1))?);
-    paid_before(&rt, &mut Desk::<Checked, Brand>::new(rt.alloc(), Blank::new(1))?);
-    typed_back(&rt, &mut Desk::<Plain, Brand>::new(rt.alloc(), Blank::new(1))?);
-    typed_back(&rt, &mut Desk::<Checked, Brand>::new(rt.alloc(), Blank::new(1))?);
+    paid_before(
+        &rt,
+        &mut Desk::<Plain, Brand>::new(rt.alloc(), Blank::new(1))?,
+    );
+    paid_before(
+        &rt,
+        &mut Desk::<Checked, Brand>::new(rt.alloc(), Blank::new(1))?,
+    );
+    typed_back(
+        &rt,
+        &mut Desk::<Plain, Brand>::new(rt.alloc(), Blank::new(1))?,
+    );
+    typed_back(
+        &rt,
+        &mut Desk::<Checked, Brand>::new(rt.alloc(), Blank::new(1))?,
+    );
     Ok(())
 }
 
@@ -271,9 +350,21 @@ fn typed_after_payoff<B: LoanBooks, L: Ledger>(rt: &impl Abort, desk: &mut Desk<
 
 #[test]
 fn a_type_counts_after_boarding_and_payoff(rt: HostRuntime) -> Result<(), Fail> {
-    typed_before(&rt, &mut Desk::<Plain, Brand>::new(rt.alloc(), Blank::new(1))?);
-    typed_before(&rt, &mut Desk::<Checked, Brand>::new(rt.alloc(), Blank::new(1))?);
-    typed_after_payoff(&rt, &mut Desk::<Plain, Brand>::new(rt.alloc(), Blank::new(1))?);
-    typed_after_payoff(&rt, &mut Desk::<Checked, Brand>::new(rt.alloc(), Blank::new(1))?);
+    typed_before(
+        &rt,
+        &mut Desk::<Plain, Brand>::new(rt.alloc(), Blank::new(1))?,
+    );
+    typed_before(
+        &rt,
+        &mut Desk::<Checked, Brand>::new(rt.alloc(), Blank::new(1))?,
+    );
+    typed_after_payoff(
+        &rt,
+        &mut Desk::<Plain, Brand>::new(rt.alloc(), Blank::new(1))?,
+    );
+    typed_after_payoff(
+        &rt,
+        &mut Desk::<Checked, Brand>::new(rt.alloc(), Blank::new(1))?,
+    );
     Ok(())
 }

@@ -76,8 +76,14 @@ fn first_installment<B: LoanBooks, L: Ledger>(rt: &impl Abort, desk: &mut Desk<B
 
 #[test]
 fn a_payment_pays_the_first_installment(rt: HostRuntime) -> Result<(), Fail> {
-    first_installment(&rt, &mut Desk::<Plain, Brand>::new(rt.alloc(), Blank::new(1))?);
-    first_installment(&rt, &mut Desk::<Checked, Brand>::new(rt.alloc(), Blank::new(1))?);
+    first_installment(
+        &rt,
+        &mut Desk::<Plain, Brand>::new(rt.alloc(), Blank::new(1))?,
+    );
+    first_installment(
+        &rt,
+        &mut Desk::<Checked, Brand>::new(rt.alloc(), Blank::new(1))?,
+    );
     Ok(())
 }
 
@@ -96,8 +102,14 @@ fn a_cent_short<B: LoanBooks, L: Ledger>(rt: &impl Abort, desk: &mut Desk<B, L>)
 
 #[test]
 fn a_payment_waits_until_it_covers_the_installment(rt: HostRuntime) -> Result<(), Fail> {
-    a_cent_short(&rt, &mut Desk::<Plain, Brand>::new(rt.alloc(), Blank::new(1))?);
-    a_cent_short(&rt, &mut Desk::<Checked, Brand>::new(rt.alloc(), Blank::new(1))?);
+    a_cent_short(
+        &rt,
+        &mut Desk::<Plain, Brand>::new(rt.alloc(), Blank::new(1))?,
+    );
+    a_cent_short(
+        &rt,
+        &mut Desk::<Checked, Brand>::new(rt.alloc(), Blank::new(1))?,
+    );
     Ok(())
 }
 
@@ -116,8 +128,14 @@ fn grace<B: LoanBooks, L: Ledger>(rt: &impl Abort, desk: &mut Desk<B, L>) {
 
 #[test]
 fn a_late_charge_follows_the_days_of_grace(rt: HostRuntime) -> Result<(), Fail> {
-    grace(&rt, &mut Desk::<Plain, Brand>::new(rt.alloc(), Blank::new(1))?);
-    grace(&rt, &mut Desk::<Checked, Brand>::new(rt.alloc(), Blank::new(1))?);
+    grace(
+        &rt,
+        &mut Desk::<Plain, Brand>::new(rt.alloc(), Blank::new(1))?,
+    );
+    grace(
+        &rt,
+        &mut Desk::<Checked, Brand>::new(rt.alloc(), Blank::new(1))?,
+    );
     Ok(())
 }
 
@@ -163,13 +181,25 @@ fn advanced<B: LoanBooks, L: Ledger>(rt: &impl Abort, desk: &mut Desk<B, L>) {
     desk.rows(rt, 11, 1, &[(Part::Remitted, 115_743)]);
     let rows = [(Part::PiAdvance, 115_747), (Part::Remitted, 115_747)];
     desk.rows(rt, 12, 1, &rows);
-    desk.holds(rt, Custody { pi_advance: 115_747, ..EMPTY });
+    desk.holds(
+        rt,
+        Custody {
+            pi_advance: 115_747,
+            ..EMPTY
+        },
+    );
 }
 
 #[test]
 fn a_scheduled_installment_is_advanced(rt: HostRuntime) -> Result<(), Fail> {
-    advanced(&rt, &mut Desk::<Plain, Brand>::new(rt.alloc(), Blank::new(1))?);
-    advanced(&rt, &mut Desk::<Checked, Brand>::new(rt.alloc(), Blank::new(1))?);
+    advanced(
+        &rt,
+        &mut Desk::<Plain, Brand>::new(rt.alloc(), Blank::new(1))?,
+    );
+    advanced(
+        &rt,
+        &mut Desk::<Checked, Brand>::new(rt.alloc(), Blank::new(1))?,
+    );
     Ok(())
 }
 
@@ -204,8 +234,14 @@ fn paid_back<B: LoanBooks, L: Ledger>(rt: &impl Abort, desk: &mut Desk<B, L>) {
 
 #[test]
 fn a_late_payment_pays_an_advance_back(rt: HostRuntime) -> Result<(), Fail> {
-    paid_back(&rt, &mut Desk::<Plain, Brand>::new(rt.alloc(), Blank::new(1))?);
-    paid_back(&rt, &mut Desk::<Checked, Brand>::new(rt.alloc(), Blank::new(1))?);
+    paid_back(
+        &rt,
+        &mut Desk::<Plain, Brand>::new(rt.alloc(), Blank::new(1))?,
+    );
+    paid_back(
+        &rt,
+        &mut Desk::<Checked, Brand>::new(rt.alloc(), Blank::new(1))?,
+    );
     Ok(())
 }
 
@@ -266,8 +302,14 @@ fn sent_later<B: LoanBooks, L: Ledger>(rt: &impl Abort, desk: &mut Desk<B, L>) {
 
 #[test]
 fn a_report_never_changes(rt: HostRuntime) -> Result<(), Fail> {
-    sent_later(&rt, &mut Desk::<Plain, Brand>::new(rt.alloc(), Blank::new(1))?);
-    sent_later(&rt, &mut Desk::<Checked, Brand>::new(rt.alloc(), Blank::new(1))?);
+    sent_later(
+        &rt,
+        &mut Desk::<Plain, Brand>::new(rt.alloc(), Blank::new(1))?,
+    );
+    sent_later(
+        &rt,
+        &mut Desk::<Checked, Brand>::new(rt.alloc(), Blank::new(1))?,
+    );
     Ok(())
 }
 
@@ -283,8 +325,14 @@ fn sent_again<B: LoanBooks, L: Ledger>(rt: &impl Abort, desk: &mut Desk<B, L>) {
 
 #[test]
 fn a_command_sent_again_has_its_reply(rt: HostRuntime) -> Result<(), Fail> {
-    sent_again(&rt, &mut Desk::<Plain, Brand>::new(rt.alloc(), Blank::new(1))?);
-    sent_again(&rt, &mut Desk::<Checked, Brand>::new(rt.alloc(), Blank::new(1))?);
+    sent_again(
+        &rt,
+        &mut Desk::<Plain, Brand>::new(rt.alloc(), Blank::new(1))?,
+    );
+    sent_again(
+        &rt,
+        &mut Desk::<Checked, Brand>::new(rt.alloc(), Blank::new(1))?,
+    );
     Ok(())
 }
 
@@ -340,8 +388,14 @@ fn reversed<B: LoanBooks, L: Ledger>(rt: &impl Abort, desk: &mut Desk<B, L>) {
 
 #[test]
 fn a_reversal_changes_closed_months(rt: HostRuntime) -> Result<(), Fail> {
-    reversed(&rt, &mut Desk::<Plain, Brand>::new(rt.alloc(), Blank::new(1))?);
-    reversed(&rt, &mut Desk::<Checked, Brand>::new(rt.alloc(), Blank::new(1))?);
+    reversed(
+        &rt,
+        &mut Desk::<Plain, Brand>::new(rt.alloc(), Blank::new(1))?,
+    );
+    reversed(
+        &rt,
+        &mut Desk::<Checked, Brand>::new(rt.alloc(), Blank::new(1))?,
+    );
     Ok(())
 }
 
@@ -367,13 +421,22 @@ fn paid_off<B: LoanBooks, L: Ledger>(rt: &impl Abort, desk: &mut Desk<B, L>) {
 
 #[test]
 fn a_payoff_satisfies_the_loan(rt: HostRuntime) -> Result<(), Fail> {
-    paid_off(&rt, &mut Desk::<Plain, Brand>::new(rt.alloc(), Blank::new(1))?);
-    paid_off(&rt, &mut Desk::<Checked, Brand>::new(rt.alloc(), Blank::new(1))?);
+    paid_off(
+        &rt,
+        &mut Desk::<Plain, Brand>::new(rt.alloc(), Blank::new(1))?,
+    );
+    paid_off(
+        &rt,
+        &mut Desk::<Checked, Brand>::new(rt.alloc(), Blank::new(1))?,
+    );
     Ok(())
 }
 
 /// Twelve commands: the loan is paid off, and that month is remitted.
-pub(crate) fn paid_off_and_remitted<B: LoanBooks, L: Ledger>(rt: &impl Abort, desk: &mut Desk<B, L>) {
+pub(crate) fn paid_off_and_remitted<B: LoanBooks, L: Ledger>(
+    rt: &impl Abort,
+    desk: &mut Desk<B, L>,
+) {
     paid_off(rt, desk);
     desk.ok(rt, &today(rt, b"2024-03-01"));
     desk.closes(rt, b"2023-12", 1, 0, 0);
@@ -403,14 +466,23 @@ fn payoff_taken_back<B: LoanBooks, L: Ledger>(rt: &impl Abort, desk: &mut Desk<B
     let sent = adjustment(rt, 13, b"2024-02", 0, -19_980_090);
     desk.sends(rt, b"2024-03", &[sent]);
     desk.remits(rt, b"2024-03", -19_864_343);
-    let rows = [(Part::PiAdvance, -19_864_343), (Part::Remitted, -19_864_343)];
+    let rows = [
+        (Part::PiAdvance, -19_864_343),
+        (Part::Remitted, -19_864_343),
+    ];
     desk.rows(rt, 16, 1, &rows);
 }
 
 #[test]
 fn a_payoff_is_taken_back(rt: HostRuntime) -> Result<(), Fail> {
-    payoff_taken_back(&rt, &mut Desk::<Plain, Brand>::new(rt.alloc(), Blank::new(1))?);
-    payoff_taken_back(&rt, &mut Desk::<Checked, Brand>::new(rt.alloc(), Blank::new(1))?);
+    payoff_taken_back(
+        &rt,
+        &mut Desk::<Plain, Brand>::new(rt.alloc(), Blank::new(1))?,
+    );
+    payoff_taken_back(
+        &rt,
+        &mut Desk::<Checked, Brand>::new(rt.alloc(), Blank::new(1))?,
+    );
     Ok(())
 }
 
@@ -434,8 +506,14 @@ fn curtailed<B: LoanBooks, L: Ledger>(rt: &impl Abort, desk: &mut Desk<B, L>) {
 
 #[test]
 fn a_curtailment_reduces_the_investors_balance(rt: HostRuntime) -> Result<(), Fail> {
-    curtailed(&rt, &mut Desk::<Plain, Brand>::new(rt.alloc(), Blank::new(1))?);
-    curtailed(&rt, &mut Desk::<Checked, Brand>::new(rt.alloc(), Blank::new(1))?);
+    curtailed(
+        &rt,
+        &mut Desk::<Plain, Brand>::new(rt.alloc(), Blank::new(1))?,
+    );
+    curtailed(
+        &rt,
+        &mut Desk::<Checked, Brand>::new(rt.alloc(), Blank::new(1))?,
+    );
     Ok(())
 }
 
@@ -457,8 +535,14 @@ fn late_charge_paid<B: LoanBooks, L: Ledger>(rt: &impl Abort, desk: &mut Desk<B,
 
 #[test]
 fn a_late_charge_is_paid_last(rt: HostRuntime) -> Result<(), Fail> {
-    late_charge_paid(&rt, &mut Desk::<Plain, Brand>::new(rt.alloc(), Blank::new(1))?);
-    late_charge_paid(&rt, &mut Desk::<Checked, Brand>::new(rt.alloc(), Blank::new(1))?);
+    late_charge_paid(
+        &rt,
+        &mut Desk::<Plain, Brand>::new(rt.alloc(), Blank::new(1))?,
+    );
+    late_charge_paid(
+        &rt,
+        &mut Desk::<Checked, Brand>::new(rt.alloc(), Blank::new(1))?,
+    );
     Ok(())
 }
 
