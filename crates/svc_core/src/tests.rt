@@ -2,6 +2,13 @@
 
 ghost use Rattle.std.specs.Prelude.{◌≡◌, ◌≤◌, length, IfSome};
 
+mod commands;
+mod desk;
+mod many;
+mod more;
+mod refused;
+mod rows;
+
 use super::*;
 use std::process::Abort;
 use std::test::*;
