@@ -119,7 +119,7 @@ parts_first posted today loans seals rows h r d l s m b =
       history = subst IsHistory (sym h) empty_history;
       replies = r ∙ ap replies_to (sym h);
       state = ap (λ x. world_from_parts x loans.loans seals.reporting seals.remitted) d ∙ ap (λ x. world_from_parts first_world.today x seals.reporting seals.remitted) l
-      ∙ ap (λ x. world_from_parts first_world.today [] x seals.remitted) s ∙ ap (λ x. world_from_parts first_world.today [] (reporting [] []) x) m ∙ ap world (sym h);
+          ∙ ap (λ x. world_from_parts first_world.today [] x seals.remitted) s ∙ ap (λ x. world_from_parts first_world.today [] (reporting [] []) x) m ∙ ap world (sym h);
       kept = subst (λ ks. All (IsKeptIn (world posted.history)) ks) (sym l) (All-nil (IsKeptIn (world posted.history)));
       book = b ∙ ap rows_in (sym h);
       line = ap (λ x. custody_of (world x)) (sym h);

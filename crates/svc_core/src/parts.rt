@@ -80,7 +80,11 @@ impl<B: LoanBooks> Parts<B> {
 
 /// What is said of a command whose key is known: the reply that was given to it, or that another command
 /// has the key.
-pub(crate) fn repeat(before: &Command, command: &Command, reply: Reply) -> Result<Verdict, CoreFault>
+pub(crate) fn repeat(
+    before: &Command,
+    command: &Command,
+    reply: Reply,
+) -> Result<Verdict, CoreFault>
     ensures verdict { IfOk result (core.IsVerdict (by_key [] command.now (Some (known_as before.now reply)))) }
     ensures fault { IfErr result (core.IsFault (by_key [] command.now (Some (known_as before.now reply)))) }
     ensures repeated { IfOk result (λ v. v ≡ Verdict.Repeat reply) }

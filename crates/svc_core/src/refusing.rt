@@ -16,9 +16,7 @@ use crate::closing::{refuse_close, refuse_remit};
 use crate::others::{
     refuse_drop, refuse_line, refuse_refund, refuse_retype, refuse_reverse, refuse_waive,
 };
-use crate::refusals::{
-    refuse_curtail, refuse_day, refuse_disburse, refuse_paid_in, refuse_payoff,
-};
+use crate::refusals::{refuse_curtail, refuse_day, refuse_disburse, refuse_paid_in, refuse_payoff};
 use crate::scope::{Scope, scope_of};
 use crate::state::State;
 use escrow_lines::Line;
@@ -107,7 +105,10 @@ fn refuse_on<B: LoanBooks, L: Ledger>(
         Command::Payoff(_, day, cents) => refuse_payoff(state, loan, day, cents, steps),
         Command::Deposit(_, day, cents) => refuse_paid_in(state, loan, day, cents),
         Command::Disburse {
-            day, amount, line, ..
+            day,
+            amount,
+            line,
+            ..
         } => refuse_disburse(state, loan, day, amount, line),
         Command::Refund(_, cents) => refuse_refund(state, loan, cents),
         Command::Waive(_, cents) => refuse_waive(state, loan, cents),

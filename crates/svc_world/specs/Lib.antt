@@ -6,7 +6,6 @@ pub mod World
 pub mod Refusals
 pub mod Custody
 pub mod Judging
-pub mod Bound
 pub mod Answers
 pub mod WorkedLoans
 pub mod Worlds
