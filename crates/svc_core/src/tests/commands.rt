@@ -1,6 +1,5 @@
 //! Commands by the texts of their days, with their amounts in cents.
 
-ghost use Rattle.std.specs.Prelude.{◌≡◌, IfOk};
 ghost use Rattle.svc_base.specs.Calendar.{IsReadDay};
 ghost use Rattle.svc_base.specs.Text.{IsReadMonth};
 ghost use Rattle.svc_types.specs.Requests.{IsCommand};

@@ -1,6 +1,6 @@
 //! Books under test: what is sent to them under keys in order, and what they must answer.
 
-ghost use Rattle.std.specs.Prelude.{◌≡◌, ◌<◌, IfOk};
+ghost use Rattle.std.specs.Prelude.{◌≡◌, ◌<◌, ◌≤◌};
 ghost use Rattle.svc_types.specs.Requests.{IsCommand, IsQuery};
 
 use crate::tests::commands::{month, read_key_of};
@@ -39,7 +39,9 @@ impl<B: LoanBooks, L: Ledger> Desk<B, L> {
     }
 
     /// How many commands were accepted.
-    pub(crate) fn count(&self) -> u32 {
+    pub(crate) fn count(&self) -> u32
+        ensures { result ≤ 1_000_000 }
+    {
         self.core.count()
     }
 

@@ -36,10 +36,24 @@ fn months_before<B: LoanBooks, L: Ledger>(rt: &impl Abort, desk: &mut Desk<B, L>
     desk.no(rt, &pay(rt, 7, b"2024-04-01", 100), Refusal::NoSuchLoan);
 }
 
+/// What refuses a day before the loan was taken on.
+fn early(rt: &impl Abort) -> Refusal {
+    Refusal::BeforeBoarding(day(rt, b"2023-12-15"))
+}
+
+/// What refuses a month that is not closed, where 2024-03 was the last.
+fn after_march(rt: &impl Abort) -> Refusal {
+    Refusal::NotClosed(Some(month(rt, b"2024-03")))
+}
+
+/// What refuses a day after 2024-02-01, where that is the business day.
+fn after_first_day(rt: &impl Abort) -> Refusal {
+    Refusal::FutureDated(day(rt, b"2024-02-01"))
+}
+
 /// Months out of their order, and amounts and days out of their range, after four months are remitted.
 fn months_after<B: LoanBooks, L: Ledger>(rt: &impl Abort, desk: &mut Desk<B, L>) {
     twelve_scheduled(rt, desk);
-    let last = Refusal::NotClosed(Some(month(rt, b"2024-03")));
     let next = Refusal::WrongRemit(month(rt, b"2024-04"));
     desk.no(rt, &remit(rt, b"2024-03"), next);
     desk.no(
@@ -47,15 +61,14 @@ fn months_after<B: LoanBooks, L: Ledger>(rt: &impl Abort, desk: &mut Desk<B, L>)
         &close(rt, b"2024-03"),
         Refusal::WrongPeriod(month(rt, b"2024-04")),
     );
-    desk.no(rt, &remit(rt, b"2024-04"), last);
-    desk.no(rt, &remit(rt, b"2024-06"), last);
-    desk.no_answer(rt, &Query::Report(month(rt, b"2023-11")), last);
-    desk.no_answer(rt, &Query::Report(month(rt, b"2024-04")), last);
+    desk.no(rt, &remit(rt, b"2024-04"), after_march(rt));
+    desk.no(rt, &remit(rt, b"2024-06"), after_march(rt));
+    desk.no_answer(rt, &Query::Report(month(rt, b"2023-11")), after_march(rt));
+    desk.no_answer(rt, &Query::Report(month(rt, b"2024-04")), after_march(rt));
     desk.no(rt, &pay(rt, 1, b"2024-04-01", 0), Refusal::BadAmount);
     desk.no(rt, &pay_too_much(rt, 1, b"2024-04-01"), Refusal::BadAmount);
-    let early = Refusal::BeforeBoarding(day(rt, b"2023-12-15"));
-    desk.no(rt, &pay(rt, 1, b"2023-12-14", 100), early);
-    desk.no(rt, &retype(rt, 1, b"2023-11", RemitType::AA), early);
+    desk.no(rt, &pay(rt, 1, b"2023-12-14", 100), early(rt));
+    desk.no(rt, &retype(rt, 1, b"2023-11", RemitType::AA), early(rt));
     let closed = Refusal::ClosedMonth(month(rt, b"2024-03"));
     desk.no(rt, &retype(rt, 1, b"2024-03", RemitType::AA), closed);
     let boarded = Refusal::BoardedLate(month(rt, b"2024-03"));
@@ -200,14 +213,13 @@ fn terms_are_refused_in_order(rt: HostRuntime) -> Result<(), Fail> {
 /// Entries for which two rules hold: the first one refuses them.
 fn entries_refused<B: LoanBooks, L: Ledger>(rt: &impl Abort, desk: &mut Desk<B, L>) {
     paid(rt, desk, RemitType::SS);
-    let early = Refusal::BeforeBoarding(day(rt, b"2023-12-15"));
     desk.no(rt, &pay(rt, 7, b"2024-02-01", 0), Refusal::NoSuchLoan);
     desk.no(rt, &pay(rt, 7, b"2024-02-02", 100), Refusal::NoSuchLoan);
     desk.no(rt, &pay(rt, 1, b"2024-02-02", 0), Refusal::BadAmount);
     desk.no(rt, &pay(rt, 1, b"2023-12-14", 0), Refusal::BadAmount);
-    desk.no(rt, &curtail(rt, 1, b"2023-12-14", 20_000_001), early);
-    desk.no(rt, &payoff(rt, 1, b"2023-12-14", 1), early);
-    desk.no(rt, &disburse(rt, 1, b"2023-12-14", 100, 9), early);
+    desk.no(rt, &curtail(rt, 1, b"2023-12-14", 20_000_001), early(rt));
+    desk.no(rt, &payoff(rt, 1, b"2023-12-14", 1), early(rt));
+    desk.no(rt, &disburse(rt, 1, b"2023-12-14", 100, 9), early(rt));
     desk.no(
         rt,
         &disburse(rt, 1, b"2024-02-01", 0, 9),
@@ -238,17 +250,15 @@ fn entries_refused<B: LoanBooks, L: Ledger>(rt: &impl Abort, desk: &mut Desk<B, 
 /// Questions that are refused.
 fn questions_refused<B: LoanBooks, L: Ledger>(rt: &impl Abort, desk: &mut Desk<B, L>) {
     paid(rt, desk, RemitType::SS);
-    let now = Refusal::FutureDated(day(rt, b"2024-02-01"));
-    let early = Refusal::BeforeBoarding(day(rt, b"2023-12-15"));
     desk.no_answer(rt, &Query::Books(7), Refusal::NoSuchLoan);
     desk.no_answer(rt, &Query::Escrow(7), Refusal::NoSuchLoan);
     let day_before = day(rt, b"2023-12-14");
     let day_after = day(rt, b"2024-02-02");
     desk.no_answer(rt, &Query::At(7, day_after), Refusal::NoSuchLoan);
-    desk.no_answer(rt, &Query::At(1, day_after), now);
-    desk.no_answer(rt, &Query::At(1, day_before), early);
-    desk.no_answer(rt, &Query::Payoff(1, day_after), now);
-    desk.no_answer(rt, &Query::Payoff(1, day_before), early);
+    desk.no_answer(rt, &Query::At(1, day_after), after_first_day(rt));
+    desk.no_answer(rt, &Query::At(1, day_before), early(rt));
+    desk.no_answer(rt, &Query::Payoff(1, day_after), after_first_day(rt));
+    desk.no_answer(rt, &Query::Payoff(1, day_before), early(rt));
     desk.no_answer(rt, &Query::Rows(0), Refusal::NoSuchEntry);
     desk.no_answer(rt, &Query::Rows(4), Refusal::NoSuchEntry);
 }
@@ -298,8 +308,8 @@ fn types_refused<B: LoanBooks, L: Ledger>(rt: &impl Abort, desk: &mut Desk<B, L>
         desk.ok(rt, &retype(rt, 1, b"2024-02", RemitType::AA));
         desk.ok(rt, &retype(rt, 1, b"2024-03", RemitType::SS));
     }
-    let early = retype(rt, 1, b"2023-11", RemitType::AA);
-    desk.no(rt, &early, Refusal::Full(Limit::Types));
+    let before = retype(rt, 1, b"2023-11", RemitType::AA);
+    desk.no(rt, &before, Refusal::Full(Limit::Types));
 }
 
 #[test]
