@@ -1,10 +1,14 @@
+mod tables;
+
 ghost use Rattle.std.specs.Prelude.{◌≡◌, ◌<◌};
 
 use super::{INPUT_LIMIT, run};
 use crate::Status;
+use tables::*;
 use serv_disk::{MemSink, MemSource, Source};
 use std::alloc::{AllocError, Global};
 use std::marker::Brand;
+use std::process::Abort;
 use std::sync::ledger::{Blank, Ledger};
 use std::test::Fail;
 use svc_base::Steps;
@@ -127,62 +131,138 @@ fn each_status_has_its_output_and_rest(rt: HostRuntime) -> Result<(), Fail> {
     Ok(())
 }
 
-/// A loan of 200,000.00 at 6 percent whose first installment, 1,199.10, is due on 2024-02-01.
-const BOARDED: &[u8] =
-    b"k1 day 2024-02-01\nk2 board 1 2023-12-15 200000.00 6000 250 1199.10 360 2024-02 15 500 2 0.00 SS\n";
-
-/// What `j session` replies to these lines over the loan above.
-fn replies_to<L: Ledger>(alloc: Global, blank: Blank, lines: &[u8]) -> Result<String, AllocError>
+/// Runs the lines of these tables, one table after the other, and compares the output with their replies.
+fn check<L: Ledger>(
+    rt: &(impl Abort + AllocGlobal),
+    blank: Blank,
+    tables: &[&[Exchange]],
+) -> Result<(), Fail>
     requires name { blank.name ≡ L.name }
     requires parts { blank.parts ≡ L.parts }
     requires some { 0 < L.parts }
 {
-    let mut input = Vec::from_slice(alloc, BOARDED)?;
-    input.extend_from_slice(lines)?;
-    let end = run_over::<L>(alloc, blank, true, input, Vec::new(alloc), Vec::new(alloc))?;
-    String::from_utf8_lossy(alloc, &end.output)
+    let mut input = Vec::new(rt.alloc());
+    let mut replies = Vec::new(rt.alloc());
+    for table in tables {
+        for (line, reply) in *table {
+            input.extend_from_slice(line.as_bytes())?;
+            input.push(b'\n')?;
+            replies.extend_from_slice(reply.as_bytes())?;
+            replies.push(b'\n')?;
+        }
+    }
+    let none = Vec::new(rt.alloc());
+    let end = run_over::<L>(rt.alloc(), blank, true, input, none, Vec::new(rt.alloc()))?;
+    assert_eq!(rt; end.status, Status::Done);
+    let output = String::from_utf8_lossy(rt.alloc(), &end.output)?;
+    let expected = String::from_utf8_lossy(rt.alloc(), &replies)?;
+    assert_eq!(rt; output.as_str(), expected.as_str());
+    Ok(())
 }
 
 #[test]
 fn a_first_payment_is_booked(rt: HostRuntime) -> Result<(), Fail> {
-    let replies = replies_to::<Brand>(
-        rt.alloc(),
-        Blank::new(1),
-        b"k3 pay 1 2024-02-01 1199.10\n? books 1\n",
-    )?;
-    assert_eq!(rt;
-        replies.as_str(),
-        "ok 1\nok 2\nok 3\nbooks 1 2024-02-01 upb 199800.90 next 2024-03 escrow 0.00 suspense 0.00 late 0.00 interest 1000.00 fee 41.67 principal 199.10 charges 0.00 pay 1199.10\n"
-    );
-    Ok(())
+    check::<Brand>(&rt, Blank::new(1), &[&TAKEN_ON, &FIRST_PAYMENT, &FIRST_BOOKS, &FIRST_ROWS])
 }
 
 #[test]
-fn a_refused_payment_changes_nothing(rt: HostRuntime) -> Result<(), Fail> {
-    let replies = replies_to::<Brand>(
-        rt.alloc(),
-        Blank::new(1),
-        b"k3 pay 1 2024-02-01 1199.09\nk3 pay 7 2024-02-01 1199.10\nk3 pay 1 2024-02-02 1199.10\n? books 7\nk2 pay 1 2024-02-01 1199.10\nk3 pay 1 2024-02-01 1199.10\n",
-    )?;
-    assert_eq!(rt;
-        replies.as_str(),
-        "ok 1\nok 2\nno 99 NotBuilt\nno 5 NoSuchLoan\nno 9 FutureDated 2024-02-01\nno 5 NoSuchLoan\nno 99 NotBuilt\nok 3\n"
-    );
-    Ok(())
+fn an_installment_is_paid_in_parts(rt: HostRuntime) -> Result<(), Fail> {
+    check::<Brand>(&rt, Blank::new(1), &[&TAKEN_ON, &PAID_IN_PARTS])
 }
 
 #[test]
-fn a_day_on_which_a_loan_is_late_is_not_built(rt: HostRuntime) -> Result<(), Fail> {
-    let replies = replies_to::<Brand>(
-        rt.alloc(),
-        Blank::new(1),
-        b"k3 day 2024-02-17\nk3 day 2024-02-01\nk3 day 2024-02-16\n",
-    )?;
-    assert_eq!(rt;
-        replies.as_str(),
-        "ok 1\nok 2\nno 99 NotBuilt\nno 99 NotBuilt\nok 3\n"
-    );
-    Ok(())
+fn a_late_charge_comes_on_its_day(rt: HostRuntime) -> Result<(), Fail> {
+    check::<Brand>(&rt, Blank::new(1), &[&TAKEN_ON, &FIRST_PAYMENT, &LATE])
+}
+
+#[test]
+fn closed_months_are_remitted(rt: HostRuntime) -> Result<(), Fail> {
+    check::<Brand>(&rt, Blank::new(1), &[&TAKEN_ON, &FIRST_PAYMENT, &CLOSED, &ADVANCED, &PAID_BACK])
+}
+
+#[test]
+fn a_late_payment_adjusts_a_closed_month(rt: HostRuntime) -> Result<(), Fail> {
+    check::<Brand>(&rt, Blank::new(1), &[&ACTUAL])
+}
+
+#[test]
+fn a_repeated_line_acts_once(rt: HostRuntime) -> Result<(), Fail> {
+    check::<Brand>(&rt, Blank::new(1), &[&TAKEN_ON, &FIRST_PAYMENT, &REPEATED])
+}
+
+#[test]
+fn a_reversal_adjusts_closed_months(rt: HostRuntime) -> Result<(), Fail> {
+    check::<Brand>(&rt, Blank::new(1), &[&REVERSED])
+}
+
+#[test]
+fn a_payoff_is_reversed(rt: HostRuntime) -> Result<(), Fail> {
+    check::<Brand>(&rt, Blank::new(1), &[&TAKEN_ON, &FIRST_PAYMENT, &PAID_OFF, &PAYOFF_REVERSED])
+}
+
+#[test]
+fn a_surplus_is_refunded(rt: HostRuntime) -> Result<(), Fail> {
+    check::<Brand>(&rt, Blank::new(1), &[&ESCROWED, &SURPLUS])
+}
+
+#[test]
+fn a_small_surplus_is_credited(rt: HostRuntime) -> Result<(), Fail> {
+    check::<Brand>(&rt, Blank::new(1), &[&ESCROWED, &CREDITED])
+}
+
+#[test]
+fn a_small_shortage_is_paid_at_once(rt: HostRuntime) -> Result<(), Fail> {
+    check::<Brand>(&rt, Blank::new(1), &[&ESCROWED, &SMALL_SHORTAGE])
+}
+
+#[test]
+fn a_shortage_is_spread(rt: HostRuntime) -> Result<(), Fail> {
+    check::<Brand>(&rt, Blank::new(1), &[&ESCROWED, &SHORTAGE])
+}
+
+#[test]
+fn nothing_is_planned_where_nothing_is_short(rt: HostRuntime) -> Result<(), Fail> {
+    check::<Brand>(&rt, Blank::new(1), &[&ESCROWED, &NO_SHORTAGE])
+}
+
+#[test]
+fn one_bill_has_a_cushion(rt: HostRuntime) -> Result<(), Fail> {
+    check::<Brand>(&rt, Blank::new(1), &[&ONE_BILL])
+}
+
+#[test]
+fn escrow_is_advanced(rt: HostRuntime) -> Result<(), Fail> {
+    check::<Brand>(&rt, Blank::new(1), &[&ESCROW_ADVANCED])
+}
+
+#[test]
+fn principal_is_paid_ahead(rt: HostRuntime) -> Result<(), Fail> {
+    check::<Brand>(&rt, Blank::new(1), &[&TAKEN_ON, &FIRST_PAYMENT, &CURTAILED])
+}
+
+#[test]
+fn a_late_charge_is_paid(rt: HostRuntime) -> Result<(), Fail> {
+    check::<Brand>(&rt, Blank::new(1), &[&TAKEN_ON, &FIRST_PAYMENT, &CHARGED])
+}
+
+#[test]
+fn a_month_that_has_not_ended_is_not_closed(rt: HostRuntime) -> Result<(), Fail> {
+    check::<Brand>(&rt, Blank::new(1), &[&TOO_EARLY])
+}
+
+#[test]
+fn months_are_closed_in_turn(rt: HostRuntime) -> Result<(), Fail> {
+    check::<Brand>(&rt, Blank::new(1), &[&TAKEN_ON, &FIRST_PAYMENT, &WRONG_PERIOD])
+}
+
+#[test]
+fn rules_refuse_after_a_close(rt: HostRuntime) -> Result<(), Fail> {
+    check::<Brand>(&rt, Blank::new(1), &[&TAKEN_ON, &FIRST_PAYMENT, &CLOSED, &REFUSED])
+}
+
+#[test]
+fn a_line_that_is_no_request_has_a_place(rt: HostRuntime) -> Result<(), Fail> {
+    check::<Brand>(&rt, Blank::new(1), &[&NO_REQUESTS, &TAKEN_ON])
 }
 
 #[test]
@@ -199,7 +279,7 @@ fn a_line_of_513_bytes_is_too_long(rt: HostRuntime) -> Result<(), Fail> {
         Vec::new(rt.alloc()),
     )?;
     assert_eq!(rt; end.status, Status::Done);
-    assert_eq!(rt; end.output.as_slice(), b"no 99 NotBuilt\nok 1\n".as_slice());
+    assert_eq!(rt; end.output.as_slice(), b"bad 512\nok 1\n".as_slice());
     Ok(())
 }
 
