@@ -1,3 +1,4 @@
+pub mod ResultLemmas
 pub mod Pieces
 pub mod Cutting
 pub mod LineLemmas

@@ -34,7 +34,7 @@ answers_ended run = record { said = run.served.said; say = run.served.say; text 
 pub running_more : {h h' : History} {left left' held held' : Option (List ℕ)} {line : List ℕ} {count : ℕ} (run : Running h h' left left' held held' line count)
     (bytes : List ℕ) (n : ℕ) (h'' : History) (left'' held'' : Option (List ℕ)) (line' : List ℕ) → length bytes ≡ n → Consumes left' left'' bytes
     → Served (run.taken ++ bytes) h h'' held held'' line' → Running h h'' left left'' held held'' line' (count + n)
-running_more {_} {_} {left} {left'} run bytes n h'' left'' held'' line' long took served =
+running_more {left} {left'} run bytes n h'' left'' held'' line' long took served =
     let counted = run.count_is in
     let joined = length-append run.taken bytes in
     record { taken = run.taken ++ bytes; took = Consumes-trans left left' left'' run.taken bytes run.took took; served = served; count_is = omega arith }
@@ -43,11 +43,11 @@ running_more {_} {_} {left} {left'} run bytes n h'' left'' held'' line' long too
 pub ended_at_bytes : {h h' : History} {left left' held held' : Option (List ℕ)} {line : List ℕ} {count : ℕ} (run : Running h h' left left' held held' line count)
     (bytes : List ℕ) (n : ℕ) (h'' : History) (left'' held'' : Option (List ℕ)) → length bytes ≡ n → count + n ≤ input_limit → Consumes left' left'' bytes
     → (why : Stop) → Stopped why (ended_lines (run.taken ++ bytes)) h h'' held held'' → Ended (status_of why) h h'' left left'' held held''
-ended_at_bytes {_} {_} {left} {left'} run bytes n h'' left'' held'' long within took stop.WriteFault stopped =
+ended_at_bytes {left} {left'} run bytes n h'' left'' held'' long within took stop.WriteFault stopped =
     let counted = run.count_is in
     let joined = length-append run.taken bytes in
     record { taken = run.taken ++ bytes; written = stopped.written; took = Consumes-trans left left' left'' run.taken bytes run.took took; wrote = stopped.wrote; says = (omega arith, inl stopped.says) }
-ended_at_bytes {_} {_} {left} {left'} run bytes n h'' left'' held'' long within took stop.OutOfMemory stopped =
+ended_at_bytes {left} {left'} run bytes n h'' left'' held'' long within took stop.OutOfMemory stopped =
     let counted = run.count_is in
     let joined = length-append run.taken bytes in
     record { taken = run.taken ++ bytes; written = stopped.written; took = Consumes-trans left left' left'' run.taken bytes run.took took; wrote = stopped.wrote; says = (omega arith, inl stopped.says) }
@@ -55,7 +55,7 @@ ended_at_bytes {_} {_} {left} {left'} run bytes n h'' left'' held'' long within 
 -- the end of the input
 end_took : {h h' : History} {left left' held held' : Option (List ℕ)} {line : List ℕ} {count : ℕ} (run : Running h h' left left' held held' line count)
     (left'' : Option (List ℕ)) → Consumes left' left'' [] → Consumes left left'' run.taken
-end_took {_} {_} {left} {left'} run left'' took = subst (Consumes left left'') (append-nil run.taken) (Consumes-trans left left' left'' run.taken [] run.took took)
+end_took {left} {left'} run left'' took = subst (Consumes left left'') (append-nil run.taken) (Consumes-trans left left' left'' run.taken [] run.took took)
 
 pub ended_done : {h h' : History} {left left' held held' : Option (List ℕ)} {line : List ℕ} {count : ℕ} (run : Running h h' left left' held held' line count)
     (h'' : History) (left'' held'' : Option (List ℕ)) → count < input_limit → Consumes left' left'' [] → IsAtEnd left'' → AllServed (lines_of run.taken) h h'' held held''
@@ -83,6 +83,10 @@ ran_nothing left held = record {
     says = (omega arith, inl (record { answered = []; others = []; lines_are = refl; said = []; say = tt; text = refl; after = inl refl }));
   };
 }
+
+-- a run over a machine whose history is empty at the entry
+pub ran_serving : (status : Status) (h h' : History) (left left' held held' : Option (List ℕ)) → h ≡ [] → Ended status h h' left left' held held' → Ran status [] left left' held held'
+ran_serving status h h' left left' held held' none ended = record { after = h'; ended = subst (λ x. Ended status x h' left left' held held') none ended }
 
 pub ran_usage : (left held : Option (List ℕ)) → Ran status.Usage [] left left held held
 ran_usage left held = record {

@@ -6,18 +6,13 @@ use Rattle.svc_base.specs.Calendar.{IsReadDay, month_of, months_end}
 use Rattle.svc_types.specs.declared.requests.Query.{Query}
 use Rattle.svc_types.specs.declared.requests.Query.TheVariants as query
 use Rattle.svc_world.specs.declared.answer.Answer.{Answer}
-use Rattle.svc_world.specs.declared.answer.Answer.TheVariants as answer
-use Rattle.svc_spec.specs.Accounts.{books_of}
-use Rattle.period_adjust.specs.Sealed.{Sealed}
-use Rattle.svc_world.specs.Held.{Held, find_loan, books_now}
-use Rattle.svc_world.specs.Analysing.{asked_figures, analysis_of, year_begins}
-use Rattle.svc_world.specs.Refusals.{payoff_due_on}
-use Rattle.svc_world.specs.Custody.{custody_of, rows_in}
-use Rattle.custodial_book.specs.Rows.{rows_of_command}
+use Rattle.svc_world.specs.Held.{Held, find_loan}
+use Rattle.svc_world.specs.Analysing.{year_begins}
+use Rattle.svc_world.specs.Custody.{rows_in}
 use Rattle.svc_world.specs.World.{World, Accepted, world}
 use Rattle.svc_world.specs.Worlds.{IsHeld, IsWorld}
-use Rattle.svc_world.specs.Judging.{IsHistory, report_for}
-use Rattle.svc_world.specs.Answers.{answer_to, books_answer}
+use Rattle.svc_world.specs.Judging.{IsHistory}
+use Rattle.svc_world.specs.Answers.{answer_to}
 use Rattle.svc_world.proofs.HistoryLemmas.{is_world}
 use Rattle.svc_world.proofs.LoanListLemmas.{found_all}
 use Rattle.serv_report.specs.EscrowText.{HasYear}
@@ -38,13 +33,16 @@ loan_year h id l is found =
     let held : IsHeld (length h) (world h).today l = found_all (IsHeld (length h) (world h).today) id (world h).loans l found w.held in
     subst (λ d. HasYear (month_of d + 1)) (sym held.today) (year_after (world h).today w.today)
 
-spelled : (h : List Accepted) (q : Query) (a : Answer) → IsHistory h → answer_to (world h) (rows_in h) q ≡ Some a → IsSpellable a
+there : {x a : Answer} → IsSpellable x → Some x ≡ Some a → IsSpellable a
+there {x} {a} is e = let same : x ≡ a = cc in subst IsSpellable same is
+
+pub spelled : (h : List Accepted) (q : Query) (a : Answer) → IsHistory h → answer_to (world h) (rows_in h) q ≡ Some a → IsSpellable a
 unfolding answer_to
-spelled h (query.Books id) a is e = made (λ (l : Held). books_answer l (books_now l)) (find_loan id (world h).loans) a (λ l found. tt) e
-spelled h (query.At id d) a is e = made (λ (l : Held). books_answer l (books_of l.account d)) (find_loan id (world h).loans) a (λ l found. tt) e
-spelled h (query.Payoff id d) a is e = made (λ (l : Held). answer.Payoff id d (payoff_due_on l d)) (find_loan id (world h).loans) a (λ l found. tt) e
-spelled h (query.Escrow id) a is e = made (λ (l : Held). answer.Escrow id (asked_figures l) (analysis_of l)) (find_loan id (world h).loans) a (λ l found. loan_year h id l is found) e
-spelled h (query.Report p) a is e = made answer.Report (report_for p (world h).seals.reports) a (λ r found. tt) e
-spelled h (query.Trial p) a is e = made answer.Trial (report_for p (world h).seals.reports) a (λ r found. tt) e
-spelled h query.Custodial a is e = let same : answer.Custodial (custody_of (world h)) ≡ a = cc in subst IsSpellable same tt
-spelled h (query.Rows number) a is e = let same : answer.Rows number (rows_of_command number (rows_in h)) ≡ a = cc in subst IsSpellable same tt
+spelled h (query.Books id) a is e = made _ _ a (λ l found. tt) e
+spelled h (query.At id d) a is e = made _ _ a (λ l found. tt) e
+spelled h (query.Payoff id d) a is e = made _ _ a (λ l found. tt) e
+spelled h (query.Escrow id) a is e = made _ (find_loan id (world h).loans) a (λ l found. loan_year h id l is found) e
+spelled h (query.Report p) a is e = made _ _ a (λ r found. tt) e
+spelled h (query.Trial p) a is e = made _ _ a (λ r found. tt) e
+spelled h query.Custodial a is e = there tt e
+spelled h (query.Rows number) a is e = there tt e

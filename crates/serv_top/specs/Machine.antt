@@ -30,8 +30,8 @@ pub data Said : Type 0 where
 
 -- a line asks a request exactly where it is that request's line; any other line has a fault
 pub data Says (line : List ℕ) : Said → Type 0 where
-  request : (r : Request) → IsRequest r → line ≡ line_of r → Says line (Asks r)
-  fault : (place : ℕ) → IsFault line place → Says line (Faulty place)
+  asks : (r : Request) → IsRequest r → line ≡ line_of r → Says line (Asks r)
+  errs : (place : ℕ) → IsFault line place → Says line (Faulty place)
 
 -- ---- the reply
 

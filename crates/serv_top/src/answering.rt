@@ -7,7 +7,7 @@ ghost use Rattle.serv_top.specs.Machine.{IsAfter, history_after_request, reply_t
 ghost use Rattle.serv_top.specs.Serving.{IsReplied};
 
 use crate::machine::Machine;
-use serv_line::{LineFault, push_bad, push_refusal, push_reply, read_line};
+use serv_line::{push_bad, push_refusal, push_reply, read_line};
 use serv_report::push_answer;
 use std::sync::ledger::Ledger;
 use svc_base::{OutOfMemory, Steps};
@@ -29,7 +29,7 @@ pub(crate) fn answer_line<M: Machine, L: Ledger>(
 {
     match read_line(line) {
         Ok(request) => answer_request(machine, &request, out, steps),
-        Err(LineFault(place)) => push_bad(out, place),
+        Err(fault) => push_bad(out, fault.0),
     }
 }
 
@@ -87,8 +87,10 @@ fn answer_query<M: Machine, L: Ledger>(
     steps: &mut Steps<L>,
 ) -> Result<(), OutOfMemory>
     requires { IsQuery query.now }
-    ensures { OnOk result (out.new.items
+    ensures reply { OnOk result (out.new.items
         ≡ out.old.items ++ reply_to_request (M.history machine.now) (request.Ask query.now)) }
+    ensures history { OnOk result
+        (M.history machine.now ≡ history_after_request (M.history machine.now) (request.Ask query.now)) }
 {
     match machine.answer(query, steps) {
         Ok(answer) => push_answer(out, &answer),

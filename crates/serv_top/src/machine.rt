@@ -62,7 +62,6 @@ impl Machine for Core<Checked> {
         self.submit(key, command, steps)
     }
 
-    #[tactic(auto, using(crate::proofs::SpellLemmas::spellable))]
     fn answer<L: Ledger>(&self, query: &Query, steps: &mut Steps<L>) -> Result<Answer, CoreFault> {
         self.history_holds();
         self.ask(query, steps)

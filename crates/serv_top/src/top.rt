@@ -59,6 +59,7 @@ fn serve<M: Machine, S: Source, K: Sink, L: Ledger>(
 }
 
 /// Answers lines to the end of the source, by books in memory that begin empty.
+#[tactic(auto, using(crate::proofs::Running::ran_nothing, crate::proofs::Running::ran_serving))]
 fn session<S: Source, K: Sink, L: Ledger>(
     alloc: Global,
     src: &mut S,
@@ -92,6 +93,7 @@ fn is_session(words: &[&str]) -> bool
 /// the lines of the source, each on the sink, over books in memory that begin empty. A last piece
 /// without a line feed is a line too. All lines that a line feed ended in the bytes taken are answered
 /// before the source is read again.
+#[tactic(auto, using(crate::proofs::Running::ran_usage))]
 pub fn run<S: Source, K: Sink, L: Ledger>(
     alloc: Global,
     words: &[&str],
