@@ -79,7 +79,10 @@ pub ran_nothing : (left held : Option (List ℕ)) → Ran status.OutOfMemory [] 
 ran_nothing left held = record {
   after = [];
   ended = record {
-    taken = []; written = []; took = Consumes-nil left; wrote = Appends-nil held;
+    taken = [];
+    written = [];
+    took = Consumes-nil left;
+    wrote = Appends-nil held;
     says = (omega arith, inl (record { answered = []; others = []; lines_are = refl; said = []; say = tt; text = refl; after = inl refl }));
   };
 }

@@ -144,8 +144,16 @@ module _ (bytes : List ℕ) {h h' : History} {held held' : Option (List ℕ)} {l
     written = replies_to h run.said ++ cut.wrote.part;
     wrote = Appends-trans held held' held'' (replies_to h run.said) cut.wrote.part run.wrote cut.wrote.wrote;
     says = record {
-      answered = ended; next = piece; others = []; lines_are = e; said = run.said; say = run.say;
-      last = cut.said; says = says_piece cut.said cut.says; part = cut.wrote.part; text = refl;
+      answered = ended;
+      next = piece;
+      others = [];
+      lines_are = e;
+      said = run.said;
+      say = run.say;
+      last = cut.said;
+      says = says_piece cut.said cut.says;
+      part = cut.wrote.part;
+      text = refl;
       partial = subst (λ x. IsProperPrefix cut.wrote.part (reply_to x cut.said)) run.after cut.wrote.partial;
       after = cut.after ∙ ap (λ x. history_after x cut.said) run.after;
     };

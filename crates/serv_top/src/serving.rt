@@ -89,11 +89,11 @@ impl Serving {
         ensures fed { (before : List ℕ) (h : History) (held : Option (List ℕ))
             → Served before h (M.history machine.old) held (K.held snk.old) self.old.line.items
             → OnOk result (Served (before ++ bytes.now) h (M.history machine.new) held (K.held snk.new)
-                self.new.line.items) }
+            self.new.line.items) }
         ensures stopped { (before : List ℕ) (h : History) (held : Option (List ℕ))
             → Served before h (M.history machine.old) held (K.held snk.old) self.old.line.items
             → IfErr result (λ why. Stopped why (ended_lines (before ++ bytes.now)) h (M.history machine.new)
-                held (K.held snk.new)) }
+            held (K.held snk.new)) }
         ensures later { K.faults snk.old ≤ K.faults snk.new }
         ensures cause { result ≡ Err Stop.WriteFault → HasRisen (K.faults snk.old) (K.faults snk.new) }
     {

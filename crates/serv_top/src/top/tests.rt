@@ -4,7 +4,6 @@ ghost use Rattle.std.specs.Prelude.{◌≡◌, ◌<◌};
 
 use super::{INPUT_LIMIT, run};
 use crate::Status;
-use tables::*;
 use serv_disk::{MemSink, MemSource, Source};
 use std::alloc::{AllocError, Global};
 use std::marker::Brand;
@@ -12,6 +11,7 @@ use std::process::Abort;
 use std::sync::ledger::{Blank, Ledger};
 use std::test::Fail;
 use svc_base::Steps;
+use tables::*;
 
 /// What a run over memory came to.
 #[derive(Drop)]
@@ -50,6 +50,27 @@ fn run_over<L: Ledger>(
         output: Vec::from_slice(alloc, snk.content())?,
         left: Vec::from_slice(alloc, &room[..count])?,
     })
+}
+
+/// Runs the words `j session`, or `j frob`, with steps that are counted from 0.
+fn run_either(
+    alloc: Global,
+    known: bool,
+    input: Vec<u8>,
+    reads: Vec<u32>,
+    writes: Vec<u32>,
+) -> Result<Ending, AllocError> {
+    run_over::<Brand>(alloc, Blank::new(1), known, input, reads, writes)
+}
+
+/// Runs the words `j session`.
+fn run_known(
+    alloc: Global,
+    input: Vec<u8>,
+    reads: Vec<u32>,
+    writes: Vec<u32>,
+) -> Result<Ending, AllocError> {
+    run_either(alloc, true, input, reads, writes)
 }
 
 /// A run with its expected status, output and rest.
@@ -123,7 +144,7 @@ fn each_status_has_its_output_and_rest(rt: HostRuntime) -> Result<(), Fail> {
         let input = Vec::from_slice(rt.alloc(), case.input)?;
         let reads = Vec::from_slice(rt.alloc(), case.reads)?;
         let writes = Vec::from_slice(rt.alloc(), case.writes)?;
-        let end = run_over::<Brand>(rt.alloc(), Blank::new(1), case.known, input, reads, writes)?;
+        let end = run_either(rt.alloc(), case.known, input, reads, writes)?;
         assert_eq!(rt; end.status, case.status, "case {i}");
         assert_eq!(rt; end.output.as_slice(), case.output, "case {i}");
         assert_eq!(rt; end.left.as_slice(), case.left, "case {i}");
@@ -132,15 +153,7 @@ fn each_status_has_its_output_and_rest(rt: HostRuntime) -> Result<(), Fail> {
 }
 
 /// Runs the lines of these tables, one table after the other, and compares the output with their replies.
-fn check<L: Ledger>(
-    rt: &(impl Abort + AllocGlobal),
-    blank: Blank,
-    tables: &[&[Exchange]],
-) -> Result<(), Fail>
-    requires name { blank.name ≡ L.name }
-    requires parts { blank.parts ≡ L.parts }
-    requires some { 0 < L.parts }
-{
+fn check(rt: &(impl Abort + AllocGlobal), tables: &[&[Exchange]]) -> Result<(), Fail> {
     let mut input = Vec::new(rt.alloc());
     let mut replies = Vec::new(rt.alloc());
     for table in tables {
@@ -152,7 +165,7 @@ fn check<L: Ledger>(
         }
     }
     let none = Vec::new(rt.alloc());
-    let end = run_over::<L>(rt.alloc(), blank, true, input, none, Vec::new(rt.alloc()))?;
+    let end = run_known(rt.alloc(), input, none, Vec::new(rt.alloc()))?;
     assert_eq!(rt; end.status, Status::Done);
     let output = String::from_utf8_lossy(rt.alloc(), &end.output)?;
     let expected = String::from_utf8_lossy(rt.alloc(), &replies)?;
@@ -162,107 +175,113 @@ fn check<L: Ledger>(
 
 #[test]
 fn a_first_payment_is_booked(rt: HostRuntime) -> Result<(), Fail> {
-    check::<Brand>(&rt, Blank::new(1), &[&TAKEN_ON, &FIRST_PAYMENT, &FIRST_BOOKS, &FIRST_ROWS])
+    check(&rt, &[&TAKEN_ON, &FIRST_PAYMENT, &FIRST_BOOKS, &FIRST_ROWS])
 }
 
 #[test]
 fn an_installment_is_paid_in_parts(rt: HostRuntime) -> Result<(), Fail> {
-    check::<Brand>(&rt, Blank::new(1), &[&TAKEN_ON, &PAID_IN_PARTS])
+    check(&rt, &[&TAKEN_ON, &PAID_IN_PARTS])
 }
 
 #[test]
 fn a_late_charge_comes_on_its_day(rt: HostRuntime) -> Result<(), Fail> {
-    check::<Brand>(&rt, Blank::new(1), &[&TAKEN_ON, &FIRST_PAYMENT, &LATE])
+    check(&rt, &[&TAKEN_ON, &FIRST_PAYMENT, &LATE])
 }
 
 #[test]
 fn closed_months_are_remitted(rt: HostRuntime) -> Result<(), Fail> {
-    check::<Brand>(&rt, Blank::new(1), &[&TAKEN_ON, &FIRST_PAYMENT, &CLOSED, &ADVANCED, &PAID_BACK])
+    check(
+        &rt,
+        &[&TAKEN_ON, &FIRST_PAYMENT, &CLOSED, &ADVANCED, &PAID_BACK],
+    )
 }
 
 #[test]
 fn a_late_payment_adjusts_a_closed_month(rt: HostRuntime) -> Result<(), Fail> {
-    check::<Brand>(&rt, Blank::new(1), &[&ACTUAL])
+    check(&rt, &[&ACTUAL])
 }
 
 #[test]
 fn a_repeated_line_acts_once(rt: HostRuntime) -> Result<(), Fail> {
-    check::<Brand>(&rt, Blank::new(1), &[&TAKEN_ON, &FIRST_PAYMENT, &REPEATED])
+    check(&rt, &[&TAKEN_ON, &FIRST_PAYMENT, &REPEATED])
 }
 
 #[test]
 fn a_reversal_adjusts_closed_months(rt: HostRuntime) -> Result<(), Fail> {
-    check::<Brand>(&rt, Blank::new(1), &[&REVERSED])
+    check(&rt, &[&REVERSED])
 }
 
 #[test]
 fn a_payoff_is_reversed(rt: HostRuntime) -> Result<(), Fail> {
-    check::<Brand>(&rt, Blank::new(1), &[&TAKEN_ON, &FIRST_PAYMENT, &PAID_OFF, &PAYOFF_REVERSED])
+    check(
+        &rt,
+        &[&TAKEN_ON, &FIRST_PAYMENT, &PAID_OFF, &PAYOFF_REVERSED],
+    )
 }
 
 #[test]
 fn a_surplus_is_refunded(rt: HostRuntime) -> Result<(), Fail> {
-    check::<Brand>(&rt, Blank::new(1), &[&ESCROWED, &SURPLUS])
+    check(&rt, &[&ESCROWED, &SURPLUS])
 }
 
 #[test]
 fn a_small_surplus_is_credited(rt: HostRuntime) -> Result<(), Fail> {
-    check::<Brand>(&rt, Blank::new(1), &[&ESCROWED, &CREDITED])
+    check(&rt, &[&ESCROWED, &CREDITED])
 }
 
 #[test]
 fn a_small_shortage_is_paid_at_once(rt: HostRuntime) -> Result<(), Fail> {
-    check::<Brand>(&rt, Blank::new(1), &[&ESCROWED, &SMALL_SHORTAGE])
+    check(&rt, &[&ESCROWED, &SMALL_SHORTAGE])
 }
 
 #[test]
 fn a_shortage_is_spread(rt: HostRuntime) -> Result<(), Fail> {
-    check::<Brand>(&rt, Blank::new(1), &[&ESCROWED, &SHORTAGE])
+    check(&rt, &[&ESCROWED, &SHORTAGE])
 }
 
 #[test]
 fn nothing_is_planned_where_nothing_is_short(rt: HostRuntime) -> Result<(), Fail> {
-    check::<Brand>(&rt, Blank::new(1), &[&ESCROWED, &NO_SHORTAGE])
+    check(&rt, &[&ESCROWED, &NO_SHORTAGE])
 }
 
 #[test]
 fn one_bill_has_a_cushion(rt: HostRuntime) -> Result<(), Fail> {
-    check::<Brand>(&rt, Blank::new(1), &[&ONE_BILL])
+    check(&rt, &[&ONE_BILL])
 }
 
 #[test]
 fn escrow_is_advanced(rt: HostRuntime) -> Result<(), Fail> {
-    check::<Brand>(&rt, Blank::new(1), &[&ESCROW_ADVANCED])
+    check(&rt, &[&ESCROW_ADVANCED])
 }
 
 #[test]
 fn principal_is_paid_ahead(rt: HostRuntime) -> Result<(), Fail> {
-    check::<Brand>(&rt, Blank::new(1), &[&TAKEN_ON, &FIRST_PAYMENT, &CURTAILED])
+    check(&rt, &[&TAKEN_ON, &FIRST_PAYMENT, &CURTAILED])
 }
 
 #[test]
 fn a_late_charge_is_paid(rt: HostRuntime) -> Result<(), Fail> {
-    check::<Brand>(&rt, Blank::new(1), &[&TAKEN_ON, &FIRST_PAYMENT, &CHARGED])
+    check(&rt, &[&TAKEN_ON, &FIRST_PAYMENT, &CHARGED])
 }
 
 #[test]
 fn a_month_that_has_not_ended_is_not_closed(rt: HostRuntime) -> Result<(), Fail> {
-    check::<Brand>(&rt, Blank::new(1), &[&TOO_EARLY])
+    check(&rt, &[&TOO_EARLY])
 }
 
 #[test]
 fn months_are_closed_in_turn(rt: HostRuntime) -> Result<(), Fail> {
-    check::<Brand>(&rt, Blank::new(1), &[&TAKEN_ON, &FIRST_PAYMENT, &WRONG_PERIOD])
+    check(&rt, &[&TAKEN_ON, &FIRST_PAYMENT, &WRONG_PERIOD])
 }
 
 #[test]
 fn rules_refuse_after_a_close(rt: HostRuntime) -> Result<(), Fail> {
-    check::<Brand>(&rt, Blank::new(1), &[&TAKEN_ON, &FIRST_PAYMENT, &CLOSED, &REFUSED])
+    check(&rt, &[&TAKEN_ON, &FIRST_PAYMENT, &CLOSED, &REFUSED])
 }
 
 #[test]
 fn a_line_that_is_no_request_has_a_place(rt: HostRuntime) -> Result<(), Fail> {
-    check::<Brand>(&rt, Blank::new(1), &[&NO_REQUESTS, &TAKEN_ON])
+    check(&rt, &[&NO_REQUESTS, &TAKEN_ON])
 }
 
 #[test]
@@ -270,14 +289,7 @@ fn a_line_of_513_bytes_is_too_long(rt: HostRuntime) -> Result<(), Fail> {
     let mut input = vec![in rt.alloc(); b'x'; 6000]?;
     input.extend_from_slice(b"\nk1 day 2024-02-01\n")?;
     let none = Vec::new(rt.alloc());
-    let end = run_over::<Brand>(
-        rt.alloc(),
-        Blank::new(1),
-        true,
-        input,
-        none,
-        Vec::new(rt.alloc()),
-    )?;
+    let end = run_known(rt.alloc(), input, none, Vec::new(rt.alloc()))?;
     assert_eq!(rt; end.status, Status::Done);
     assert_eq!(rt; end.output.as_slice(), b"bad 512\nok 1\n".as_slice());
     Ok(())
@@ -288,14 +300,7 @@ fn too_much_input_ends_without_output(rt: HostRuntime) -> Result<(), Fail> {
     let mut input = vec![in rt.alloc(); b'x'; INPUT_LIMIT as usize]?;
     input.push(b'y')?;
     let none = Vec::new(rt.alloc());
-    let end = run_over::<Brand>(
-        rt.alloc(),
-        Blank::new(1),
-        true,
-        input,
-        none,
-        Vec::new(rt.alloc()),
-    )?;
+    let end = run_known(rt.alloc(), input, none, Vec::new(rt.alloc()))?;
     assert_eq!(rt; end.status, Status::TooMuch(INPUT_LIMIT));
     assert_eq!(rt; end.output.len(), 0);
     assert_eq!(rt; end.left.as_slice(), b"y".as_slice());
