@@ -1,9 +1,9 @@
 -- A stream that is cut from its front, byte by byte, and the lines that the definitions find from its end.
-use Rattle.std.proofs.Common.{◌≡◌, ℕ, List, [], ◌∷◌, ◌++◌, refl, sym, ap, ◌∙◌, append-nil, append_assoc}
+use Rattle.std.proofs.Common.{◌≡◌, ℕ, ◌+◌, arith, List, [], ◌∷◌, ◌++◌, refl, sym, ap, ◌∙◌, append-nil, append_assoc}
 use Rattle.std.specs.Prelude.{◌==◌, if◌then◌else◌, true, false}
 use Rattle.serv_top.specs.Lines.{onto_first, onto_ended, lines_of, ended_lines, open_from, open_line}
-use Rattle.serv_top.specs.Machine.{History, Said, Says, reply_to, history_after}
-use Rattle.serv_top.specs.Replies.{Say, history_after_all, replies_to}
+use Rattle.serv_top.specs.Machine.{History, Said, Says, reply_to, history_after, bound_of, Stand, Moves}
+use Rattle.serv_top.specs.Replies.{Say, history_after_all, replies_to, bound_of_all, MovesAll}
 
 -- the lines that end, where the stream goes on from this piece of a line
 abbrev pub ended_from : List ℕ → List ℕ → List (List ℕ)
@@ -100,6 +100,18 @@ replies_to-push h (first ∷ saids) said = ap (λ text. reply_to h first ++ text
 pub history_after_all-push : (h : History) (saids : List Said) (said : Said) → history_after_all h (saids ++ said ∷ []) ≡ history_after (history_after_all h saids) said
 history_after_all-push h [] said = refl
 history_after_all-push h (first ∷ saids) said = history_after_all-push (history_after h first) saids said
+
+bound_of_all-push : (h : History) (saids : List Said) (said : Said) → bound_of_all h (saids ++ said ∷ []) ≡ bound_of_all h saids + bound_of (history_after_all h saids) said
+bound_of_all-push h [] said = omega arith
+bound_of_all-push h (first ∷ saids) said =
+    let rest = bound_of_all-push (history_after h first) saids said in
+    omega (arith, rest)
+
+pub moves_more : (saids : List Said) (said : Said) (s s' s'' : Stand) → MovesAll saids s s' → Moves said s' s'' → MovesAll (saids ++ said ∷ []) s s''
+moves_more saids said s s' s'' all one =
+    let grown : bound_of_all s.history (saids ++ said ∷ []) ≡ bound_of_all s.history saids + bound_of s'.history said =
+    bound_of_all-push s.history saids said ∙ ap (λ h. bound_of_all s.history saids + bound_of h said) (sym all.0) in
+    (one.0 ∙ ap (λ h. history_after h said) all.0 ∙ sym (history_after_all-push s.history saids said), omega (arith, grown, all.1, one.1))
 
 -- more bytes
 pub open_from-append : (line bytes more : List ℕ) → open_from line (bytes ++ more) ≡ open_from (open_from line bytes) more

@@ -1,5 +1,5 @@
 -- What a line says: of a line that is too long, no more counts than that it is; and no line says two things.
-use Rattle.std.proofs.Common.{◌≡◌, ℕ, ◌≤◌, ◌<◌, ◌⊎◌, List, [], ◌∷◌, ◌++◌, length, take, arith, refl, sym, ap, subst, ◌∙◌, inl, inr}
+use Rattle.std.proofs.Common.{◌≡◌, ℕ, ◌+◌, ◌≤◌, ◌<◌, ◌⊎◌, List, [], ◌∷◌, ◌++◌, length, take, arith, refl, sym, ap, subst, ◌∙◌, inl, inr}
 use Rattle.std.proofs.lemmas.Bool.{cases_lt}
 use Rattle.std.proofs.lemmas.List.{length-take-le, take_all}
 use Rattle.svc_types.specs.Requests.{IsRequest}
@@ -8,7 +8,7 @@ use Rattle.serv_line.specs.LineFaults.{IsFault, too_long, misfit}
 use Rattle.serv_line.proofs.LineLemmas.{line_short, no_fault, same_line}
 use Rattle.serv_line.proofs.FaultLemmas.{one_fault}
 use Rattle.svc_types.specs.declared.requests.Request.{Request}
-use Rattle.serv_top.specs.Machine.{History, history_after_request, IsAfter, Said, Asks, Faulty, Says, asks, errs}
+use Rattle.serv_top.specs.Machine.{history_after_request, bound_of_request, Stand, IsTried, Said, Asks, Faulty, Says, asks, errs}
 use Rattle.serv_top.specs.Replies.{Say, Answers, replies_to, history_after_all}
 
 cut_fault : (line : List ℕ) (place : ℕ) → length (take 513 line) ≡ 513 → 512 < length line → IsFault (take 513 line) place → Says line (Faulty place)
@@ -48,12 +48,12 @@ say_one (line ∷ lines) (s ∷ ss) (t ∷ ts) p q =
     cc
 
 -- so lines have one answer, and one history after them
-pub answers_one : (lines : List (List ℕ)) (h a b : History) (x y : List ℕ) → Answers lines h a x → Answers lines h b y → (x ≡ y) × (a ≡ b)
-answers_one lines h a b x y p q =
+pub answers_one : (lines : List (List ℕ)) (s a b : Stand) (x y : List ℕ) → Answers lines s a x → Answers lines s b y → (x ≡ y) × (a.history ≡ b.history)
+answers_one lines s a b x y p q =
     let same : p.said ≡ q.said = say_one lines p.said q.said p.say q.say in
-    (p.text ∙ ap (replies_to h) same ∙ sym q.text, p.after ∙ ap (history_after_all h) same ∙ sym q.after)
+    (p.text ∙ ap (replies_to s.history) same ∙ sym q.text, p.moved.0 ∙ ap (history_after_all s.history) same ∙ sym q.moved.0)
 
--- the history is that before a request's line, or that after it
-pub near_request : (line : List ℕ) (r : Request) (h h' : History) → IsRequest r → line ≡ line_of r → (h' ≡ h) ⊎ (h' ≡ history_after_request h r) → (h' ≡ h) ⊎ IsAfter line h h'
-near_request line r h h' is e (inl same) = inl same
-near_request line r h h' is e (inr after) = inr (record { said = Asks r; says = asks r is e; after = after })
+-- a request's line was acted on or not
+pub tried_request : (line : List ℕ) (r : Request) (s s' : Stand) → IsRequest r → line ≡ line_of r → s'.steps ≤ s.steps + bound_of_request s.history r
+    → (s'.history ≡ s.history) ⊎ (s'.history ≡ history_after_request s.history r) → IsTried line s s'
+tried_request line r s s' is e cost near = record { said = Asks r; says = asks r is e; near = near; cost = cost }

@@ -1,6 +1,6 @@
--- The machine that answers lines: what a line says, its reply over the commands that were accepted before, and which
--- commands are accepted after it.
-use Rattle.std.specs.Prelude.{◌≡◌, ℕ, List, [], length, Option, Some, None}
+-- The machine that answers lines: what a line says, its reply over the commands that were accepted before, which commands
+-- are accepted after it, and how many steps it may take.
+use Rattle.std.specs.Prelude.{◌≡◌, ℕ, ◌+◌, ◌≤◌, ◌⊎◌, List, [], length, Option, Some, None}
 use Rattle.svc_types.specs.declared.requests.Command.{Command}
 use Rattle.svc_types.specs.declared.requests.Request.{Request}
 use Rattle.svc_types.specs.declared.requests.Request.TheVariants as request
@@ -11,6 +11,7 @@ use Rattle.serv_line.specs.LineFaults.{IsFault}
 use Rattle.serv_line.specs.Replies.{text_of_reply, text_of_bad}
 use Rattle.serv_line.specs.Refusals.{text_of_refusal}
 use Rattle.serv_report.specs.AnswerTexts.{text_of_answer}
+use Rattle.svc_core.specs.Bound.{step_bound, query_bound}
 use Rattle.svc_world.specs.declared.answer.Answer.{Answer}
 use Rattle.svc_world.specs.World.{Accepted, world}
 use Rattle.svc_world.specs.Judging as judging
@@ -68,8 +69,38 @@ abbrev pub history_after : History → Said → History
 history_after h (Asks r) = history_after_request h r
 history_after h (Faulty place) = h
 
--- the history after a line
-pub record IsAfter (line : List ℕ) (h h' : History) : Type 0 where
+-- ---- the steps of it
+
+-- at most those of the month that is asked for, and of those after it
+unfoldable pub bound_of_request : History → Request → ℕ
+bound_of_request h (request.Do key c) = step_bound h key c
+bound_of_request h (request.Ask q) = query_bound (world h) q
+
+abbrev pub bound_of : History → Said → ℕ
+bound_of h (Asks r) = bound_of_request h r
+bound_of h (Faulty place) = 0
+
+-- ---- where the machine stands
+
+-- what was accepted, and how many steps were taken
+pub record Stand : Type 0 where
+  pub history : History
+  pub steps : ℕ
+
+abbrev pub stand : History → ℕ → Stand
+stand h steps = record { history = h; steps = steps }
+
+-- nothing was accepted, and no step was taken
+abbrev pub Stays : Stand → Stand → Type 0
+Stays s s' = (s'.history ≡ s.history) × (s'.steps ≤ s.steps)
+
+-- a line was acted on, within its bound
+abbrev pub Moves : Said → Stand → Stand → Type 0
+Moves said s s' = (s'.history ≡ history_after s.history said) × (s'.steps ≤ s.steps + bound_of s.history said)
+
+-- a line was acted on or not, within its bound
+pub record IsTried (line : List ℕ) (s s' : Stand) : Type 0 where
   pub said : Said
   pub says : Says line said
-  pub after : h' ≡ history_after h said
+  pub near : (s'.history ≡ s.history) ⊎ (s'.history ≡ history_after s.history said)
+  pub cost : s'.steps ≤ s.steps + bound_of s.history said

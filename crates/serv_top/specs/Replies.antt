@@ -1,7 +1,7 @@
 -- What the machine says to the lines of a stream, one after the other.
-use Rattle.std.specs.Prelude.{◌≡◌, ℕ, ◌⊎◌, List, [], ◌∷◌, ◌++◌}
+use Rattle.std.specs.Prelude.{◌≡◌, ℕ, ◌+◌, ◌≤◌, ◌⊎◌, List, [], ◌∷◌, ◌++◌}
 use Rattle.serv_disk.specs.Faults.{IsProperPrefix}
-use Rattle.serv_top.specs.Machine.{History, Said, Says, reply_to, history_after, IsAfter}
+use Rattle.serv_top.specs.Machine.{History, Said, Says, reply_to, history_after, bound_of, Stand, Stays, Moves, IsTried}
 
 -- what the lines say, each in turn
 abbrev pub Say : List (List ℕ) → List Said → Type 0
@@ -20,41 +20,55 @@ abbrev pub replies_to : History → List Said → List ℕ
 replies_to h [] = []
 replies_to h (said ∷ more) = reply_to h said ++ replies_to (history_after h said) more
 
--- the replies to all these lines are written, and the history is that after them
-pub record Answers (lines : List (List ℕ)) (h h' : History) (written : List ℕ) : Type 0 where
+-- the steps of all of it, at most
+abbrev pub bound_of_all : History → List Said → ℕ
+bound_of_all h [] = 0
+bound_of_all h (said ∷ more) = bound_of h said + bound_of_all (history_after h said) more
+
+-- all of it was acted on, within its bound
+abbrev pub MovesAll : List Said → Stand → Stand → Type 0
+MovesAll saids s s' =
+    (s'.history ≡ history_after_all s.history saids) × (s'.steps ≤ s.steps + bound_of_all s.history saids)
+
+-- all these lines were acted on, and the replies to them are written
+pub record Answers (lines : List (List ℕ)) (s s' : Stand) (written : List ℕ) : Type 0 where
   pub said : List Said
   pub say : Say lines said
-  pub text : written ≡ replies_to h said
-  pub after : h' ≡ history_after_all h said
+  pub text : written ≡ replies_to s.history said
+  pub moved : MovesAll said s s'
 
--- the replies to some first lines are written whole, and of the reply to the next line a part that is not all of it; the
--- history is that after the next line
-pub record IsCutIn (lines : List (List ℕ)) (h h' : History) (written : List ℕ) : Type 0 where
+-- some first lines and the next one were acted on; the replies to the first ones are written whole, and of the reply to the
+-- next one a part that is not all of it
+pub record IsCutIn (lines : List (List ℕ)) (s s' : Stand) (written : List ℕ) : Type 0 where
   pub answered : List (List ℕ)
   pub next : List ℕ
   pub others : List (List ℕ)
   pub lines_are : lines ≡ answered ++ next ∷ others
   pub said : List Said
   pub say : Say answered said
+  pub before : Stand
+  pub moved : MovesAll said s before
   pub last : Said
   pub says : Says next last
   pub part : List ℕ
-  pub text : written ≡ replies_to h said ++ part
-  pub partial : IsProperPrefix part (reply_to (history_after_all h said) last)
-  pub after : h' ≡ history_after (history_after_all h said) last
+  pub text : written ≡ replies_to s.history said ++ part
+  pub partial : IsProperPrefix part (reply_to before.history last)
+  pub after : Moves last before s'
 
--- the history is that after the next one of some lines
-abbrev pub IsAfterNext : List (List ℕ) → History → History → Type 0
-IsAfterNext [] h h' = ⊥
-IsAfterNext (line ∷ lines) h h' = IsAfter line h h'
+-- the next one of some lines was acted on or not
+abbrev pub IsTriedNext : List (List ℕ) → Stand → Stand → Type 0
+IsTriedNext [] s s' = ⊥
+IsTriedNext (line ∷ lines) s s' = IsTried line s s'
 
--- the replies to some first lines are written, or to all of them, and no more; the history is that after them, or after one
--- line more
-pub record IsBegun (lines : List (List ℕ)) (h h' : History) (written : List ℕ) : Type 0 where
+-- some first lines were acted on, or all of them, and their replies are written; and perhaps one line more was acted on,
+-- of whose reply nothing is written
+pub record IsBegun (lines : List (List ℕ)) (s s' : Stand) (written : List ℕ) : Type 0 where
   pub answered : List (List ℕ)
   pub others : List (List ℕ)
   pub lines_are : lines ≡ answered ++ others
   pub said : List Said
   pub say : Say answered said
-  pub text : written ≡ replies_to h said
-  pub after : (h' ≡ history_after_all h said) ⊎ IsAfterNext others (history_after_all h said) h'
+  pub before : Stand
+  pub moved : MovesAll said s before
+  pub text : written ≡ replies_to s.history said
+  pub after : Stays before s' ⊎ IsTriedNext others before s'

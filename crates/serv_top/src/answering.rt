@@ -1,9 +1,9 @@
 //! The reply to one line.
 
-ghost use Rattle.std.specs.Prelude.{◌≡◌, ◌⊎◌, ◌++◌, OnErr, OnOk};
+ghost use Rattle.std.specs.Prelude.{◌≡◌, ◌+◌, ◌≤◌, ◌⊎◌, ◌++◌, OnErr, OnOk};
 ghost use Rattle.svc_types.specs.Requests.{IsCommand, IsQuery, IsRequest};
 ghost use Rattle.svc_types.specs.declared.requests.Request.TheVariants as request;
-ghost use Rattle.serv_top.specs.Machine.{IsAfter, history_after_request, reply_to_request};
+ghost use Rattle.serv_top.specs.Machine.{IsTried, bound_of_request, history_after_request, reply_to_request, stand};
 ghost use Rattle.serv_top.specs.Serving.{IsReplied};
 
 use crate::machine::Machine;
@@ -22,10 +22,10 @@ pub(crate) fn answer_line<M: Machine, L: Ledger>(
     out: &mut Vec<u8>,
     steps: &mut Steps<L>,
 ) -> Result<(), OutOfMemory>
-    ensures replied { OnOk result
-        (IsReplied line.now (M.history machine.old) (M.history machine.new) out.old.items out.new.items) }
-    ensures after { OnErr result ((M.history machine.new ≡ M.history machine.old)
-        ⊎ IsAfter line.now (M.history machine.old) (M.history machine.new)) }
+    ensures replied { OnOk result (IsReplied line.now (stand (M.history machine.old) steps.old)
+        (stand (M.history machine.new) steps.new) out.old.items out.new.items) }
+    ensures tried { OnErr result (IsTried line.now (stand (M.history machine.old) steps.old)
+        (stand (M.history machine.new) steps.new)) }
 {
     match read_line(line) {
         Ok(request) => answer_request(machine, &request, out, steps),
@@ -47,6 +47,7 @@ fn answer_request<M: Machine, L: Ledger>(
         (M.history machine.new ≡ history_after_request (M.history machine.old) request.now) }
     ensures near { OnErr result ((M.history machine.new ≡ M.history machine.old)
         ⊎ (M.history machine.new ≡ history_after_request (M.history machine.old) request.now)) }
+    ensures steps { steps.new ≤ steps.old + bound_of_request (M.history machine.old) request.now }
 {
     match request {
         Request::Do(key, command) => answer_command(machine, key, command, out, steps),
@@ -55,7 +56,7 @@ fn answer_request<M: Machine, L: Ledger>(
 }
 
 /// Acts on a command, and appends its reply.
-#[tactic(auto, unfolding(crate::specs::Machine::reply_to_request, crate::specs::Machine::history_after_request))]
+#[tactic(auto, unfolding(crate::specs::Machine::reply_to_request, crate::specs::Machine::history_after_request, crate::specs::Machine::bound_of_request))]
 fn answer_command<M: Machine, L: Ledger>(
     machine: &mut M,
     key: &Key,
@@ -70,6 +71,8 @@ fn answer_command<M: Machine, L: Ledger>(
         ≡ history_after_request (M.history machine.old) (request.Do key.now command.now)) }
     ensures near { OnErr result ((M.history machine.new ≡ M.history machine.old) ⊎ (M.history machine.new
         ≡ history_after_request (M.history machine.old) (request.Do key.now command.now))) }
+    ensures steps { steps.new ≤ steps.old
+        + bound_of_request (M.history machine.old) (request.Do key.now command.now) }
 {
     match machine.act(key, command, steps) {
         Ok(reply) => push_reply(out, &reply),
@@ -79,7 +82,7 @@ fn answer_command<M: Machine, L: Ledger>(
 }
 
 /// Answers a query, and appends the answer.
-#[tactic(auto, unfolding(crate::specs::Machine::reply_to_request, crate::specs::Machine::history_after_request))]
+#[tactic(auto, unfolding(crate::specs::Machine::reply_to_request, crate::specs::Machine::history_after_request, crate::specs::Machine::bound_of_request))]
 fn answer_query<M: Machine, L: Ledger>(
     machine: &M,
     query: &Query,
@@ -91,6 +94,8 @@ fn answer_query<M: Machine, L: Ledger>(
         ≡ out.old.items ++ reply_to_request (M.history machine.now) (request.Ask query.now)) }
     ensures history { OnOk result
         (M.history machine.now ≡ history_after_request (M.history machine.now) (request.Ask query.now)) }
+    ensures steps { steps.new ≤ steps.old
+        + bound_of_request (M.history machine.now) (request.Ask query.now) }
 {
     match machine.answer(query, steps) {
         Ok(answer) => push_answer(out, &answer),

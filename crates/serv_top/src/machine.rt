@@ -1,12 +1,13 @@
 //! What stands behind the lines: it acts on commands and answers queries.
 
-ghost use Rattle.std.specs.Prelude.{◌≡◌, None, Some, length, IfErr, IfOk, OnErr, OnOk};
+ghost use Rattle.std.specs.Prelude.{◌≡◌, ◌+◌, ◌≤◌, None, Some, length, IfErr, IfOk, OnErr, OnOk};
 ghost use Rattle.svc_types.specs.Requests.{IsCommand, IsQuery};
 ghost use Rattle.svc_world.specs.World.{world};
 ghost use Rattle.svc_world.specs.Judging.{judged, history_after};
 ghost use Rattle.svc_world.specs.Refusals.{query_refusal};
 ghost use Rattle.svc_world.specs.Answers.{answer_to};
 ghost use Rattle.svc_world.specs.Custody.{rows_in};
+ghost use Rattle.svc_core.specs.Bound.{query_bound, step_bound};
 ghost use Rattle.svc_core.specs.Core.{IsFault, IsQueryFault, IsReplyTo};
 ghost use Rattle.serv_report.specs.AnswerTexts.{IsSpellable};
 ghost use Rattle.serv_top.specs.Machine.{History};
@@ -36,7 +37,8 @@ pub(crate) trait Machine {
         ensures fault { IfErr result (IsFault (judged (history self.old) key.now command.now)) }
         ensures after { OnOk result (history self.new ≡ history_after (history self.old) key.now command.now
             (judged (history self.old) key.now command.now)) }
-        ensures kept { OnErr result (history self.new ≡ history self.old) };
+        ensures kept { OnErr result (history self.new ≡ history self.old) }
+        ensures steps { steps.new ≤ steps.old + step_bound (history self.old) key.now command.now };
 
     /// Answers a query.
     fn answer<L: Ledger>(&self, query: &Query, steps: &mut Steps<L>) -> Result<Answer, CoreFault>
@@ -47,7 +49,8 @@ pub(crate) trait Machine {
             answer_to (world (history self.now)) (rows_in (history self.now)) query.now ≡ Some a) }
         ensures spelled { IfOk result IsSpellable }
         ensures refused { IfErr result (IsQueryFault
-            (query_refusal (length (history self.now)) (world (history self.now)) query.now)) };
+            (query_refusal (length (history self.now)) (world (history self.now)) query.now)) }
+        ensures steps { steps.new ≤ steps.old + query_bound (world (history self.now)) query.now };
 }
 
 impl Machine for Core<Checked> {

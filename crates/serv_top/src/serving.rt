@@ -2,7 +2,7 @@
 
 ghost use Rattle.std.specs.Prelude.{◌≡◌, ◌≢◌, ℕ, ◌≤◌, ◌++◌, List, [], ◌∷◌, Option, Err, OnOk, IfErr, IsOk, take, vec_len};
 ghost use Rattle.serv_disk.specs.Faults.{HasRisen};
-ghost use Rattle.serv_top.specs.Machine.{History};
+ghost use Rattle.serv_top.specs.Machine.{Stand, Stays, stand};
 ghost use Rattle.serv_top.specs.Serving.{Fails, FailsAt, Feeds, IsAnswered, Served, Stopped};
 ghost use Rattle.serv_top.specs.Lines.{ended_lines};
 ghost use Rattle.serv_top.specs.Stop.{status_of};
@@ -86,13 +86,13 @@ impl Serving {
         snk: &mut K,
         steps: &mut Steps<L>,
     ) -> Result<(), Stop>
-        ensures fed { (before : List ℕ) (h : History) (held : Option (List ℕ))
-            → Served before h (M.history machine.old) held (K.held snk.old) self.old.line.items
-            → OnOk result (Served (before ++ bytes.now) h (M.history machine.new) held (K.held snk.new)
+        ensures fed { (before : List ℕ) (s : Stand) (held : Option (List ℕ))
+            → Served before s (stand (M.history machine.old) steps.old) held (K.held snk.old) self.old.line.items
+            → OnOk result (Served (before ++ bytes.now) s (stand (M.history machine.new) steps.new) held (K.held snk.new)
             self.new.line.items) }
-        ensures stopped { (before : List ℕ) (h : History) (held : Option (List ℕ))
-            → Served before h (M.history machine.old) held (K.held snk.old) self.old.line.items
-            → IfErr result (λ why. Stopped why (ended_lines (before ++ bytes.now)) h (M.history machine.new)
+        ensures stopped { (before : List ℕ) (s : Stand) (held : Option (List ℕ))
+            → Served before s (stand (M.history machine.old) steps.old) held (K.held snk.old) self.old.line.items
+            → IfErr result (λ why. Stopped why (ended_lines (before ++ bytes.now)) s (stand (M.history machine.new) steps.new)
             held (K.held snk.new)) }
         ensures later { K.faults snk.old ≤ K.faults snk.new }
         ensures cause { result ≡ Err Stop.WriteFault → HasRisen (K.faults snk.old) (K.faults snk.new) }
@@ -112,9 +112,11 @@ impl Serving {
         steps: &mut Steps<L>,
     ) -> Result<(), Stop>
         ensures fed { OnOk result (Feeds byte self.old.line.items self.new.line.items
-            (M.history machine.old) (M.history machine.new) (K.held snk.old) (K.held snk.new)) }
+            (stand (M.history machine.old) steps.old) (stand (M.history machine.new) steps.new)
+            (K.held snk.old) (K.held snk.new)) }
         ensures fails { IfErr result (λ why. FailsAt byte why self.old.line.items
-            (M.history machine.old) (M.history machine.new) (K.held snk.old) (K.held snk.new)) }
+            (stand (M.history machine.old) steps.old) (stand (M.history machine.new) steps.new)
+            (K.held snk.old) (K.held snk.new)) }
         ensures later { K.faults snk.old ≤ K.faults snk.new }
         ensures cause { result ≡ Err Stop.WriteFault → HasRisen (K.faults snk.old) (K.faults snk.new) }
     {
@@ -133,11 +135,13 @@ impl Serving {
         steps: &mut Steps<L>,
     ) -> Result<(), Stop>
         ensures none { self.old.line.items ≡ [] → IsOk result × (K.held snk.new ≡ K.held snk.old)
-            × (M.history machine.new ≡ M.history machine.old) }
+            × Stays (stand (M.history machine.old) steps.old) (stand (M.history machine.new) steps.new) }
         ensures answered { self.old.line.items ≢ [] → OnOk result (IsAnswered self.old.line.items
-            (M.history machine.old) (M.history machine.new) (K.held snk.old) (K.held snk.new)) }
+            (stand (M.history machine.old) steps.old) (stand (M.history machine.new) steps.new)
+            (K.held snk.old) (K.held snk.new)) }
         ensures fails { IfErr result (λ why. Fails why self.old.line.items
-            (M.history machine.old) (M.history machine.new) (K.held snk.old) (K.held snk.new)) }
+            (stand (M.history machine.old) steps.old) (stand (M.history machine.new) steps.new)
+            (K.held snk.old) (K.held snk.new)) }
         ensures later { K.faults snk.old ≤ K.faults snk.new }
         ensures cause { result ≡ Err Stop.WriteFault → HasRisen (K.faults snk.old) (K.faults snk.new) }
     {
@@ -156,9 +160,11 @@ impl Serving {
     ) -> Result<(), Stop>
         ensures line { OnOk result (self.new.line.items ≡ []) }
         ensures answered { OnOk result (IsAnswered self.old.line.items
-            (M.history machine.old) (M.history machine.new) (K.held snk.old) (K.held snk.new)) }
+            (stand (M.history machine.old) steps.old) (stand (M.history machine.new) steps.new)
+            (K.held snk.old) (K.held snk.new)) }
         ensures fails { IfErr result (λ why. Fails why self.old.line.items
-            (M.history machine.old) (M.history machine.new) (K.held snk.old) (K.held snk.new)) }
+            (stand (M.history machine.old) steps.old) (stand (M.history machine.new) steps.new)
+            (K.held snk.old) (K.held snk.new)) }
         ensures later { K.faults snk.old ≤ K.faults snk.new }
         ensures cause { result ≡ Err Stop.WriteFault → HasRisen (K.faults snk.old) (K.faults snk.new) }
     {

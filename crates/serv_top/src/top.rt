@@ -3,6 +3,7 @@
 ghost use Rattle.std.specs.Prelude.{◌≡◌, ◌≢◌, ℕ, ◌^◌, ◌<◌, ◌≤◌, ◌⊎◌, ◌↔◌, List, [], true, false, map, length, Some};
 ghost use Rattle.std.specs.Io.KnownBytes.{IsAtEnd};
 ghost use Rattle.serv_disk.specs.Faults.{HasRisen};
+ghost use Rattle.serv_top.specs.Machine.{stand};
 ghost use Rattle.serv_top.specs.Outcome.{Ended, Ran};
 ghost use Rattle.serv_top.specs.Words.{is_session_of};
 
@@ -30,7 +31,8 @@ fn serve<M: Machine, S: Source, K: Sink, L: Ledger>(
     snk: &mut K,
     steps: &mut Steps<L>,
 ) -> Status
-    ensures ended { Ended result (M.history machine.old) (M.history machine.new)
+    ensures ended { Ended result
+        (stand (M.history machine.old) steps.old) (stand (M.history machine.new) steps.new)
         (S.left src.old) (S.left src.new) (K.held snk.old) (K.held snk.new) }
     ensures known { result ≢ Status.Usage }
     ensures read { result ≡ Status.ReadFault → HasRisen (S.faults src.old) (S.faults src.new) }
@@ -66,7 +68,8 @@ fn session<S: Source, K: Sink, L: Ledger>(
     snk: &mut K,
     steps: &mut Steps<L>,
 ) -> Status
-    ensures ran { Ran result [] (S.left src.old) (S.left src.new) (K.held snk.old) (K.held snk.new) }
+    ensures ran { Ran result [] steps.old steps.new
+        (S.left src.old) (S.left src.new) (K.held snk.old) (K.held snk.new) }
     ensures known { result ≢ Status.Usage }
     ensures read { result ≡ Status.ReadFault → HasRisen (S.faults src.old) (S.faults src.new) }
     ensures write { result ≡ Status.WriteFault → HasRisen (K.faults snk.old) (K.faults snk.new) }
@@ -101,8 +104,10 @@ pub fn run<S: Source, K: Sink, L: Ledger>(
     snk: &mut K,
     steps: &mut Steps<L>,
 ) -> Status
-    // What is taken, accepted and written, for each status; the history is empty at the entry.
-    ensures ran { Ran result [] (S.left src.old) (S.left src.new) (K.held snk.old) (K.held snk.new) }
+    // What is taken, accepted and written, for each status, and the steps of it; the history is empty at the
+    // entry.
+    ensures ran { Ran result [] steps.old steps.new
+        (S.left src.old) (S.left src.new) (K.held snk.old) (K.held snk.new) }
 
     // Words that the program does not know, and no others, are refused, and all objects are left as they were.
     ensures usage { (result ≡ Status.Usage) ↔ (is_session_of (map (λ w. w.now) words.now) ≡ false) }
