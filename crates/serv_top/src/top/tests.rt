@@ -1,3 +1,4 @@
+mod sharing;
 mod tables;
 
 ghost use Rattle.std.specs.Prelude.{◌≡◌, ◌<◌};
@@ -5,7 +6,9 @@ ghost use Rattle.std.specs.Prelude.{◌≡◌, ◌<◌};
 use super::{INPUT_LIMIT, run};
 use crate::Status;
 use serv_disk::{MemSink, MemSource, Source};
+use sharing::{Telling, Waiting};
 use std::alloc::{AllocError, Global};
+use std::cell::Cell;
 use std::marker::Brand;
 use std::process::Abort;
 use std::sync::ledger::{Blank, Ledger};
@@ -154,23 +157,13 @@ fn each_status_has_its_output_and_rest(rt: HostRuntime) -> Result<(), Fail> {
 
 /// Runs the lines of these tables, one table after the other, and compares the output with their replies.
 fn check(rt: &(impl Abort + AllocGlobal), tables: &[&[Exchange]]) -> Result<(), Fail> {
-    let mut input = Vec::new(rt.alloc());
-    let mut replies = Vec::new(rt.alloc());
+    let mut talk = Talk::new(rt.alloc());
     for table in tables {
         for (line, reply) in *table {
-            input.extend_from_slice(line.as_bytes())?;
-            input.push(b'\n')?;
-            replies.extend_from_slice(reply.as_bytes())?;
-            replies.push(b'\n')?;
+            talk.add(line, reply)?;
         }
     }
-    let none = Vec::new(rt.alloc());
-    let end = run_known(rt.alloc(), input, none, Vec::new(rt.alloc()))?;
-    assert_eq!(rt; end.status, Status::Done);
-    let output = String::from_utf8_lossy(rt.alloc(), &end.output)?;
-    let expected = String::from_utf8_lossy(rt.alloc(), &replies)?;
-    assert_eq!(rt; output.as_str(), expected.as_str());
-    Ok(())
+    talk.check(rt)
 }
 
 #[test]
@@ -282,6 +275,179 @@ fn rules_refuse_after_a_close(rt: HostRuntime) -> Result<(), Fail> {
 #[test]
 fn a_line_that_is_no_request_has_a_place(rt: HostRuntime) -> Result<(), Fail> {
     check(&rt, &[&NO_REQUESTS, &TAKEN_ON])
+}
+
+/// Lines, and the replies to them.
+#[derive(Drop)]
+struct Talk {
+    input: Vec<u8>,
+    replies: Vec<u8>,
+}
+
+impl Talk {
+    fn new(alloc: Global) -> Talk {
+        Talk {
+            input: Vec::new(alloc),
+            replies: Vec::new(alloc),
+        }
+    }
+
+    /// Adds a line and the reply to it.
+    fn add(&mut self, line: &str, reply: &str) -> Result<(), AllocError> {
+        self.input.extend_from_slice(line.as_bytes())?;
+        self.input.push(b'\n')?;
+        self.replies.extend_from_slice(reply.as_bytes())?;
+        self.replies.push(b'\n')?;
+        Ok(())
+    }
+
+    /// Adds a command under the key of its number, which is accepted.
+    fn accept(
+        &mut self,
+        alloc: Global,
+        number: u32,
+        command: &str,
+        found: &str,
+    ) -> Result<(), AllocError> {
+        let line = format!(in alloc; "k{number} {command}")?;
+        let reply = format!(in alloc; "ok {number}{found}")?;
+        self.add(&line, &reply)
+    }
+
+    /// Runs the lines, and compares the output with the replies.
+    fn check(self, rt: &(impl Abort + AllocGlobal)) -> Result<(), Fail> {
+        let none = Vec::new(rt.alloc());
+        let end = run_known(rt.alloc(), self.input, none, Vec::new(rt.alloc()))?;
+        assert_eq!(rt; end.status, Status::Done);
+        let output = String::from_utf8_lossy(rt.alloc(), &end.output)?;
+        let expected = String::from_utf8_lossy(rt.alloc(), &self.replies)?;
+        assert_eq!(rt; output.as_str(), expected.as_str());
+        Ok(())
+    }
+}
+
+/// Adds installments of the loans from 1 to `last`, twice; so many commands come before them.
+fn pay_all(
+    talk: &mut Talk,
+    alloc: Global,
+    before: u32,
+    last: u32,
+    day: &str,
+) -> Result<(), AllocError> {
+    for _ in 0..2 {
+        for id in 1..=last {
+            let command = format!(in alloc; "pay {id} {day} 1199.10")?;
+            talk.accept(alloc, before.saturating_add(id), &command, "")?;
+        }
+    }
+    Ok(())
+}
+
+/// The remittance type of a loan with that number.
+fn kind_of(id: u32) -> &'static str {
+    match id % 3 {
+        1 => "AA",
+        2 => "SA",
+        _ => "SS",
+    }
+}
+
+#[test]
+fn a_month_of_forty_loans(rt: HostRuntime) -> Result<(), Fail> {
+    let alloc = rt.alloc();
+    let mut talk = Talk::new(alloc);
+    talk.accept(alloc, 1, "day 2024-02-01", "")?;
+    for id in 1..=40 {
+        let kind = kind_of(id);
+        let command = format!(in alloc;
+            "board {id} 2023-12-15 200000.00 6000 250 1199.10 360 2024-02 15 500 2 0.00 {kind}"
+        )?;
+        talk.accept(alloc, id + 1, &command, "")?;
+    }
+    pay_all(&mut talk, alloc, 41, 40, "2024-02-01")?;
+    talk.accept(alloc, 82, "day 2024-03-05", "")?;
+    pay_all(&mut talk, alloc, 82, 30, "2024-03-05")?;
+    talk.accept(alloc, 113, "day 2024-04-01", "")?;
+    talk.accept(
+        alloc,
+        114,
+        "close 2023-12",
+        " lines 40 interest 0.00 principal 0.00",
+    )?;
+    talk.accept(
+        alloc,
+        115,
+        "close 2024-01",
+        " lines 40 interest 0.00 principal 0.00",
+    )?;
+    talk.accept(
+        alloc,
+        116,
+        "close 2024-02",
+        " lines 40 interest 38333.20 principal 7964.00",
+    )?;
+    talk.accept(
+        alloc,
+        117,
+        "close 2024-03",
+        " lines 40 interest 34465.32 principal 6603.30",
+    )?;
+    talk.accept(alloc, 118, "remit 2023-12", " net 0.00")?;
+    talk.accept(alloc, 119, "remit 2024-01", " net 0.00")?;
+    talk.accept(alloc, 120, "remit 2024-02", " net 46297.20")?;
+    talk.accept(alloc, 121, "remit 2024-03", " net 41068.62")?;
+    talk.add(
+        "? custodial",
+        "custodial T 0.00 P 0.00 suspense 0.00 escrow 0.00 escrow-advance 0.00 held 0.00 pi-advance 6344.52",
+    )?;
+    for id in 31..=40 {
+        let line = format!(in alloc; "? books {id}")?;
+        let books = format!(in alloc;
+            "books {id} 2024-04-01 upb 199800.90 next 2024-03 escrow 0.00 suspense 0.00 late 59.96 interest 1000.00 fee 41.67 principal 199.10 charges 0.00 pay 1199.10"
+        )?;
+        talk.add(&line, &books)?;
+    }
+    talk.check(&rt)
+}
+
+#[test]
+fn five_thousand_lines_are_answered(rt: HostRuntime) -> Result<(), Fail> {
+    let alloc = rt.alloc();
+    let mut talk = Talk::new(alloc);
+    talk.accept(alloc, 1, "day 2024-02-01", "")?;
+    talk.accept(
+        alloc,
+        2,
+        "board 1 2023-12-15 200000.00 6000 250 1199.10 360 2024-02 15 500 2 0.00 SS",
+        "",
+    )?;
+    for number in 3..=5_000 {
+        talk.accept(alloc, number, "line 1 1 tax 7 12 100.00", "")?;
+    }
+    talk.check(&rt)
+}
+
+/// Runs `j session` over a source and a sink that share a cell, and says how many bytes were written.
+fn bytes_written<L: Ledger>(alloc: Global, blank: Blank) -> usize
+    requires name { blank.name ≡ L.name }
+    requires parts { blank.parts ≡ L.parts }
+    requires some { 0 < L.parts }
+{
+    let written = Cell::new(0);
+    let mut src = Waiting::new(&written);
+    let mut snk = Telling::new(&written);
+    let mut steps = Steps::<L>::new(blank);
+    match run(alloc, &["j", "session"], &mut src, &mut snk, &mut steps) {
+        Status::Done => written.get(),
+        _ => 0,
+    }
+}
+
+#[test]
+fn a_reply_is_written_before_the_next_read(rt: HostRuntime) -> Result<(), Fail> {
+    let written = bytes_written::<Brand>(rt.alloc(), Blank::new(1));
+    assert_eq!(rt; written, b"ok 1\nok 2\n".len());
+    Ok(())
 }
 
 #[test]
