@@ -1,9 +1,9 @@
 -- A stream that is cut from its front, byte by byte, and the lines that the definitions find from its end.
-use Rattle.std.proofs.Common.{◌≡◌, ℕ, List, [], ◌∷◌, ◌++◌, refl, sym, ap, ◌∙◌, append-nil, append_assoc}
+use Rattle.std.proofs.Common.{◌≡◌, ℕ, ◌+◌, arith, List, [], ◌∷◌, ◌++◌, refl, sym, ap, ◌∙◌, append-nil, append_assoc}
 use Rattle.std.specs.Prelude.{◌==◌, if◌then◌else◌, true, false}
 use Rattle.serv_top.specs.Lines.{onto_first, onto_ended, lines_of, ended_lines, open_from, open_line}
-use Rattle.serv_top.specs.Machine.{History, reply_to, history_after}
-use Rattle.serv_top.specs.Replies.{history_after_all, replies_to}
+use Rattle.serv_top.specs.Machine.{History, Said, Says, reply_to, history_after, bound_of, Stand, Moves}
+use Rattle.serv_top.specs.Replies.{Say, history_after_all, replies_to, bound_of_all, MovesAll}
 
 -- the lines that end, where the stream goes on from this piece of a line
 abbrev pub ended_from : List ℕ → List ℕ → List (List ℕ)
@@ -87,13 +87,31 @@ ended_lines-push bytes b = sym (ended_from_nil (bytes ++ b ∷ [])) ∙ ended_fr
     ∙ ap (λ lines. if b == 10 then lines ++ open_from [] bytes ∷ [] else lines) (ended_from_nil bytes)
 
 -- one more line
-pub replies_to-push : (h : History) (lines : List (List ℕ)) (line : List ℕ) → replies_to h (lines ++ line ∷ []) ≡ replies_to h lines ++ reply_to (history_after_all h lines) line
-replies_to-push h [] line = append-nil (reply_to h line)
-replies_to-push h (first ∷ lines) line = ap (λ text. reply_to h first ++ text) (replies_to-push (history_after h first) lines line) ∙ sym (append_assoc (reply_to h first) (replies_to (history_after h first) lines) (reply_to (history_after_all (history_after h first) lines) line))
+pub say-push : (lines : List (List ℕ)) (saids : List Said) (line : List ℕ) (said : Said) → Say lines saids → Says line said → Say (lines ++ line ∷ []) (saids ++ said ∷ [])
+say-push [] [] line said all says = (says, tt)
+say-push [] (s ∷ saids) line said all says = absurd all
+say-push (l ∷ lines) [] line said all says = absurd all
+say-push (l ∷ lines) (s ∷ saids) line said all says = (all.0, say-push lines saids line said all.1 says)
 
-pub history_after_all-push : (h : History) (lines : List (List ℕ)) (line : List ℕ) → history_after_all h (lines ++ line ∷ []) ≡ history_after (history_after_all h lines) line
-history_after_all-push h [] line = refl
-history_after_all-push h (first ∷ lines) line = history_after_all-push (history_after h first) lines line
+pub replies_to-push : (h : History) (saids : List Said) (said : Said) → replies_to h (saids ++ said ∷ []) ≡ replies_to h saids ++ reply_to (history_after_all h saids) said
+replies_to-push h [] said = append-nil (reply_to h said)
+replies_to-push h (first ∷ saids) said = ap (λ text. reply_to h first ++ text) (replies_to-push (history_after h first) saids said) ∙ sym (append_assoc (reply_to h first) (replies_to (history_after h first) saids) (reply_to (history_after_all (history_after h first) saids) said))
+
+pub history_after_all-push : (h : History) (saids : List Said) (said : Said) → history_after_all h (saids ++ said ∷ []) ≡ history_after (history_after_all h saids) said
+history_after_all-push h [] said = refl
+history_after_all-push h (first ∷ saids) said = history_after_all-push (history_after h first) saids said
+
+bound_of_all-push : (h : History) (saids : List Said) (said : Said) → bound_of_all h (saids ++ said ∷ []) ≡ bound_of_all h saids + bound_of (history_after_all h saids) said
+bound_of_all-push h [] said = omega arith
+bound_of_all-push h (first ∷ saids) said =
+    let rest = bound_of_all-push (history_after h first) saids said in
+    omega (arith, rest)
+
+pub moves_more : (saids : List Said) (said : Said) (s s' s'' : Stand) → MovesAll saids s s' → Moves said s' s'' → MovesAll (saids ++ said ∷ []) s s''
+moves_more saids said s s' s'' all one =
+    let grown : bound_of_all s.history (saids ++ said ∷ []) ≡ bound_of_all s.history saids + bound_of s'.history said =
+    bound_of_all-push s.history saids said ∙ ap (λ h. bound_of_all s.history saids + bound_of h said) (sym all.0) in
+    (one.0 ∙ ap (λ h. history_after h said) all.0 ∙ sym (history_after_all-push s.history saids said), omega (arith, grown, all.1, one.1))
 
 -- more bytes
 pub open_from-append : (line bytes more : List ℕ) → open_from line (bytes ++ more) ≡ open_from (open_from line bytes) more

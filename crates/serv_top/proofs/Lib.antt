@@ -1,12 +1,7 @@
+pub mod ResultLemmas
 pub mod Pieces
-pub mod MachineLemmas
 pub mod Cutting
+pub mod LineLemmas
 pub mod ServedLemmas
 pub mod Running
-pub mod ValueLemmas
-pub mod WordLemmas
-pub mod FormLemmas
-pub mod FormFacts
-pub mod AnswerLemmas
-pub mod WorldLemmas
-pub mod KeyLemmas
+pub mod SpellLemmas

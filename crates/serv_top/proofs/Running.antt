@@ -1,69 +1,99 @@
--- A run in its course: what it has taken and written so far, and what that is where it ends.
+-- A run in its course: what it has taken, accepted and written so far, and what that is where it ends.
 use Rattle.std.proofs.Common.{◌≡◌, ℕ, ◌+◌, ◌<◌, ◌≤◌, List, [], ◌++◌, length, refl, subst, arith, inl, inr, append-nil, length-append}
 use Rattle.std.specs.Prelude.{Option}
 use Rattle.std.specs.Io.KnownBytes.{Appends, Consumes, IsAtEnd}
-use Rattle.std.proofs.KnownBytes.{Consumes-nil, Consumes-trans}
+use Rattle.std.proofs.KnownBytes.{Consumes-nil, Consumes-trans, Appends-nil}
 use Rattle.serv_top.specs.declared.serving.Stop.{Stop}
 use Rattle.serv_top.specs.declared.serving.Stop.TheVariants as stop
+use Rattle.serv_top.specs.declared.status.Status.{Status}
 use Rattle.serv_top.specs.declared.status.Status.TheVariants as status
 use Rattle.serv_top.specs.Lines.{lines_of, ended_lines}
-use Rattle.serv_top.specs.Machine.{History, empty_history}
-use Rattle.serv_top.specs.Replies.{replies_to}
+use Rattle.serv_top.specs.Machine.{History, Stand, stand}
+use Rattle.serv_top.specs.Replies.{Answers, replies_to}
 use Rattle.serv_top.specs.Serving.{Served, Stopped}
 use Rattle.serv_top.specs.Stop.{status_of}
-use Rattle.serv_top.specs.Outcome.{Ended, input_limit}
-use Rattle.serv_top.proofs.ServedLemmas.{served_none}
+use Rattle.serv_top.specs.Outcome.{Ended, Ran, input_limit}
+use Rattle.serv_top.proofs.ServedLemmas.{served_none, AllServed}
 
 -- the bytes taken are served
-pub record Running (left left' held held' : Option (List ℕ)) (line : List ℕ) (history : History) (count : ℕ) : Type 0 where
+pub record Running (s s' : Stand) (left left' held held' : Option (List ℕ)) (line : List ℕ) (count : ℕ) : Type 0 where
   pub taken : List ℕ
   pub took : Consumes left left' taken
-  pub served : Served taken held held' line history
+  pub served : Served taken s s' held held' line
   pub count_is : count ≡ length taken
 
-pub running_none : (left held : Option (List ℕ)) (line : List ℕ) (history : History) → line ≡ [] → history ≡ empty_history → Running left left held held line history 0
-running_none left held line history no_line none = record { taken = []; took = Consumes-nil left; served = served_none held line history no_line none; count_is = refl }
+pub running_none : (s s' : Stand) (left held : Option (List ℕ)) (line : List ℕ) → line ≡ [] → s'.history ≡ s.history → s'.steps ≤ s.steps → Running s s' left left held held line 0
+running_none s s' left held line no_line same cost = record { taken = []; took = Consumes-nil left; served = served_none s s' held line no_line same cost; count_is = refl }
+
+-- the replies to the lines that ended are written
+pub answers_ended : {s s' : Stand} {left left' held held' : Option (List ℕ)} {line : List ℕ} {count : ℕ} (run : Running s s' left left' held held' line count)
+    → Answers (ended_lines run.taken) s s' (replies_to s.history run.served.said)
+answers_ended run = record { said = run.served.said; say = run.served.say; text = refl; moved = run.served.moved }
 
 -- more bytes are taken and served
-pub running_more : {left left' held held' : Option (List ℕ)} {line : List ℕ} {history : History} {count : ℕ} (run : Running left left' held held' line history count)
-    (bytes : List ℕ) (n : ℕ) (left'' held'' : Option (List ℕ)) (line' : List ℕ) (history' : History) → length bytes ≡ n → Consumes left' left'' bytes
-    → Served (run.taken ++ bytes) held held'' line' history' → Running left left'' held held'' line' history' (count + n)
-running_more {left} {left'} run bytes n left'' held'' line' history' long took served =
+pub running_more : {s s' : Stand} {left left' held held' : Option (List ℕ)} {line : List ℕ} {count : ℕ} (run : Running s s' left left' held held' line count)
+    (bytes : List ℕ) (n : ℕ) (s'' : Stand) (left'' held'' : Option (List ℕ)) (line' : List ℕ) → length bytes ≡ n → Consumes left' left'' bytes
+    → Served (run.taken ++ bytes) s s'' held held'' line' → Running s s'' left left'' held held'' line' (count + n)
+running_more {left} {left'} run bytes n s'' left'' held'' line' long took served =
     let counted = run.count_is in
     let joined = length-append run.taken bytes in
     record { taken = run.taken ++ bytes; took = Consumes-trans left left' left'' run.taken bytes run.took took; served = served; count_is = omega arith }
 
 -- it stops at one of the bytes that were taken last
-pub ended_at_bytes : {left left' held held' : Option (List ℕ)} {line : List ℕ} {history : History} {count : ℕ} (run : Running left left' held held' line history count)
-    (bytes : List ℕ) (n : ℕ) (left'' held'' : Option (List ℕ)) → length bytes ≡ n → count + n ≤ input_limit → Consumes left' left'' bytes
-    → (why : Stop) → Stopped why (ended_lines (run.taken ++ bytes)) held held'' → Ended (status_of why) left left'' held held''
-ended_at_bytes {left} {left'} run bytes n left'' held'' long within took stop.WriteFault stopped =
+pub ended_at_bytes : {s s' : Stand} {left left' held held' : Option (List ℕ)} {line : List ℕ} {count : ℕ} (run : Running s s' left left' held held' line count)
+    (bytes : List ℕ) (n : ℕ) (s'' : Stand) (left'' held'' : Option (List ℕ)) → length bytes ≡ n → count + n ≤ input_limit → Consumes left' left'' bytes
+    → (why : Stop) → Stopped why (ended_lines (run.taken ++ bytes)) s s'' held held'' → Ended (status_of why) s s'' left left'' held held''
+ended_at_bytes {left} {left'} run bytes n s'' left'' held'' long within took stop.WriteFault stopped =
     let counted = run.count_is in
     let joined = length-append run.taken bytes in
     record { taken = run.taken ++ bytes; written = stopped.written; took = Consumes-trans left left' left'' run.taken bytes run.took took; wrote = stopped.wrote; says = (omega arith, inl stopped.says) }
-ended_at_bytes {left} {left'} run bytes n left'' held'' long within took stop.OutOfMemory stopped =
+ended_at_bytes {left} {left'} run bytes n s'' left'' held'' long within took stop.OutOfMemory stopped =
     let counted = run.count_is in
     let joined = length-append run.taken bytes in
     record { taken = run.taken ++ bytes; written = stopped.written; took = Consumes-trans left left' left'' run.taken bytes run.took took; wrote = stopped.wrote; says = (omega arith, inl stopped.says) }
 
 -- the end of the input
-end_took : {left left' held held' : Option (List ℕ)} {line : List ℕ} {history : History} {count : ℕ} (run : Running left left' held held' line history count)
+end_took : {s s' : Stand} {left left' held held' : Option (List ℕ)} {line : List ℕ} {count : ℕ} (run : Running s s' left left' held held' line count)
     (left'' : Option (List ℕ)) → Consumes left' left'' [] → Consumes left left'' run.taken
 end_took {left} {left'} run left'' took = subst (Consumes left left'') (append-nil run.taken) (Consumes-trans left left' left'' run.taken [] run.took took)
 
-pub ended_done : {left left' held held' : Option (List ℕ)} {line : List ℕ} {history : History} {count : ℕ} (run : Running left left' held held' line history count)
-    (left'' held'' : Option (List ℕ)) → count < input_limit → Consumes left' left'' [] → IsAtEnd left'' → Appends held held'' (replies_to empty_history (lines_of run.taken))
-    → Ended status.Done left left'' held held''
-ended_done run left'' held'' below took end wrote =
+pub ended_done : {s s' : Stand} {left left' held held' : Option (List ℕ)} {line : List ℕ} {count : ℕ} (run : Running s s' left left' held held' line count)
+    (s'' : Stand) (left'' held'' : Option (List ℕ)) → count < input_limit → Consumes left' left'' [] → IsAtEnd left'' → AllServed (lines_of run.taken) s s'' held held''
+    → Ended status.Done s s'' left left'' held held''
+ended_done run s'' left'' held'' below took end all =
     let counted = run.count_is in
-    record { taken = run.taken; written = replies_to empty_history (lines_of run.taken); took = end_took run left'' took; wrote = wrote; says = (end, omega arith, refl) }
+    record { taken = run.taken; written = all.written; took = end_took run left'' took; wrote = all.wrote; says = (end, omega arith, all.answers) }
 
-pub ended_at_end : {left left' held held' : Option (List ℕ)} {line : List ℕ} {history : History} {count : ℕ} (run : Running left left' held held' line history count)
-    (left'' held'' : Option (List ℕ)) → count < input_limit → Consumes left' left'' [] → IsAtEnd left'' → (why : Stop) → Stopped why (lines_of run.taken) held held''
-    → Ended (status_of why) left left'' held held''
-ended_at_end run left'' held'' below took end stop.WriteFault stopped =
+pub ended_at_end : {s s' : Stand} {left left' held held' : Option (List ℕ)} {line : List ℕ} {count : ℕ} (run : Running s s' left left' held held' line count)
+    (s'' : Stand) (left'' held'' : Option (List ℕ)) → count < input_limit → Consumes left' left'' [] → IsAtEnd left'' → (why : Stop) → Stopped why (lines_of run.taken) s s'' held held''
+    → Ended (status_of why) s s'' left left'' held held''
+ended_at_end run s'' left'' held'' below took end stop.WriteFault stopped =
     let counted = run.count_is in
     record { taken = run.taken; written = stopped.written; took = end_took run left'' took; wrote = stopped.wrote; says = (omega arith, inr (end, stopped.says)) }
-ended_at_end run left'' held'' below took end stop.OutOfMemory stopped =
+ended_at_end run s'' left'' held'' below took end stop.OutOfMemory stopped =
     let counted = run.count_is in
     record { taken = run.taken; written = stopped.written; took = end_took run left'' took; wrote = stopped.wrote; says = (omega arith, inr (end, stopped.says)) }
+
+-- a run that takes nothing
+pub ran_nothing : (steps : ℕ) (left held : Option (List ℕ)) → Ran status.OutOfMemory [] steps steps left left held held
+ran_nothing steps left held = record {
+  after = [];
+  ended = record {
+    taken = [];
+    written = [];
+    took = Consumes-nil left;
+    wrote = Appends-nil held;
+    says = (omega arith, inl (record { answered = []; others = []; lines_are = refl; said = []; say = tt; before = stand [] steps; moved = (refl, omega arith); text = refl; after = inl (refl, omega arith) }));
+  };
+}
+
+-- a run over a machine whose history is empty at the entry
+pub ran_serving : (status : Status) (h h' : History) (steps steps' : ℕ) (left left' held held' : Option (List ℕ)) → h ≡ [] → Ended status (stand h steps) (stand h' steps') left left' held held'
+    → Ran status [] steps steps' left left' held held'
+ran_serving status h h' steps steps' left left' held held' none ended = record { after = h'; ended = subst (λ x. Ended status (stand x steps) (stand h' steps') left left' held held') none ended }
+
+pub ran_usage : (steps : ℕ) (left held : Option (List ℕ)) → Ran status.Usage [] steps steps left left held held
+ran_usage steps left held = record {
+  after = [];
+  ended = record { taken = []; written = []; took = Consumes-nil left; wrote = Appends-nil held; says = (refl, refl, (refl, omega arith)) };
+}

@@ -2,21 +2,20 @@
 use Rattle.std.proofs.Common.{◌≡◌, ℕ, ◌+◌, ◌<◌, ◌≤◌, ◌⊎◌, List, [], ◌∷◌, ◌++◌, length, take, drop, refl, sym, ap, subst, ◌∙◌, arith, inl, inr, append-nil, append_assoc, take-append-drop, get_or}
 use Rattle.std.specs.Prelude.{Option, ◌==◌, Bool, true, false, if◌then◌else◌, MatchBool}
 use Rattle.std.proofs.lemmas.List.{length-take-le, take_at, take_all, take-append-le, take_more, drop_more}
-use Rattle.std.proofs.lemmas.Bool.{cases_lt, eq-eqb}
+use Rattle.std.proofs.lemmas.Bool.{cases_lt}
 use Rattle.std.specs.Io.KnownBytes.{Appends}
 use Rattle.std.proofs.KnownBytes.{Appends-nil, Appends-trans}
 use Rattle.serv_top.specs.declared.serving.Stop.{Stop}
 use Rattle.serv_top.specs.declared.serving.Stop.TheVariants.{WriteFault, OutOfMemory}
-use Rattle.serv_disk.specs.Faults.{IsProperPrefix, AppendsPart}
 use Rattle.serv_top.specs.Lines.{lines_of, ended_lines, open_line}
-use Rattle.serv_top.specs.Machine.{History, empty_history, reply_to, history_after}
-use Rattle.serv_top.specs.Replies.{IsCutIn, replies_to, history_after_all}
-use Rattle.serv_top.specs.Serving.{Feeds, Served, Stopped, IsStoppedText}
-use Rattle.serv_top.proofs.MachineLemmas.{reply_not_empty, reply_cut, history_cut}
-use Rattle.serv_top.proofs.Cutting.{unended, ended_from, open_from-push, ended_lines-push, ended_lines-append, lines_of-from, replies_to-push, history_after_all-push}
+use Rattle.serv_top.specs.Machine.{Said, Says, reply_to, Stand, Stays, Moves, IsTried}
+use Rattle.serv_top.specs.Replies.{Say, Answers, IsCutIn, IsBegun, IsTriedNext, replies_to, MovesAll}
+use Rattle.serv_top.specs.Serving.{Feeds, IsAnswered, IsCut, Fails, FailsAt, Served, Stopped, IsStoppedText}
+use Rattle.serv_top.proofs.LineLemmas.{says_whole}
+use Rattle.serv_top.proofs.Cutting.{unended, ended_from, open_from-push, ended_lines-push, ended_lines-append, lines_of-from, say-push, replies_to-push, moves_more}
 
-pub served_none : (held : Option (List ℕ)) (line : List ℕ) (history : History) → line ≡ [] → history ≡ empty_history → Served [] held held line history
-served_none held line history no_line none = record { wrote = Appends-nil held; line_is = no_line; history_is = none }
+pub served_none : (s s' : Stand) (held : Option (List ℕ)) (line : List ℕ) → line ≡ [] → s'.history ≡ s.history → s'.steps ≤ s.steps → Served [] s s' held held line
+served_none s s' held line no_line same cost = record { said = []; say = tt; wrote = Appends-nil held; moved = (same, omega (arith, cost)); line_is = no_line }
 
 -- a line that is cut before a byte is added is cut as if it was added first
 take_cut : (n : ℕ) (xs ys : List ℕ) → take n (take n xs ++ ys) ≡ take n (xs ++ ys)
@@ -33,133 +32,203 @@ open_cases : (piece : List ℕ) → (piece ≡ []) ⊎ ((unended piece ≡ piece
 open_cases [] = inl refl
 open_cases (b ∷ piece) = inr (refl, λ none. cc)
 
+-- all lines are answered, and the replies are written
+pub record AllServed (lines : List (List ℕ)) (s s' : Stand) (held held' : Option (List ℕ)) : Type 0 where
+  pub written : List ℕ
+  pub wrote : Appends held held' written
+  pub answers : Answers lines s s' written
+
 -- where it stops stays so, whatever lines come behind
-cut_further : (lines more : List (List ℕ)) (written : List ℕ) → IsCutIn lines written → IsCutIn (lines ++ more) written
-cut_further lines more written cut = record {
+cut_further : (lines more : List (List ℕ)) (s s' : Stand) (written : List ℕ) → IsCutIn lines s s' written → IsCutIn (lines ++ more) s s' written
+cut_further lines more s s' written cut = record {
   answered = cut.answered;
   next = cut.next;
   others = cut.others ++ more;
-  part = cut.part;
   lines_are = ap (λ ls. ls ++ more) cut.lines_are ∙ append_assoc cut.answered (cut.next ∷ cut.others) more;
+  said = cut.said;
+  say = cut.say;
+  before = cut.before;
+  moved = cut.moved;
+  last = cut.last;
+  says = cut.says;
+  part = cut.part;
   text = cut.text;
   partial = cut.partial;
+  after = cut.after;
 }
 
--- what answers some lines stops before the reply to the next one
-cut_before : (lines more : List (List ℕ)) (written : List ℕ) → written ≡ replies_to empty_history lines → (written ≡ replies_to empty_history (lines ++ more)) ⊎ IsCutIn (lines ++ more) written
-cut_before lines [] written is = inl (is ∙ ap (replies_to empty_history) (sym (append-nil lines)))
-cut_before lines (next ∷ others) written is = inr (record {
-  answered = lines;
-  next = next;
-  others = others;
-  part = [];
-  lines_are = refl;
-  text = is ∙ sym (append-nil (replies_to empty_history lines));
-  partial = record { rest = reply_to (history_after_all empty_history lines) next; some = reply_not_empty (history_after_all empty_history lines) next; joined = refl };
-})
+next_further : (others more : List (List ℕ)) (s s' : Stand) → IsTriedNext others s s' → IsTriedNext (others ++ more) s s'
+next_further [] more s s' is = absurd is
+next_further (line ∷ others) more s s' is = is
 
-stopped_text_further : (why : Stop) (lines more : List (List ℕ)) (written : List ℕ) → IsStoppedText why lines written → IsStoppedText why (lines ++ more) written
-stopped_text_further WriteFault lines more written cut = cut_further lines more written cut
-stopped_text_further OutOfMemory lines more written (inl all) = cut_before lines more written all
-stopped_text_further OutOfMemory lines more written (inr cut) = inr (cut_further lines more written cut)
+near_further : (others more : List (List ℕ)) (s s' : Stand) → Stays s s' ⊎ IsTriedNext others s s' → Stays s s' ⊎ IsTriedNext (others ++ more) s s'
+near_further others more s s' (inl same) = inl same
+near_further others more s s' (inr next) = inr (next_further others more s s' next)
 
-pub stopped_further : (why : Stop) (bytes more : List ℕ) (held held' : Option (List ℕ)) → Stopped why (ended_lines bytes) held held' → Stopped why (ended_lines (bytes ++ more)) held held'
-stopped_further why bytes more held held' stopped = record {
+begun_further : (lines more : List (List ℕ)) (s s' : Stand) (written : List ℕ) → IsBegun lines s s' written → IsBegun (lines ++ more) s s' written
+begun_further lines more s s' written begun = record {
+  answered = begun.answered;
+  others = begun.others ++ more;
+  lines_are = ap (λ ls. ls ++ more) begun.lines_are ∙ append_assoc begun.answered begun.others more;
+  said = begun.said;
+  say = begun.say;
+  before = begun.before;
+  moved = begun.moved;
+  text = begun.text;
+  after = near_further begun.others more begun.before s' begun.after;
+}
+
+stopped_text_further : (why : Stop) (lines more : List (List ℕ)) (s s' : Stand) (written : List ℕ) → IsStoppedText why lines s s' written → IsStoppedText why (lines ++ more) s s' written
+stopped_text_further WriteFault lines more s s' written cut = cut_further lines more s s' written cut
+stopped_text_further OutOfMemory lines more s s' written begun = begun_further lines more s s' written begun
+
+pub stopped_further : (why : Stop) (bytes more : List ℕ) (s s' : Stand) (held held' : Option (List ℕ)) → Stopped why (ended_lines bytes) s s' held held' → Stopped why (ended_lines (bytes ++ more)) s s' held held'
+stopped_further why bytes more s s' held held' stopped = record {
   written = stopped.written;
   wrote = stopped.wrote;
-  says = subst (λ lines. IsStoppedText why lines stopped.written) (sym (ended_lines-append bytes more)) (stopped_text_further why (ended_lines bytes) (ended_from (open_line bytes) more) stopped.written stopped.says);
+  says = subst (λ lines. IsStoppedText why lines s s' stopped.written) (sym (ended_lines-append bytes more)) (stopped_text_further why (ended_lines bytes) (ended_from (open_line bytes) more) s s' stopped.written stopped.says);
 }
 
-module _ (bytes : List ℕ) {held held' : Option (List ℕ)} {line : List ℕ} {history : History} (run : Served bytes held held' line history) where
+-- nothing more was done
+moves_stay : (saids : List Said) (s s' s'' : Stand) → MovesAll saids s s' → Stays s' s'' → MovesAll saids s s''
+moves_stay saids s s' s'' all same = (same.0 ∙ all.0, omega (arith, all.1, same.1))
+
+module _ (bytes : List ℕ) {s s' : Stand} {held held' : Option (List ℕ)} {line : List ℕ} (run : Served bytes s s' held held' line) where
   abbrev ended : List (List ℕ)
   ended = ended_lines bytes
 
   abbrev piece : List ℕ
   piece = open_line bytes
 
-  abbrev before : History
-  before = history_after_all empty_history ended
+  -- what the kept line says, the whole line says
+  says_piece : (said : Said) → Says line said → Says piece said
+  says_piece said says = says_whole piece said (subst (λ l. Says l said) run.line_is says)
 
-  -- the reply to the kept line is that to the whole line
-  reply_is : reply_to history line ≡ reply_to before piece
-  reply_is = ap (λ l. reply_to history l) run.line_is ∙ reply_cut history piece ∙ ap (λ h. reply_to h piece) run.history_is
+  -- one more line is answered
+  all_say : (lines : List (List ℕ)) (said : Said) → lines ≡ ended ++ piece ∷ [] → Says line said → Say lines (run.said ++ said ∷ [])
+  all_say lines said e says = subst (λ ls. Say ls (run.said ++ said ∷ [])) (sym e) (say-push ended run.said piece said run.say (says_piece said says))
 
-  history_is : history_after history line ≡ history_after before piece
-  history_is = ap (λ l. history_after history l) run.line_is ∙ history_cut history piece ∙ ap (λ h. history_after h piece) run.history_is
-
-  -- one more reply
-  replies_is : (lines : List (List ℕ)) → lines ≡ ended ++ piece ∷ [] → replies_to empty_history lines ≡ replies_to empty_history ended ++ reply_to history line
-  replies_is lines e = ap (replies_to empty_history) e ∙ replies_to-push empty_history ended piece ∙ ap (λ text. replies_to empty_history ended ++ text) (sym reply_is)
+  all_written : (said : Said) (held'' : Option (List ℕ)) → Appends held' held'' (reply_to s'.history said) → Appends held held'' (replies_to s.history (run.said ++ said ∷ []))
+  all_written said held'' wrote =
+      subst (Appends held held'') (ap (λ h. replies_to s.history run.said ++ reply_to h said) run.moved.0 ∙ sym (replies_to-push s.history run.said said))
+      (Appends-trans held held' held'' (replies_to s.history run.said) (reply_to s'.history said) run.wrote wrote)
 
   -- one more byte, where it is tested whether it is a line feed
-  more_at : (b : ℕ) (t : Bool) (held'' : Option (List ℕ)) (line' : List ℕ) (history' : History)
+  more_at : (b : ℕ) (t : Bool) (s'' : Stand) (held'' : Option (List ℕ)) (line' : List ℕ)
       → ended_lines (bytes ++ b ∷ []) ≡ (if t then ended ++ piece ∷ [] else ended)
       → open_line (bytes ++ b ∷ []) ≡ (if t then [] else piece ++ b ∷ [])
-      → MatchBool t ((line' ≡ []) × (history' ≡ history_after history line) × Appends held' held'' (reply_to history line)) ((line' ≡ take 513 (line ++ b ∷ [])) × (history' ≡ history) × (held'' ≡ held'))
-      → Served (bytes ++ b ∷ []) held held'' line' history'
-  more_at b true held'' line' history' lines opened fed = record {
-    wrote = subst (Appends held held'') (sym (replies_is _ lines)) (Appends-trans held held' held'' (replies_to empty_history ended) (reply_to history line) run.wrote fed.2);
+      → MatchBool t ((line' ≡ []) × IsAnswered line s' s'' held' held'') ((line' ≡ take 513 (line ++ b ∷ [])) × Stays s' s'' × (held'' ≡ held'))
+      → Served (bytes ++ b ∷ []) s s'' held held'' line'
+  more_at b true s'' held'' line' lines opened fed = record {
+    said = run.said ++ fed.1.said ∷ [];
+    say = all_say _ fed.1.said lines fed.1.says;
+    wrote = all_written fed.1.said held'' fed.1.wrote;
+    moved = moves_more run.said fed.1.said s s' s'' run.moved fed.1.after;
     line_is = fed.0 ∙ sym (ap (take 513) opened);
-    history_is = fed.1 ∙ history_is ∙ sym (history_after_all-push empty_history ended piece) ∙ ap (history_after_all empty_history) (sym lines);
   }
-  more_at b false held'' line' history' lines opened fed = record {
-    wrote = subst (λ h. Appends held h (replies_to empty_history (ended_lines (bytes ++ b ∷ [])))) (sym fed.2) (subst (λ ls. Appends held held' (replies_to empty_history ls)) (sym lines) run.wrote);
+  more_at b false s'' held'' line' lines opened fed = record {
+    said = run.said;
+    say = subst (λ ls. Say ls run.said) (sym lines) run.say;
+    wrote = subst (λ k. Appends held k (replies_to s.history run.said)) (sym fed.2) run.wrote;
+    moved = moves_stay run.said s s' s'' run.moved fed.1;
     line_is = fed.0 ∙ ap (λ l. take 513 (l ++ b ∷ [])) run.line_is ∙ take_cut 513 piece (b ∷ []) ∙ sym (ap (take 513) opened);
-    history_is = fed.1 ∙ run.history_is ∙ ap (history_after_all empty_history) (sym lines);
   }
 
   -- one more byte
-  pub served_more : (b : ℕ) (held'' : Option (List ℕ)) (line' : List ℕ) (history' : History)
-      → Feeds b line history line' history' held' held'' → Served (bytes ++ b ∷ []) held held'' line' history'
-  served_more b held'' line' history' fed = more_at b (b == 10) held'' line' history' (ended_lines-push bytes b) (open_from-push [] bytes b) fed
+  pub served_more : (b : ℕ) (s'' : Stand) (held'' : Option (List ℕ)) (line' : List ℕ)
+      → Feeds b line line' s' s'' held' held'' → Served (bytes ++ b ∷ []) s s'' held held'' line'
+  served_more b s'' held'' line' fed = more_at b (b == 10) s'' held'' line' (ended_lines-push bytes b) (open_from-push [] bytes b) fed
 
   -- a part of the reply to the line is written
-  cut_by_fault : (held'' : Option (List ℕ)) (lines : List (List ℕ)) → lines ≡ ended ++ piece ∷ [] → AppendsPart held' held'' (reply_to history line) → Stopped WriteFault lines held held''
-  cut_by_fault held'' lines e part = record {
-    written = replies_to empty_history ended ++ part.part;
-    wrote = Appends-trans held held' held'' (replies_to empty_history ended) part.part run.wrote part.wrote;
-    says = record { answered = ended; next = piece; others = []; part = part.part; lines_are = e; text = refl; partial = subst (IsProperPrefix part.part) reply_is part.partial };
+  cut_by_fault : (s'' : Stand) (held'' : Option (List ℕ)) (lines : List (List ℕ)) → lines ≡ ended ++ piece ∷ [] → IsCut line s' s'' held' held'' → Stopped WriteFault lines s s'' held held''
+  cut_by_fault s'' held'' lines e cut = record {
+    written = replies_to s.history run.said ++ cut.wrote.part;
+    wrote = Appends-trans held held' held'' (replies_to s.history run.said) cut.wrote.part run.wrote cut.wrote.wrote;
+    says = record {
+      answered = ended;
+      next = piece;
+      others = [];
+      lines_are = e;
+      said = run.said;
+      say = run.say;
+      before = s';
+      moved = run.moved;
+      last = cut.said;
+      says = says_piece cut.said cut.says;
+      part = cut.wrote.part;
+      text = refl;
+      partial = cut.wrote.partial;
+      after = cut.after;
+    };
   }
+
+  tried_piece : (s'' : Stand) → IsTried line s' s'' → IsTried piece s' s''
+  tried_piece s'' is = record { said = is.said; says = says_piece is.said is.says; near = is.near; cost = is.cost }
 
   -- nothing of the replies to further lines is written
-  cut_by_memory : (held'' : Option (List ℕ)) (lines more : List (List ℕ)) → lines ≡ ended ++ more → held'' ≡ held' → Stopped OutOfMemory lines held held''
-  cut_by_memory held'' lines more e same = record {
-    written = replies_to empty_history ended;
-    wrote = subst (λ h. Appends held h (replies_to empty_history ended)) (sym same) run.wrote;
-    says = subst (λ ls. IsStoppedText OutOfMemory ls (replies_to empty_history ended)) (sym e) (cut_before ended more (replies_to empty_history ended) refl);
+  cut_by_memory : (s'' : Stand) (held'' : Option (List ℕ)) (lines others : List (List ℕ)) → lines ≡ ended ++ others → held'' ≡ held'
+      → Stays s' s'' ⊎ IsTriedNext others s' s'' → Stopped OutOfMemory lines s s'' held held''
+  cut_by_memory s'' held'' lines others e same near = record {
+    written = replies_to s.history run.said;
+    wrote = subst (λ k. Appends held k (replies_to s.history run.said)) (sym same) run.wrote;
+    says = record { answered = ended; others = others; lines_are = e; said = run.said; say = run.say; before = s'; moved = run.moved; text = refl; after = near };
   }
 
+  -- a line has no whole reply
+  stopped_by : (why : Stop) (s'' : Stand) (held'' : Option (List ℕ)) (lines : List (List ℕ)) → lines ≡ ended ++ piece ∷ [] → Fails why line s' s'' held' held'' → Stopped why lines s s'' held held''
+  stopped_by WriteFault s'' held'' lines e cut = cut_by_fault s'' held'' lines e cut
+  stopped_by OutOfMemory s'' held'' lines e short = cut_by_memory s'' held'' lines (piece ∷ []) e short.same (inr (tried_piece s'' short.tried))
+
+  -- a byte is not kept
+  stopped_kept : (why : Stop) (s'' : Stand) (held'' : Option (List ℕ)) (lines : List (List ℕ)) → lines ≡ ended → (why ≡ OutOfMemory) × Stays s' s'' × (held'' ≡ held') → Stopped why lines s s'' held held''
+  stopped_kept WriteFault s'' held'' lines e short = absurd (let no = short.0 in cc)
+  stopped_kept OutOfMemory s'' held'' lines e short = cut_by_memory s'' held'' lines [] (e ∙ sym (append-nil ended)) short.2 (inl short.1)
+
+  stopped_where : (t : Bool) (why : Stop) (s'' : Stand) (held'' : Option (List ℕ)) (lines : List (List ℕ)) → lines ≡ (if t then ended ++ piece ∷ [] else ended)
+      → MatchBool t (Fails why line s' s'' held' held'') ((why ≡ OutOfMemory) × Stays s' s'' × (held'' ≡ held')) → Stopped why lines s s'' held held''
+  stopped_where true why s'' held'' lines e fails = stopped_by why s'' held'' lines e fails
+  stopped_where false why s'' held'' lines e fails = stopped_kept why s'' held'' lines e fails
+
   -- it stops at a byte
-  pub stopped_at_byte : (b : ℕ) (held'' : Option (List ℕ)) (why : Stop) → (why ≡ WriteFault → (b ≡ 10) × AppendsPart held' held'' (reply_to history line)) → (why ≡ OutOfMemory → held'' ≡ held')
-      → Stopped why (ended_lines (bytes ++ b ∷ [])) held held''
-  stopped_at_byte b held'' WriteFault fault memory =
-      let said = fault refl in
-      cut_by_fault held'' _ (ended_lines-push bytes b ∙ ap (λ t. if t then ended ++ piece ∷ [] else ended) (eq-eqb b 10 said.0)) said.1
-  stopped_at_byte b held'' OutOfMemory fault memory = cut_by_memory held'' _ (ended_from piece (b ∷ [])) (ended_lines-append bytes (b ∷ [])) (memory refl)
+  pub stopped_at_byte : (b : ℕ) (why : Stop) (s'' : Stand) (held'' : Option (List ℕ)) → FailsAt b why line s' s'' held' held'' → Stopped why (ended_lines (bytes ++ b ∷ [])) s s'' held held''
+  stopped_at_byte b why s'' held'' fails = stopped_where (b == 10) why s'' held'' _ (ended_lines-push bytes b) fails
 
   no_line : piece ≡ [] → line ≡ []
   no_line none = run.line_is ∙ ap (take 513) none
 
   -- at the end of the input all lines are answered
-  pub served_all : (held'' : Option (List ℕ)) → (line ≡ [] → held'' ≡ held') → ((line ≡ [] → ⊥) → Appends held' held'' (reply_to history line))
-      → Appends held held'' (replies_to empty_history (lines_of bytes))
-  served_all held'' none some = elim (open_cases piece) [
+  pub served_all : (s'' : Stand) (held'' : Option (List ℕ)) → (line ≡ [] → Stays s' s'' × (held'' ≡ held')) → ((line ≡ [] → ⊥) → IsAnswered line s' s'' held' held'')
+      → AllServed (lines_of bytes) s s'' held held''
+  served_all s'' held'' none some = elim (open_cases piece) [
     | inl empty ↦
         let lines : lines_of bytes ≡ ended = lines_of-from bytes ∙ ap (λ p. ended ++ unended p) empty ∙ append-nil ended in
-        subst (Appends held held'') (ap (replies_to empty_history) (sym lines)) (subst (λ h. Appends held h (replies_to empty_history ended)) (sym (none (no_line empty))) run.wrote)
+        let same = none (no_line empty) in
+        record {
+          written = replies_to s.history run.said;
+          wrote = subst (λ k. Appends held k (replies_to s.history run.said)) (sym same.1) run.wrote;
+          answers = record { said = run.said; say = subst (λ ls. Say ls run.said) (sym lines) run.say; text = refl; moved = moves_stay run.said s s' s'' run.moved same.0 };
+        }
     | inr last ↦
         let lines : lines_of bytes ≡ ended ++ piece ∷ [] = lines_of-from bytes ∙ ap (λ p. ended ++ p) last.0 in
-        subst (Appends held held'') (sym (replies_is _ lines)) (Appends-trans held held' held'' (replies_to empty_history ended) (reply_to history line) run.wrote (some (λ no. last.1 (sym run.line_is ∙ no))))
+        let answered = some (λ no. last.1 (sym run.line_is ∙ no)) in
+        record {
+          written = replies_to s.history (run.said ++ answered.said ∷ []);
+          wrote = all_written answered.said held'' answered.wrote;
+          answers = record {
+            said = run.said ++ answered.said ∷ [];
+            say = all_say _ answered.said lines answered.says;
+            text = refl;
+            moved = moves_more run.said answered.said s s' s'' run.moved answered.after;
+          };
+        }
   ]
 
   -- or it stops in the reply to the last one
-  pub stopped_at_end : (held'' : Option (List ℕ)) → (line ≡ [] → ⊥) → (why : Stop) → (why ≡ WriteFault → AppendsPart held' held'' (reply_to history line)) → (why ≡ OutOfMemory → held'' ≡ held')
-      → Stopped why (lines_of bytes) held held''
-  stopped_at_end held'' some WriteFault fault memory = elim (open_cases piece) [
+  pub stopped_at_end : (why : Stop) (s'' : Stand) (held'' : Option (List ℕ)) → (line ≡ [] → ⊥) → Fails why line s' s'' held' held'' → Stopped why (lines_of bytes) s s'' held held''
+  stopped_at_end why s'' held'' some fails = elim (open_cases piece) [
     | inl empty ↦ absurd (some (no_line empty))
-    | inr last ↦ cut_by_fault held'' _ (lines_of-from bytes ∙ ap (λ p. ended ++ p) last.0) (fault refl)
+    | inr last ↦ stopped_by why s'' held'' _ (lines_of-from bytes ∙ ap (λ p. ended ++ p) last.0) fails
   ]
-  stopped_at_end held'' some OutOfMemory fault memory = cut_by_memory held'' _ (unended piece) (lines_of-from bytes) (memory refl)
 
 -- a byte among others
 pub byte_among : (before bytes : List ℕ) (i d : ℕ) → i < length bytes → ((before ++ take i bytes) ++ get_or bytes i d ∷ []) ++ drop (i + 1) bytes ≡ before ++ bytes

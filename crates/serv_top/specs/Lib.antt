@@ -1,6 +1,4 @@
 pub mod Lines
-pub mod Values
-pub mod Forms
 pub mod Machine
 pub mod Replies
 pub mod Words
@@ -8,6 +6,3 @@ pub mod Status
 pub mod Outcome
 pub mod Serving
 pub mod Stop
-pub mod Answers
-pub mod KnownKeys
-pub mod World

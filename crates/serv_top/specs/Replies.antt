@@ -1,28 +1,74 @@
 -- What the machine says to the lines of a stream, one after the other.
-use Rattle.std.specs.Prelude.{◌≡◌, ℕ, ◌⊎◌, List, [], ◌∷◌, ◌++◌}
+use Rattle.std.specs.Prelude.{◌≡◌, ℕ, ◌+◌, ◌≤◌, ◌⊎◌, List, [], ◌∷◌, ◌++◌}
 use Rattle.serv_disk.specs.Faults.{IsProperPrefix}
-use Rattle.serv_top.specs.Machine.{History, empty_history, reply_to, history_after}
+use Rattle.serv_top.specs.Machine.{History, Said, Says, reply_to, history_after, bound_of, Stand, Stays, Moves, IsTried}
 
--- the history after all the lines
-abbrev pub history_after_all : History → List (List ℕ) → History
-history_after_all history [] = history
-history_after_all history (line ∷ lines) = history_after_all (history_after history line) lines
+-- what the lines say, each in turn
+abbrev pub Say : List (List ℕ) → List Said → Type 0
+Say [] [] = Unit {0}
+Say [] (said ∷ more) = ⊥
+Say (line ∷ lines) [] = ⊥
+Say (line ∷ lines) (said ∷ more) = Says line said × Say lines more
 
--- the replies to all the lines, joined
-abbrev pub replies_to : History → List (List ℕ) → List ℕ
-replies_to history [] = []
-replies_to history (line ∷ lines) = reply_to history line ++ replies_to (history_after history line) lines
+-- the history after all of it
+abbrev pub history_after_all : History → List Said → History
+history_after_all h [] = h
+history_after_all h (said ∷ more) = history_after_all (history_after h said) more
 
--- the replies to some first lines are written whole, and of the reply to the next line a part that is not all of it
-pub record IsCutIn (lines : List (List ℕ)) (written : List ℕ) : Type 0 where
+-- the replies to all of it, joined
+abbrev pub replies_to : History → List Said → List ℕ
+replies_to h [] = []
+replies_to h (said ∷ more) = reply_to h said ++ replies_to (history_after h said) more
+
+-- the steps of all of it, at most
+abbrev pub bound_of_all : History → List Said → ℕ
+bound_of_all h [] = 0
+bound_of_all h (said ∷ more) = bound_of h said + bound_of_all (history_after h said) more
+
+-- all of it was acted on, within its bound
+abbrev pub MovesAll : List Said → Stand → Stand → Type 0
+MovesAll saids s s' =
+    (s'.history ≡ history_after_all s.history saids) × (s'.steps ≤ s.steps + bound_of_all s.history saids)
+
+-- all these lines were acted on, and the replies to them are written
+pub record Answers (lines : List (List ℕ)) (s s' : Stand) (written : List ℕ) : Type 0 where
+  pub said : List Said
+  pub say : Say lines said
+  pub text : written ≡ replies_to s.history said
+  pub moved : MovesAll said s s'
+
+-- some first lines and the next one were acted on; the replies to the first ones are written whole, and of the reply to the
+-- next one a part that is not all of it
+pub record IsCutIn (lines : List (List ℕ)) (s s' : Stand) (written : List ℕ) : Type 0 where
   pub answered : List (List ℕ)
   pub next : List ℕ
   pub others : List (List ℕ)
-  pub part : List ℕ
   pub lines_are : lines ≡ answered ++ next ∷ others
-  pub text : written ≡ replies_to empty_history answered ++ part
-  pub partial : IsProperPrefix part (reply_to (history_after_all empty_history answered) next)
+  pub said : List Said
+  pub say : Say answered said
+  pub before : Stand
+  pub moved : MovesAll said s before
+  pub last : Said
+  pub says : Says next last
+  pub part : List ℕ
+  pub text : written ≡ replies_to s.history said ++ part
+  pub partial : IsProperPrefix part (reply_to before.history last)
+  pub after : Moves last before s'
 
--- the replies to some first lines are written, or to all of them, and at most a part of the next one
-abbrev pub IsBegun : List (List ℕ) → List ℕ → Type 0
-IsBegun lines written = (written ≡ replies_to empty_history lines) ⊎ IsCutIn lines written
+-- the next one of some lines was acted on or not
+abbrev pub IsTriedNext : List (List ℕ) → Stand → Stand → Type 0
+IsTriedNext [] s s' = ⊥
+IsTriedNext (line ∷ lines) s s' = IsTried line s s'
+
+-- some first lines were acted on, or all of them, and their replies are written; and perhaps one line more was acted on,
+-- of whose reply nothing is written
+pub record IsBegun (lines : List (List ℕ)) (s s' : Stand) (written : List ℕ) : Type 0 where
+  pub answered : List (List ℕ)
+  pub others : List (List ℕ)
+  pub lines_are : lines ≡ answered ++ others
+  pub said : List Said
+  pub say : Say answered said
+  pub before : Stand
+  pub moved : MovesAll said s before
+  pub text : written ≡ replies_to s.history said
+  pub after : Stays before s' ⊎ IsTriedNext others before s'

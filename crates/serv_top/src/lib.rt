@@ -1,20 +1,13 @@
 //! The program's top call: request lines from a source, replies to a sink, and the status of the run.
 #![tactic(auto)]
 
-mod answers;
-mod form;
-mod form_reading;
-mod form_values;
-mod form_words;
-mod judging;
-mod keys;
-mod loan;
-mod replies;
+mod answering;
+mod laws;
+mod machine;
 mod serving;
-mod session;
 mod status;
 mod top;
-mod verdict;
 
+pub use laws::lines_have_one_answer;
 pub use status::Status;
 pub use top::{INPUT_LIMIT, run};

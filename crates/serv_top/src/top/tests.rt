@@ -1,13 +1,20 @@
+mod sharing;
+mod tables;
+
 ghost use Rattle.std.specs.Prelude.{◌≡◌, ◌<◌};
 
 use super::{INPUT_LIMIT, run};
 use crate::Status;
 use serv_disk::{MemSink, MemSource, Source};
+use sharing::{Telling, Waiting};
 use std::alloc::{AllocError, Global};
+use std::cell::Cell;
 use std::marker::Brand;
+use std::process::Abort;
 use std::sync::ledger::{Blank, Ledger};
 use std::test::Fail;
 use svc_base::Steps;
+use tables::*;
 
 /// What a run over memory came to.
 #[derive(Drop)]
@@ -46,6 +53,27 @@ fn run_over<L: Ledger>(
         output: Vec::from_slice(alloc, snk.content())?,
         left: Vec::from_slice(alloc, &room[..count])?,
     })
+}
+
+/// Runs the words `j session`, or `j frob`, with steps that are counted from 0.
+fn run_either(
+    alloc: Global,
+    known: bool,
+    input: Vec<u8>,
+    reads: Vec<u32>,
+    writes: Vec<u32>,
+) -> Result<Ending, AllocError> {
+    run_over::<Brand>(alloc, Blank::new(1), known, input, reads, writes)
+}
+
+/// Runs the words `j session`.
+fn run_known(
+    alloc: Global,
+    input: Vec<u8>,
+    reads: Vec<u32>,
+    writes: Vec<u32>,
+) -> Result<Ending, AllocError> {
+    run_either(alloc, true, input, reads, writes)
 }
 
 /// A run with its expected status, output and rest.
@@ -119,7 +147,7 @@ fn each_status_has_its_output_and_rest(rt: HostRuntime) -> Result<(), Fail> {
         let input = Vec::from_slice(rt.alloc(), case.input)?;
         let reads = Vec::from_slice(rt.alloc(), case.reads)?;
         let writes = Vec::from_slice(rt.alloc(), case.writes)?;
-        let end = run_over::<Brand>(rt.alloc(), Blank::new(1), case.known, input, reads, writes)?;
+        let end = run_either(rt.alloc(), case.known, input, reads, writes)?;
         assert_eq!(rt; end.status, case.status, "case {i}");
         assert_eq!(rt; end.output.as_slice(), case.output, "case {i}");
         assert_eq!(rt; end.left.as_slice(), case.left, "case {i}");
@@ -127,61 +155,298 @@ fn each_status_has_its_output_and_rest(rt: HostRuntime) -> Result<(), Fail> {
     Ok(())
 }
 
-/// A loan of 200,000.00 at 6 percent whose first installment, 1,199.10, is due on 2024-02-01.
-const BOARDED: &[u8] =
-    b"k1 day 2024-02-01\nk2 board 1 2023-12-15 200000.00 6000 250 1199.10 360 2024-02 15 500 2 0.00 SS\n";
-
-/// What `j session` replies to these lines over the loan above.
-fn replies_to<L: Ledger>(alloc: Global, blank: Blank, lines: &[u8]) -> Result<String, AllocError>
-    requires name { blank.name ≡ L.name }
-    requires parts { blank.parts ≡ L.parts }
-    requires some { 0 < L.parts }
-{
-    let mut input = Vec::from_slice(alloc, BOARDED)?;
-    input.extend_from_slice(lines)?;
-    let end = run_over::<L>(alloc, blank, true, input, Vec::new(alloc), Vec::new(alloc))?;
-    String::from_utf8_lossy(alloc, &end.output)
+/// Runs the lines of these tables, one table after the other, and compares the output with their replies.
+fn check(rt: &(impl Abort + AllocGlobal), tables: &[&[Exchange]]) -> Result<(), Fail> {
+    let mut talk = Talk::new(rt.alloc());
+    for table in tables {
+        for (line, reply) in *table {
+            talk.add(line, reply)?;
+        }
+    }
+    talk.check(rt)
 }
 
 #[test]
 fn a_first_payment_is_booked(rt: HostRuntime) -> Result<(), Fail> {
-    let replies = replies_to::<Brand>(
-        rt.alloc(),
-        Blank::new(1),
-        b"k3 pay 1 2024-02-01 1199.10\n? books 1\n",
-    )?;
-    assert_eq!(rt;
-        replies.as_str(),
-        "ok 1\nok 2\nok 3\nbooks 1 2024-02-01 upb 199800.90 next 2024-03 escrow 0.00 suspense 0.00 late 0.00 interest 1000.00 fee 41.67 principal 199.10 charges 0.00 pay 1199.10\n"
-    );
-    Ok(())
+    check(&rt, &[&TAKEN_ON, &FIRST_PAYMENT, &FIRST_BOOKS, &FIRST_ROWS])
 }
 
 #[test]
-fn a_refused_payment_changes_nothing(rt: HostRuntime) -> Result<(), Fail> {
-    let replies = replies_to::<Brand>(
-        rt.alloc(),
-        Blank::new(1),
-        b"k3 pay 1 2024-02-01 1199.09\nk3 pay 7 2024-02-01 1199.10\nk3 pay 1 2024-02-02 1199.10\n? books 7\nk2 pay 1 2024-02-01 1199.10\nk3 pay 1 2024-02-01 1199.10\n",
-    )?;
-    assert_eq!(rt;
-        replies.as_str(),
-        "ok 1\nok 2\nno 99 NotBuilt\nno 5 NoSuchLoan\nno 9 FutureDated 2024-02-01\nno 5 NoSuchLoan\nno 99 NotBuilt\nok 3\n"
-    );
-    Ok(())
+fn an_installment_is_paid_in_parts(rt: HostRuntime) -> Result<(), Fail> {
+    check(&rt, &[&TAKEN_ON, &PAID_IN_PARTS])
 }
 
 #[test]
-fn a_day_on_which_a_loan_is_late_is_not_built(rt: HostRuntime) -> Result<(), Fail> {
-    let replies = replies_to::<Brand>(
-        rt.alloc(),
-        Blank::new(1),
-        b"k3 day 2024-02-17\nk3 day 2024-02-01\nk3 day 2024-02-16\n",
+fn a_late_charge_comes_on_its_day(rt: HostRuntime) -> Result<(), Fail> {
+    check(&rt, &[&TAKEN_ON, &FIRST_PAYMENT, &LATE])
+}
+
+#[test]
+fn closed_months_are_remitted(rt: HostRuntime) -> Result<(), Fail> {
+    check(
+        &rt,
+        &[&TAKEN_ON, &FIRST_PAYMENT, &CLOSED, &ADVANCED, &PAID_BACK],
+    )
+}
+
+#[test]
+fn a_late_payment_adjusts_a_closed_month(rt: HostRuntime) -> Result<(), Fail> {
+    check(&rt, &[&ACTUAL])
+}
+
+#[test]
+fn a_repeated_line_acts_once(rt: HostRuntime) -> Result<(), Fail> {
+    check(&rt, &[&TAKEN_ON, &FIRST_PAYMENT, &REPEATED])
+}
+
+#[test]
+fn a_reversal_adjusts_closed_months(rt: HostRuntime) -> Result<(), Fail> {
+    check(&rt, &[&REVERSED])
+}
+
+#[test]
+fn a_payoff_is_reversed(rt: HostRuntime) -> Result<(), Fail> {
+    check(
+        &rt,
+        &[&TAKEN_ON, &FIRST_PAYMENT, &PAID_OFF, &PAYOFF_REVERSED],
+    )
+}
+
+#[test]
+fn a_surplus_is_refunded(rt: HostRuntime) -> Result<(), Fail> {
+    check(&rt, &[&ESCROWED, &SURPLUS])
+}
+
+#[test]
+fn a_small_surplus_is_credited(rt: HostRuntime) -> Result<(), Fail> {
+    check(&rt, &[&ESCROWED, &CREDITED])
+}
+
+#[test]
+fn a_small_shortage_is_paid_at_once(rt: HostRuntime) -> Result<(), Fail> {
+    check(&rt, &[&ESCROWED, &SMALL_SHORTAGE])
+}
+
+#[test]
+fn a_shortage_is_spread(rt: HostRuntime) -> Result<(), Fail> {
+    check(&rt, &[&ESCROWED, &SHORTAGE])
+}
+
+#[test]
+fn nothing_is_planned_where_nothing_is_short(rt: HostRuntime) -> Result<(), Fail> {
+    check(&rt, &[&ESCROWED, &NO_SHORTAGE])
+}
+
+#[test]
+fn one_bill_has_a_cushion(rt: HostRuntime) -> Result<(), Fail> {
+    check(&rt, &[&ONE_BILL])
+}
+
+#[test]
+fn escrow_is_advanced(rt: HostRuntime) -> Result<(), Fail> {
+    check(&rt, &[&ESCROW_ADVANCED])
+}
+
+#[test]
+fn principal_is_paid_ahead(rt: HostRuntime) -> Result<(), Fail> {
+    check(&rt, &[&TAKEN_ON, &FIRST_PAYMENT, &CURTAILED])
+}
+
+#[test]
+fn a_late_charge_is_paid(rt: HostRuntime) -> Result<(), Fail> {
+    check(&rt, &[&TAKEN_ON, &FIRST_PAYMENT, &CHARGED])
+}
+
+#[test]
+fn a_month_that_has_not_ended_is_not_closed(rt: HostRuntime) -> Result<(), Fail> {
+    check(&rt, &[&TOO_EARLY])
+}
+
+#[test]
+fn months_are_closed_in_turn(rt: HostRuntime) -> Result<(), Fail> {
+    check(&rt, &[&TAKEN_ON, &FIRST_PAYMENT, &WRONG_PERIOD])
+}
+
+#[test]
+fn rules_refuse_after_a_close(rt: HostRuntime) -> Result<(), Fail> {
+    check(&rt, &[&TAKEN_ON, &FIRST_PAYMENT, &CLOSED, &REFUSED])
+}
+
+#[test]
+fn a_line_that_is_no_request_has_a_place(rt: HostRuntime) -> Result<(), Fail> {
+    check(&rt, &[&NO_REQUESTS, &TAKEN_ON])
+}
+
+/// Lines, and the replies to them.
+#[derive(Drop)]
+struct Talk {
+    input: Vec<u8>,
+    replies: Vec<u8>,
+}
+
+impl Talk {
+    fn new(alloc: Global) -> Talk {
+        Talk {
+            input: Vec::new(alloc),
+            replies: Vec::new(alloc),
+        }
+    }
+
+    /// Adds a line and the reply to it.
+    fn add(&mut self, line: &str, reply: &str) -> Result<(), AllocError> {
+        self.input.extend_from_slice(line.as_bytes())?;
+        self.input.push(b'\n')?;
+        self.replies.extend_from_slice(reply.as_bytes())?;
+        self.replies.push(b'\n')?;
+        Ok(())
+    }
+
+    /// Adds a command under the key of its number, which is accepted.
+    fn accept(
+        &mut self,
+        alloc: Global,
+        number: u32,
+        command: &str,
+        found: &str,
+    ) -> Result<(), AllocError> {
+        let line = format!(in alloc; "k{number} {command}")?;
+        let reply = format!(in alloc; "ok {number}{found}")?;
+        self.add(&line, &reply)
+    }
+
+    /// Runs the lines, and compares the output with the replies.
+    fn check(self, rt: &(impl Abort + AllocGlobal)) -> Result<(), Fail> {
+        let none = Vec::new(rt.alloc());
+        let end = run_known(rt.alloc(), self.input, none, Vec::new(rt.alloc()))?;
+        assert_eq!(rt; end.status, Status::Done);
+        let output = String::from_utf8_lossy(rt.alloc(), &end.output)?;
+        let expected = String::from_utf8_lossy(rt.alloc(), &self.replies)?;
+        assert_eq!(rt; output.as_str(), expected.as_str());
+        Ok(())
+    }
+}
+
+/// Adds installments of the loans from 1 to `last`, twice; so many commands come before them.
+fn pay_all(
+    talk: &mut Talk,
+    alloc: Global,
+    before: u32,
+    last: u32,
+    day: &str,
+) -> Result<(), AllocError> {
+    for _ in 0..2 {
+        for id in 1..=last {
+            let command = format!(in alloc; "pay {id} {day} 1199.10")?;
+            talk.accept(alloc, before.saturating_add(id), &command, "")?;
+        }
+    }
+    Ok(())
+}
+
+/// The remittance type of a loan with that number.
+fn kind_of(id: u32) -> &'static str {
+    match id % 3 {
+        1 => "AA",
+        2 => "SA",
+        _ => "SS",
+    }
+}
+
+#[test]
+fn a_month_of_forty_loans(rt: HostRuntime) -> Result<(), Fail> {
+    let alloc = rt.alloc();
+    let mut talk = Talk::new(alloc);
+    talk.accept(alloc, 1, "day 2024-02-01", "")?;
+    for id in 1..=40 {
+        let kind = kind_of(id);
+        let command = format!(in alloc;
+            "board {id} 2023-12-15 200000.00 6000 250 1199.10 360 2024-02 15 500 2 0.00 {kind}"
+        )?;
+        talk.accept(alloc, id + 1, &command, "")?;
+    }
+    pay_all(&mut talk, alloc, 41, 40, "2024-02-01")?;
+    talk.accept(alloc, 82, "day 2024-03-05", "")?;
+    pay_all(&mut talk, alloc, 82, 30, "2024-03-05")?;
+    talk.accept(alloc, 113, "day 2024-04-01", "")?;
+    talk.accept(
+        alloc,
+        114,
+        "close 2023-12",
+        " lines 40 interest 0.00 principal 0.00",
     )?;
-    assert_eq!(rt;
-        replies.as_str(),
-        "ok 1\nok 2\nno 99 NotBuilt\nno 99 NotBuilt\nok 3\n"
-    );
+    talk.accept(
+        alloc,
+        115,
+        "close 2024-01",
+        " lines 40 interest 0.00 principal 0.00",
+    )?;
+    talk.accept(
+        alloc,
+        116,
+        "close 2024-02",
+        " lines 40 interest 38333.20 principal 7964.00",
+    )?;
+    talk.accept(
+        alloc,
+        117,
+        "close 2024-03",
+        " lines 40 interest 34465.32 principal 6603.30",
+    )?;
+    talk.accept(alloc, 118, "remit 2023-12", " net 0.00")?;
+    talk.accept(alloc, 119, "remit 2024-01", " net 0.00")?;
+    talk.accept(alloc, 120, "remit 2024-02", " net 46297.20")?;
+    talk.accept(alloc, 121, "remit 2024-03", " net 41068.62")?;
+    talk.add(
+        "? custodial",
+        "custodial T 0.00 P 0.00 suspense 0.00 escrow 0.00 escrow-advance 0.00 held 0.00 pi-advance 6344.52",
+    )?;
+    for id in 31..=40 {
+        let line = format!(in alloc; "? books {id}")?;
+        let books = format!(in alloc;
+            "books {id} 2024-04-01 upb 199800.90 next 2024-03 escrow 0.00 suspense 0.00 late 59.96 interest 1000.00 fee 41.67 principal 199.10 charges 0.00 pay 1199.10"
+        )?;
+        talk.add(&line, &books)?;
+    }
+    talk.check(&rt)
+}
+
+#[test]
+fn five_thousand_lines_are_answered(rt: HostRuntime) -> Result<(), Fail> {
+    let alloc = rt.alloc();
+    let mut talk = Talk::new(alloc);
+    talk.accept(alloc, 1, "day 2024-02-01", "")?;
+    talk.accept(
+        alloc,
+        2,
+        "board 1 2023-12-15 200000.00 6000 250 1199.10 360 2024-02 15 500 2 0.00 SS",
+        "",
+    )?;
+    for number in 3..=5_000 {
+        talk.accept(alloc, number, "line 1 1 tax 7 12 100.00", "")?;
+    }
+    talk.check(&rt)
+}
+
+/// Runs `j session` over a source and a sink that share a cell, and says how many bytes were written.
+fn bytes_written<L: Ledger>(alloc: Global, blank: Blank) -> usize
+    requires name { blank.name ≡ L.name }
+    requires parts { blank.parts ≡ L.parts }
+    requires some { 0 < L.parts }
+{
+    let written = Cell::new(0);
+    let mut src = Waiting::new(&written);
+    let mut snk = Telling::new(&written);
+    let mut steps = Steps::<L>::new(blank);
+    match run(alloc, &["j", "session"], &mut src, &mut snk, &mut steps) {
+        Status::Done => written.get(),
+        _ => 0,
+    }
+}
+
+#[test]
+fn a_reply_is_written_before_the_next_read(rt: HostRuntime) -> Result<(), Fail> {
+    let written = bytes_written::<Brand>(rt.alloc(), Blank::new(1));
+    assert_eq!(rt; written, b"ok 1\nok 2\n".len());
     Ok(())
 }
 
@@ -190,16 +455,9 @@ fn a_line_of_513_bytes_is_too_long(rt: HostRuntime) -> Result<(), Fail> {
     let mut input = vec![in rt.alloc(); b'x'; 6000]?;
     input.extend_from_slice(b"\nk1 day 2024-02-01\n")?;
     let none = Vec::new(rt.alloc());
-    let end = run_over::<Brand>(
-        rt.alloc(),
-        Blank::new(1),
-        true,
-        input,
-        none,
-        Vec::new(rt.alloc()),
-    )?;
+    let end = run_known(rt.alloc(), input, none, Vec::new(rt.alloc()))?;
     assert_eq!(rt; end.status, Status::Done);
-    assert_eq!(rt; end.output.as_slice(), b"no 99 NotBuilt\nok 1\n".as_slice());
+    assert_eq!(rt; end.output.as_slice(), b"bad 512\nok 1\n".as_slice());
     Ok(())
 }
 
@@ -208,14 +466,7 @@ fn too_much_input_ends_without_output(rt: HostRuntime) -> Result<(), Fail> {
     let mut input = vec![in rt.alloc(); b'x'; INPUT_LIMIT as usize]?;
     input.push(b'y')?;
     let none = Vec::new(rt.alloc());
-    let end = run_over::<Brand>(
-        rt.alloc(),
-        Blank::new(1),
-        true,
-        input,
-        none,
-        Vec::new(rt.alloc()),
-    )?;
+    let end = run_known(rt.alloc(), input, none, Vec::new(rt.alloc()))?;
     assert_eq!(rt; end.status, Status::TooMuch(INPUT_LIMIT));
     assert_eq!(rt; end.output.len(), 0);
     assert_eq!(rt; end.left.as_slice(), b"y".as_slice());

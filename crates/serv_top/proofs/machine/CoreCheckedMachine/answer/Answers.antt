@@ -1,0 +1,11 @@
+use Rattle.std.proofs.Common.{refl}
+use Rattle.std.proofs.lemmas.Result.{IfOk-weaker}
+use Rattle.serv_report.specs.AnswerTexts.{IsSpellable}
+use Rattle.serv_top.proofs.SpellLemmas.{spelled}
+use Rattle.serv_top.proofs.machine.CoreCheckedMachine.answer.Goals as goal
+
+pub returns-clause-spelled : goal.returns-clause-spelled
+returns-clause-spelled g c = IfOk-weaker c.ask.result _ IsSpellable (λ a e. spelled _ _ a c.history_holds.ensures.history e) c.ask.ensures.answer
+
+pub returns-clause-steps : goal.returns-clause-steps
+returns-clause-steps g c = c.ask.ensures.bound (λ a m. refl)
