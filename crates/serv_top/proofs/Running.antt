@@ -9,38 +9,32 @@ use Rattle.serv_top.specs.declared.status.Status.{Status}
 use Rattle.serv_top.specs.declared.status.Status.TheVariants as status
 use Rattle.serv_top.specs.Lines.{lines_of, ended_lines}
 use Rattle.serv_top.specs.Machine.{History, Stand, stand}
-use Rattle.serv_top.specs.Replies.{Answers, replies_to}
-use Rattle.serv_top.specs.Serving.{Served, Stopped}
+use Rattle.serv_top.specs.Serving.{AllServed, Served, Stopped}
 use Rattle.serv_top.specs.Stop.{status_of}
 use Rattle.serv_top.specs.Outcome.{Ended, Ran, input_limit}
-use Rattle.serv_top.proofs.ServedLemmas.{served_none, AllServed}
+use Rattle.serv_top.proofs.ServedLemmas.{served_none}
 
 -- the bytes taken are served
-pub record Running (s s' : Stand) (left left' held held' : Option (List ℕ)) (line : List ℕ) (count : ℕ) : Type 0 where
+pub record Running (s s' : Stand) (left left' held held' : Option (List ℕ)) (line text : List ℕ) (count : ℕ) : Type 0 where
   pub taken : List ℕ
   pub took : Consumes left left' taken
-  pub served : Served taken s s' held held' line
+  pub served : Served taken s s' held held' line text
   pub count_is : count ≡ length taken
 
-pub running_none : (s s' : Stand) (left held : Option (List ℕ)) (line : List ℕ) → line ≡ [] → s'.history ≡ s.history → s'.steps ≤ s.steps → Running s s' left left held held line 0
-running_none s s' left held line no_line same cost = record { taken = []; took = Consumes-nil left; served = served_none s s' held line no_line same cost; count_is = refl }
-
--- the replies to the lines that ended are written
-pub answers_ended : {s s' : Stand} {left left' held held' : Option (List ℕ)} {line : List ℕ} {count : ℕ} (run : Running s s' left left' held held' line count)
-    → Answers (ended_lines run.taken) s s' (replies_to s.history run.served.said)
-answers_ended run = record { said = run.served.said; say = run.served.say; text = refl; moved = run.served.moved }
+pub running_none : (s s' : Stand) (left held : Option (List ℕ)) (line text : List ℕ) → line ≡ [] → text ≡ [] → s'.history ≡ s.history → s'.steps ≤ s.steps → Running s s' left left held held line text 0
+running_none s s' left held line text no_line no_text same cost = record { taken = []; took = Consumes-nil left; served = served_none s s' held line text no_line no_text same cost; count_is = refl }
 
 -- more bytes are taken and served
-pub running_more : {s s' : Stand} {left left' held held' : Option (List ℕ)} {line : List ℕ} {count : ℕ} (run : Running s s' left left' held held' line count)
-    (bytes : List ℕ) (n : ℕ) (s'' : Stand) (left'' held'' : Option (List ℕ)) (line' : List ℕ) → length bytes ≡ n → Consumes left' left'' bytes
-    → Served (run.taken ++ bytes) s s'' held held'' line' → Running s s'' left left'' held held'' line' (count + n)
-running_more {left} {left'} run bytes n s'' left'' held'' line' long took served =
+pub running_more : {s s' : Stand} {left left' held held' : Option (List ℕ)} {line text : List ℕ} {count : ℕ} (run : Running s s' left left' held held' line text count)
+    (bytes : List ℕ) (n : ℕ) (s'' : Stand) (left'' held'' : Option (List ℕ)) (line' text' : List ℕ) → length bytes ≡ n → Consumes left' left'' bytes
+    → Served (run.taken ++ bytes) s s'' held held'' line' text' → Running s s'' left left'' held held'' line' text' (count + n)
+running_more {left} {left'} run bytes n s'' left'' held'' line' text' long took served =
     let counted = run.count_is in
     let joined = length-append run.taken bytes in
     record { taken = run.taken ++ bytes; took = Consumes-trans left left' left'' run.taken bytes run.took took; served = served; count_is = omega arith }
 
 -- it stops at one of the bytes that were taken last
-pub ended_at_bytes : {s s' : Stand} {left left' held held' : Option (List ℕ)} {line : List ℕ} {count : ℕ} (run : Running s s' left left' held held' line count)
+pub ended_at_bytes : {s s' : Stand} {left left' held held' : Option (List ℕ)} {line text : List ℕ} {count : ℕ} (run : Running s s' left left' held held' line text count)
     (bytes : List ℕ) (n : ℕ) (s'' : Stand) (left'' held'' : Option (List ℕ)) → length bytes ≡ n → count + n ≤ input_limit → Consumes left' left'' bytes
     → (why : Stop) → Stopped why (ended_lines (run.taken ++ bytes)) s s'' held held'' → Ended (status_of why) s s'' left left'' held held''
 ended_at_bytes {left} {left'} run bytes n s'' left'' held'' long within took stop.WriteFault stopped =
@@ -53,18 +47,18 @@ ended_at_bytes {left} {left'} run bytes n s'' left'' held'' long within took sto
     record { taken = run.taken ++ bytes; written = stopped.written; took = Consumes-trans left left' left'' run.taken bytes run.took took; wrote = stopped.wrote; says = (omega arith, inl stopped.says) }
 
 -- the end of the input
-end_took : {s s' : Stand} {left left' held held' : Option (List ℕ)} {line : List ℕ} {count : ℕ} (run : Running s s' left left' held held' line count)
+end_took : {s s' : Stand} {left left' held held' : Option (List ℕ)} {line text : List ℕ} {count : ℕ} (run : Running s s' left left' held held' line text count)
     (left'' : Option (List ℕ)) → Consumes left' left'' [] → Consumes left left'' run.taken
 end_took {left} {left'} run left'' took = subst (Consumes left left'') (append-nil run.taken) (Consumes-trans left left' left'' run.taken [] run.took took)
 
-pub ended_done : {s s' : Stand} {left left' held held' : Option (List ℕ)} {line : List ℕ} {count : ℕ} (run : Running s s' left left' held held' line count)
+pub ended_done : {s s' : Stand} {left left' held held' : Option (List ℕ)} {line text : List ℕ} {count : ℕ} (run : Running s s' left left' held held' line text count)
     (s'' : Stand) (left'' held'' : Option (List ℕ)) → count < input_limit → Consumes left' left'' [] → IsAtEnd left'' → AllServed (lines_of run.taken) s s'' held held''
     → Ended status.Done s s'' left left'' held held''
 ended_done run s'' left'' held'' below took end all =
     let counted = run.count_is in
     record { taken = run.taken; written = all.written; took = end_took run left'' took; wrote = all.wrote; says = (end, omega arith, all.answers) }
 
-pub ended_at_end : {s s' : Stand} {left left' held held' : Option (List ℕ)} {line : List ℕ} {count : ℕ} (run : Running s s' left left' held held' line count)
+pub ended_at_end : {s s' : Stand} {left left' held held' : Option (List ℕ)} {line text : List ℕ} {count : ℕ} (run : Running s s' left left' held held' line text count)
     (s'' : Stand) (left'' held'' : Option (List ℕ)) → count < input_limit → Consumes left' left'' [] → IsAtEnd left'' → (why : Stop) → Stopped why (lines_of run.taken) s s'' held held''
     → Ended (status_of why) s s'' left left'' held held''
 ended_at_end run s'' left'' held'' below took end stop.WriteFault stopped =
@@ -83,7 +77,7 @@ ran_nothing steps left held = record {
     written = [];
     took = Consumes-nil left;
     wrote = Appends-nil held;
-    says = (omega arith, inl (record { answered = []; others = []; lines_are = refl; said = []; say = tt; before = stand [] steps; moved = (refl, omega arith); text = refl; after = inl (refl, omega arith) }));
+    says = (omega arith, inl (record { acted = []; others = []; lines_are = refl; said = []; say = tt; before = stand [] steps; moved = (refl, omega arith); rest = []; text = refl; after = inl (refl, omega arith) }));
   };
 }
 

@@ -1,7 +1,7 @@
 -- What the machine says to the lines of a stream, one after the other.
 use Rattle.std.specs.Prelude.{◌≡◌, ℕ, ◌+◌, ◌≤◌, ◌⊎◌, List, [], ◌∷◌, ◌++◌}
 use Rattle.serv_disk.specs.Faults.{IsProperPrefix}
-use Rattle.serv_top.specs.Machine.{History, Said, Says, reply_to, history_after, bound_of, Stand, Stays, Moves, IsTried}
+use Rattle.serv_top.specs.Machine.{History, Said, Says, reply_to, history_after, bound_of, Stand, Stays, IsTried}
 
 -- what the lines say, each in turn
 abbrev pub Say : List (List ℕ) → List Said → Type 0
@@ -37,38 +37,47 @@ pub record Answers (lines : List (List ℕ)) (s s' : Stand) (written : List ℕ)
   pub text : written ≡ replies_to s.history said
   pub moved : MovesAll said s s'
 
--- some first lines and the next one were acted on; the replies to the first ones are written whole, and of the reply to the
--- next one a part that is not all of it
+-- some first lines were acted on, or all of them, and of the replies to them a front part that is not all of it is written:
+-- whole replies, and at most a part of one
 pub record IsCutIn (lines : List (List ℕ)) (s s' : Stand) (written : List ℕ) : Type 0 where
+  pub acted : List (List ℕ)
+  pub others : List (List ℕ)
+  pub lines_are : lines ≡ acted ++ others
+  pub said : List Said
+  pub say : Say acted said
+  pub moved : MovesAll said s s'
+  pub cut : IsProperPrefix written (replies_to s.history said)
+
+-- the same by what is written alone: the replies to some first lines are written whole, and of the reply to the next line
+-- a part that is not all of it
+pub record IsCutAt (lines : List (List ℕ)) (h : History) (written : List ℕ) : Type 0 where
   pub answered : List (List ℕ)
   pub next : List ℕ
   pub others : List (List ℕ)
   pub lines_are : lines ≡ answered ++ next ∷ others
   pub said : List Said
   pub say : Say answered said
-  pub before : Stand
-  pub moved : MovesAll said s before
   pub last : Said
   pub says : Says next last
   pub part : List ℕ
-  pub text : written ≡ replies_to s.history said ++ part
-  pub partial : IsProperPrefix part (reply_to before.history last)
-  pub after : Moves last before s'
+  pub text : written ≡ replies_to h said ++ part
+  pub partial : IsProperPrefix part (reply_to (history_after_all h said) last)
 
 -- the next one of some lines was acted on or not
 abbrev pub IsTriedNext : List (List ℕ) → Stand → Stand → Type 0
 IsTriedNext [] s s' = ⊥
 IsTriedNext (line ∷ lines) s s' = IsTried line s s'
 
--- some first lines were acted on, or all of them, and their replies are written; and perhaps one line more was acted on,
--- of whose reply nothing is written
+-- some first lines were acted on, or all of them, and perhaps one line more; of the replies to the first ones a front part
+-- is written, or all of it
 pub record IsBegun (lines : List (List ℕ)) (s s' : Stand) (written : List ℕ) : Type 0 where
-  pub answered : List (List ℕ)
+  pub acted : List (List ℕ)
   pub others : List (List ℕ)
-  pub lines_are : lines ≡ answered ++ others
+  pub lines_are : lines ≡ acted ++ others
   pub said : List Said
-  pub say : Say answered said
+  pub say : Say acted said
   pub before : Stand
   pub moved : MovesAll said s before
-  pub text : written ≡ replies_to s.history said
+  pub rest : List ℕ
+  pub text : replies_to s.history said ≡ written ++ rest
   pub after : Stays before s' ⊎ IsTriedNext others before s'

@@ -24,6 +24,7 @@ pub(crate) fn answer_line<M: Machine, L: Ledger>(
 ) -> Result<(), OutOfMemory>
     ensures replied { OnOk result (IsReplied line.now (stand (M.history machine.old) steps.old)
         (stand (M.history machine.new) steps.new) out.old.items out.new.items) }
+    ensures kept { OnErr result (out.new.items ≡ out.old.items) }
     ensures tried { OnErr result (IsTried line.now (stand (M.history machine.old) steps.old)
         (stand (M.history machine.new) steps.new)) }
 {
@@ -43,6 +44,7 @@ fn answer_request<M: Machine, L: Ledger>(
     requires { IsRequest request.now }
     ensures reply { OnOk result
         (out.new.items ≡ out.old.items ++ reply_to_request (M.history machine.old) request.now) }
+    ensures kept { OnErr result (out.new.items ≡ out.old.items) }
     ensures history { OnOk result
         (M.history machine.new ≡ history_after_request (M.history machine.old) request.now) }
     ensures near { OnErr result ((M.history machine.new ≡ M.history machine.old)
@@ -67,6 +69,7 @@ fn answer_command<M: Machine, L: Ledger>(
     requires { IsCommand command.now }
     ensures reply { OnOk result (out.new.items
         ≡ out.old.items ++ reply_to_request (M.history machine.old) (request.Do key.now command.now)) }
+    ensures kept { OnErr result (out.new.items ≡ out.old.items) }
     ensures history { OnOk result (M.history machine.new
         ≡ history_after_request (M.history machine.old) (request.Do key.now command.now)) }
     ensures near { OnErr result ((M.history machine.new ≡ M.history machine.old) ⊎ (M.history machine.new
@@ -92,6 +95,7 @@ fn answer_query<M: Machine, L: Ledger>(
     requires { IsQuery query.now }
     ensures reply { OnOk result (out.new.items
         ≡ out.old.items ++ reply_to_request (M.history machine.now) (request.Ask query.now)) }
+    ensures kept { OnErr result (out.new.items ≡ out.old.items) }
     ensures history { OnOk result
         (M.history machine.now ≡ history_after_request (M.history machine.now) (request.Ask query.now)) }
     ensures steps { steps.new ≤ steps.old

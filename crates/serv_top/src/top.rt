@@ -21,7 +21,7 @@ use svc_core::Core;
 pub const INPUT_LIMIT: u64 = 1 << 26;
 
 /// How many bytes are asked for at a time.
-const ROOM: usize = 4096;
+const ROOM: usize = 1 << 16;
 
 /// Answers lines to the end of the source, by the machine.
 fn serve<M: Machine, S: Source, K: Sink, L: Ledger>(

@@ -7,6 +7,7 @@ use serv_disk::{Failed, Sink, Source};
 use std::cell::Cell;
 
 /// Gives a line, and a second one only where the whole reply to the first, `ok 1`, was written by then.
+#[derive(Drop)]
 pub(super) struct Waiting<'a> {
     written: &'a Cell<usize>,
     calls: u8,
@@ -39,6 +40,7 @@ impl Source for Waiting<'_> {
 }
 
 /// Counts the bytes that are written.
+#[derive(Drop)]
 pub(super) struct Telling<'a> {
     written: &'a Cell<usize>,
 }
