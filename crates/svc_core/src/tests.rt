@@ -3,6 +3,7 @@
 ghost use Rattle.std.specs.Prelude.{◌≡◌, ◌≤◌, length, IfSome};
 
 mod commands;
+mod course;
 mod desk;
 mod many;
 mod more;

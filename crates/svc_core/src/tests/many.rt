@@ -3,14 +3,13 @@
 ghost use Rattle.std.specs.Prelude.{◌≤◌};
 
 use crate::tests::commands::*;
+use crate::tests::course::{Course, over_both};
 use crate::tests::desk::{Desk, EMPTY};
 use crate::tests::rows::paid;
-use std::marker::Brand;
 use std::process::Abort;
-use std::sync::ledger::{Blank, Ledger};
+use std::sync::ledger::Ledger;
 use std::test::Fail;
-use svc_checkpoint::Checked;
-use svc_replay::{LoanBooks, Plain};
+use svc_replay::LoanBooks;
 use svc_types::{Extra, Query, RemitType, Reply};
 use svc_world::Custody;
 
@@ -69,7 +68,7 @@ fn ten_owe<B: LoanBooks, L: Ledger>(rt: &impl Abort, desk: &mut Desk<B, L>) {
 }
 
 /// A month of 40 loans, in 121 commands.
-fn month_of_forty<B: LoanBooks, L: Ledger>(rt: &impl Abort, desk: &mut Desk<B, L>) {
+pub(crate) fn month_of_forty<B: LoanBooks, L: Ledger>(rt: &impl Abort, desk: &mut Desk<B, L>) {
     all_boarded(rt, desk, 40);
     all_pay(rt, desk, 40, b"2024-02-01");
     all_pay_again(rt, desk, 41, 40, b"2024-02-01");
@@ -103,15 +102,7 @@ fn month_ended<B: LoanBooks, L: Ledger>(rt: &impl Abort, desk: &mut Desk<B, L>) 
 
 #[test]
 fn forty_loans_have_a_month(rt: HostRuntime) -> Result<(), Fail> {
-    month_of_forty(
-        &rt,
-        &mut Desk::<Plain, Brand>::new(rt.alloc(), Blank::new(1))?,
-    );
-    month_of_forty(
-        &rt,
-        &mut Desk::<Checked, Brand>::new(rt.alloc(), Blank::new(1))?,
-    );
-    Ok(())
+    over_both(&rt, rt.alloc(), Course::MonthOfForty)
 }
 
 /// The loans from 1 to that one pay 1.00 on that day.
@@ -130,7 +121,7 @@ fn each_pays<B: LoanBooks, L: Ledger>(
 
 /// Twenty loans pay 1.00 each 150 times, half of them of an earlier day, and ten of them then what is
 /// missing to their first installment: 1,500.00 wait, and ten installments less their fee are held.
-fn thousands<B: LoanBooks, L: Ledger>(rt: &impl Abort, desk: &mut Desk<B, L>) {
+pub(crate) fn thousands<B: LoanBooks, L: Ledger>(rt: &impl Abort, desk: &mut Desk<B, L>) {
     all_boarded(rt, desk, 20);
     desk.ok(rt, &today(rt, b"2024-02-14"));
     for _ in 0..75 {
@@ -153,19 +144,11 @@ fn thousands<B: LoanBooks, L: Ledger>(rt: &impl Abort, desk: &mut Desk<B, L>) {
 
 #[test]
 fn three_thousand_payments_are_counted(rt: HostRuntime) -> Result<(), Fail> {
-    thousands(
-        &rt,
-        &mut Desk::<Plain, Brand>::new(rt.alloc(), Blank::new(1))?,
-    );
-    thousands(
-        &rt,
-        &mut Desk::<Checked, Brand>::new(rt.alloc(), Blank::new(1))?,
-    );
-    Ok(())
+    over_both(&rt, rt.alloc(), Course::Thousands)
 }
 
 /// A command that is judged is not accepted, until it is.
-fn judged_alone<B: LoanBooks, L: Ledger>(rt: &impl Abort, desk: &mut Desk<B, L>) {
+pub(crate) fn judged_alone<B: LoanBooks, L: Ledger>(rt: &impl Abort, desk: &mut Desk<B, L>) {
     paid(rt, desk, RemitType::SS);
     let before = desk.books_of(rt, &Query::Books(1));
     let next = today(rt, b"2024-03-17");
@@ -190,13 +173,5 @@ fn judged_alone<B: LoanBooks, L: Ledger>(rt: &impl Abort, desk: &mut Desk<B, L>)
 
 #[test]
 fn judging_alone_changes_nothing(rt: HostRuntime) -> Result<(), Fail> {
-    judged_alone(
-        &rt,
-        &mut Desk::<Plain, Brand>::new(rt.alloc(), Blank::new(1))?,
-    );
-    judged_alone(
-        &rt,
-        &mut Desk::<Checked, Brand>::new(rt.alloc(), Blank::new(1))?,
-    );
-    Ok(())
+    over_both(&rt, rt.alloc(), Course::JudgedAlone)
 }

@@ -1,18 +1,17 @@
 //! Escrow, designations, types by month, and a month of many loans.
 
 use crate::tests::commands::*;
+use crate::tests::course::{Course, over_both};
 use crate::tests::desk::{Desk, EMPTY};
 use crate::tests::rows::{boarded, paid, paid_off_and_remitted, twelve_actual};
 use custodial_book::Part;
 use escrow_analysis::Analysis;
 use period_adjust::Adjustment;
-use std::marker::Brand;
 use std::process::Abort;
-use std::sync::ledger::{Blank, Ledger};
+use std::sync::ledger::Ledger;
 use std::test::Fail;
 use svc_base::Cents;
-use svc_checkpoint::Checked;
-use svc_replay::{LoanBooks, Plain};
+use svc_replay::LoanBooks;
 use svc_types::{Designation, Extra, Figures, PlanFault, Query, Refusal, RemitType, SurplusPlan};
 use svc_world::Custody;
 
@@ -36,7 +35,7 @@ fn leaves<B: LoanBooks, L: Ledger>(
 }
 
 /// What is over is paid on the principal.
-fn over_to_principal<B: LoanBooks, L: Ledger>(rt: &impl Abort, desk: &mut Desk<B, L>) {
+pub(crate) fn over_to_principal<B: LoanBooks, L: Ledger>(rt: &impl Abort, desk: &mut Desk<B, L>) {
     let left = [19_930_090, 0, 0, 69_910];
     leaves(
         rt,
@@ -54,48 +53,26 @@ fn over_to_principal<B: LoanBooks, L: Ledger>(rt: &impl Abort, desk: &mut Desk<B
 }
 
 /// What is over is paid into escrow.
-fn over_to_escrow<B: LoanBooks, L: Ledger>(rt: &impl Abort, desk: &mut Desk<B, L>) {
+pub(crate) fn over_to_escrow<B: LoanBooks, L: Ledger>(rt: &impl Abort, desk: &mut Desk<B, L>) {
     let left = [19_980_090, 50_000, 0, 19_910];
     leaves(rt, desk, (169_910, Designation::Escrow), b"2024-03", left);
 }
 
 /// What is over waits.
-fn over_waits<B: LoanBooks, L: Ledger>(rt: &impl Abort, desk: &mut Desk<B, L>) {
+pub(crate) fn over_waits<B: LoanBooks, L: Ledger>(rt: &impl Abort, desk: &mut Desk<B, L>) {
     let left = [19_980_090, 0, 50_000, 19_910];
     leaves(rt, desk, (169_910, Designation::Regular), b"2024-03", left);
 }
 
 #[test]
 fn what_is_over_goes_where_it_is_designated(rt: HostRuntime) -> Result<(), Fail> {
-    over_to_principal(
-        &rt,
-        &mut Desk::<Plain, Brand>::new(rt.alloc(), Blank::new(1))?,
-    );
-    over_to_principal(
-        &rt,
-        &mut Desk::<Checked, Brand>::new(rt.alloc(), Blank::new(1))?,
-    );
-    over_to_escrow(
-        &rt,
-        &mut Desk::<Plain, Brand>::new(rt.alloc(), Blank::new(1))?,
-    );
-    over_to_escrow(
-        &rt,
-        &mut Desk::<Checked, Brand>::new(rt.alloc(), Blank::new(1))?,
-    );
-    over_waits(
-        &rt,
-        &mut Desk::<Plain, Brand>::new(rt.alloc(), Blank::new(1))?,
-    );
-    over_waits(
-        &rt,
-        &mut Desk::<Checked, Brand>::new(rt.alloc(), Blank::new(1))?,
-    );
-    Ok(())
+    over_both(&rt, rt.alloc(), Course::OverToPrincipal)?;
+    over_both(&rt, rt.alloc(), Course::OverToEscrow)?;
+    over_both(&rt, rt.alloc(), Course::OverWaits)
 }
 
 /// Two installments' cents, of which the second is paid on the principal.
-fn twice_to_principal<B: LoanBooks, L: Ledger>(rt: &impl Abort, desk: &mut Desk<B, L>) {
+pub(crate) fn twice_to_principal<B: LoanBooks, L: Ledger>(rt: &impl Abort, desk: &mut Desk<B, L>) {
     let left = [19_860_180, 0, 0, 139_820];
     leaves(
         rt,
@@ -107,44 +84,22 @@ fn twice_to_principal<B: LoanBooks, L: Ledger>(rt: &impl Abort, desk: &mut Desk<
 }
 
 /// Two installments' cents, which pay both.
-fn twice_ahead<B: LoanBooks, L: Ledger>(rt: &impl Abort, desk: &mut Desk<B, L>) {
+pub(crate) fn twice_ahead<B: LoanBooks, L: Ledger>(rt: &impl Abort, desk: &mut Desk<B, L>) {
     let left = [19_960_080, 0, 0, 39_920];
     leaves(rt, desk, (239_820, Designation::Regular), b"2024-04", left);
 }
 
 /// Cents that pay no installment wait, whatever their word.
-fn too_few<B: LoanBooks, L: Ledger>(rt: &impl Abort, desk: &mut Desk<B, L>) {
+pub(crate) fn too_few<B: LoanBooks, L: Ledger>(rt: &impl Abort, desk: &mut Desk<B, L>) {
     let left = [20_000_000, 0, 50_000, 0];
     leaves(rt, desk, (50_000, Designation::Principal), b"2024-02", left);
 }
 
 #[test]
 fn what_is_due_is_paid_before_what_is_over(rt: HostRuntime) -> Result<(), Fail> {
-    twice_to_principal(
-        &rt,
-        &mut Desk::<Plain, Brand>::new(rt.alloc(), Blank::new(1))?,
-    );
-    twice_to_principal(
-        &rt,
-        &mut Desk::<Checked, Brand>::new(rt.alloc(), Blank::new(1))?,
-    );
-    twice_ahead(
-        &rt,
-        &mut Desk::<Plain, Brand>::new(rt.alloc(), Blank::new(1))?,
-    );
-    twice_ahead(
-        &rt,
-        &mut Desk::<Checked, Brand>::new(rt.alloc(), Blank::new(1))?,
-    );
-    too_few(
-        &rt,
-        &mut Desk::<Plain, Brand>::new(rt.alloc(), Blank::new(1))?,
-    );
-    too_few(
-        &rt,
-        &mut Desk::<Checked, Brand>::new(rt.alloc(), Blank::new(1))?,
-    );
-    Ok(())
+    over_both(&rt, rt.alloc(), Course::TwiceToPrincipal)?;
+    over_both(&rt, rt.alloc(), Course::TwiceAhead)?;
+    over_both(&rt, rt.alloc(), Course::TooFew)
 }
 
 /// A loan with three bills and a deposit, on 2024-06-15.
@@ -190,7 +145,7 @@ const MONTHS: Analysis = Analysis {
 };
 
 /// An analysis with a surplus, which must be refunded.
-fn analysed<B: LoanBooks, L: Ledger>(rt: &impl Abort, desk: &mut Desk<B, L>) {
+pub(crate) fn analysed<B: LoanBooks, L: Ledger>(rt: &impl Abort, desk: &mut Desk<B, L>) {
     with_bills(rt, desk);
     let (found, months) = desk.escrow(rt, 2);
     assert_eq!(rt; found, figures(rt, 0));
@@ -205,19 +160,11 @@ fn analysed<B: LoanBooks, L: Ledger>(rt: &impl Abort, desk: &mut Desk<B, L>) {
 
 #[test]
 fn a_surplus_is_refunded(rt: HostRuntime) -> Result<(), Fail> {
-    analysed(
-        &rt,
-        &mut Desk::<Plain, Brand>::new(rt.alloc(), Blank::new(1))?,
-    );
-    analysed(
-        &rt,
-        &mut Desk::<Checked, Brand>::new(rt.alloc(), Blank::new(1))?,
-    );
-    Ok(())
+    over_both(&rt, rt.alloc(), Course::Analysed)
 }
 
 /// A bill above the escrow balance is advanced, and paid back by a deposit.
-fn escrow_advanced<B: LoanBooks, L: Ledger>(rt: &impl Abort, desk: &mut Desk<B, L>) {
+pub(crate) fn escrow_advanced<B: LoanBooks, L: Ledger>(rt: &impl Abort, desk: &mut Desk<B, L>) {
     desk.ok(rt, &today(rt, b"2024-06-15"));
     desk.ok(rt, &board_escrow(rt, 2));
     desk.ok(rt, &board_escrow(rt, 3));
@@ -252,15 +199,7 @@ fn escrow_advanced<B: LoanBooks, L: Ledger>(rt: &impl Abort, desk: &mut Desk<B, 
 
 #[test]
 fn a_bill_above_escrow_is_advanced(rt: HostRuntime) -> Result<(), Fail> {
-    escrow_advanced(
-        &rt,
-        &mut Desk::<Plain, Brand>::new(rt.alloc(), Blank::new(1))?,
-    );
-    escrow_advanced(
-        &rt,
-        &mut Desk::<Checked, Brand>::new(rt.alloc(), Blank::new(1))?,
-    );
-    Ok(())
+    over_both(&rt, rt.alloc(), Course::EscrowAdvanced)
 }
 
 /// Sixteen commands: an Actual/Actual loan is Scheduled/Actual from 2024-04 on.
@@ -288,7 +227,7 @@ fn adjustment(rt: &impl Abort, text: &[u8], interest: Cents, principal: Cents) -
 }
 
 /// A payment of a month before the other type.
-fn paid_before<B: LoanBooks, L: Ledger>(rt: &impl Abort, desk: &mut Desk<B, L>) {
+pub(crate) fn paid_before<B: LoanBooks, L: Ledger>(rt: &impl Abort, desk: &mut Desk<B, L>) {
     retyped(rt, desk);
     desk.ok(rt, &pay(rt, 1, b"2024-03-10", 119_910));
     desk.ok(rt, &today(rt, b"2024-06-01"));
@@ -301,7 +240,7 @@ fn paid_before<B: LoanBooks, L: Ledger>(rt: &impl Abort, desk: &mut Desk<B, L>) 
 }
 
 /// The type of before again.
-fn typed_back<B: LoanBooks, L: Ledger>(rt: &impl Abort, desk: &mut Desk<B, L>) {
+pub(crate) fn typed_back<B: LoanBooks, L: Ledger>(rt: &impl Abort, desk: &mut Desk<B, L>) {
     retyped(rt, desk);
     desk.ok(rt, &today(rt, b"2024-06-01"));
     desk.ok(rt, &retype(rt, 1, b"2024-05", RemitType::AA));
@@ -311,34 +250,19 @@ fn typed_back<B: LoanBooks, L: Ledger>(rt: &impl Abort, desk: &mut Desk<B, L>) {
 
 #[test]
 fn a_loan_is_retyped_from_a_month_on(rt: HostRuntime) -> Result<(), Fail> {
-    paid_before(
-        &rt,
-        &mut Desk::<Plain, Brand>::new(rt.alloc(), Blank::new(1))?,
-    );
-    paid_before(
-        &rt,
-        &mut Desk::<Checked, Brand>::new(rt.alloc(), Blank::new(1))?,
-    );
-    typed_back(
-        &rt,
-        &mut Desk::<Plain, Brand>::new(rt.alloc(), Blank::new(1))?,
-    );
-    typed_back(
-        &rt,
-        &mut Desk::<Checked, Brand>::new(rt.alloc(), Blank::new(1))?,
-    );
-    Ok(())
+    over_both(&rt, rt.alloc(), Course::PaidBefore)?;
+    over_both(&rt, rt.alloc(), Course::TypedBack)
 }
 
 /// A type from a month before boarding.
-fn typed_before<B: LoanBooks, L: Ledger>(rt: &impl Abort, desk: &mut Desk<B, L>) {
+pub(crate) fn typed_before<B: LoanBooks, L: Ledger>(rt: &impl Abort, desk: &mut Desk<B, L>) {
     boarded(rt, desk, RemitType::SS);
     let early = retype(rt, 1, b"2023-11", RemitType::AA);
     desk.no(rt, &early, Refusal::BeforeBoarding(day(rt, b"2023-12-15")));
 }
 
 /// The interest of a satisfied loan that another type leaves due.
-fn typed_after_payoff<B: LoanBooks, L: Ledger>(rt: &impl Abort, desk: &mut Desk<B, L>) {
+pub(crate) fn typed_after_payoff<B: LoanBooks, L: Ledger>(rt: &impl Abort, desk: &mut Desk<B, L>) {
     paid_off_and_remitted(rt, desk);
     desk.ok(rt, &today(rt, b"2024-04-01"));
     desk.ok(rt, &retype(rt, 1, b"2024-03", RemitType::AA));
@@ -350,21 +274,6 @@ fn typed_after_payoff<B: LoanBooks, L: Ledger>(rt: &impl Abort, desk: &mut Desk<
 
 #[test]
 fn a_type_counts_after_boarding_and_payoff(rt: HostRuntime) -> Result<(), Fail> {
-    typed_before(
-        &rt,
-        &mut Desk::<Plain, Brand>::new(rt.alloc(), Blank::new(1))?,
-    );
-    typed_before(
-        &rt,
-        &mut Desk::<Checked, Brand>::new(rt.alloc(), Blank::new(1))?,
-    );
-    typed_after_payoff(
-        &rt,
-        &mut Desk::<Plain, Brand>::new(rt.alloc(), Blank::new(1))?,
-    );
-    typed_after_payoff(
-        &rt,
-        &mut Desk::<Checked, Brand>::new(rt.alloc(), Blank::new(1))?,
-    );
-    Ok(())
+    over_both(&rt, rt.alloc(), Course::TypedBefore)?;
+    over_both(&rt, rt.alloc(), Course::TypedAfterPayoff)
 }

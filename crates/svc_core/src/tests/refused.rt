@@ -3,23 +3,22 @@
 ghost use Rattle.svc_types.specs.Requests.{IsCommand};
 
 use crate::tests::commands::*;
+use crate::tests::course::{Course, over_both};
 use crate::tests::desk::Desk;
 use crate::tests::more::with_bills;
 use crate::tests::rows::{boarded, paid, twelve_scheduled};
-use std::marker::Brand;
 use std::process::Abort;
-use std::sync::ledger::{Blank, Ledger};
+use std::sync::ledger::Ledger;
 use std::test::Fail;
 use svc_base::Cents;
-use svc_checkpoint::Checked;
-use svc_replay::{LoanBooks, Plain};
+use svc_replay::LoanBooks;
 use svc_types::{
     Command, Limit, LineWhy, PlanFault, PlanPart, Query, Refusal, RemitType, SurplusPlan,
     TermFault, Terms,
 };
 
 /// Months out of their order, before any is closed.
-fn months_before<B: LoanBooks, L: Ledger>(rt: &impl Abort, desk: &mut Desk<B, L>) {
+pub(crate) fn months_before<B: LoanBooks, L: Ledger>(rt: &impl Abort, desk: &mut Desk<B, L>) {
     paid(rt, desk, RemitType::SS);
     desk.ok(rt, &today(rt, b"2024-04-01"));
     let expected = month(rt, b"2023-12");
@@ -52,7 +51,7 @@ fn after_first_day(rt: &impl Abort) -> Refusal {
 }
 
 /// Months out of their order, and amounts and days out of their range, after four months are remitted.
-fn months_after<B: LoanBooks, L: Ledger>(rt: &impl Abort, desk: &mut Desk<B, L>) {
+pub(crate) fn months_after<B: LoanBooks, L: Ledger>(rt: &impl Abort, desk: &mut Desk<B, L>) {
     twelve_scheduled(rt, desk);
     let next = Refusal::WrongRemit(month(rt, b"2024-04"));
     desk.no(rt, &remit(rt, b"2024-03"), next);
@@ -78,7 +77,7 @@ fn months_after<B: LoanBooks, L: Ledger>(rt: &impl Abort, desk: &mut Desk<B, L>)
 }
 
 /// A month on its last day.
-fn on_the_last_day<B: LoanBooks, L: Ledger>(rt: &impl Abort, desk: &mut Desk<B, L>) {
+pub(crate) fn on_the_last_day<B: LoanBooks, L: Ledger>(rt: &impl Abort, desk: &mut Desk<B, L>) {
     desk.ok(rt, &today(rt, b"2023-12-31"));
     desk.ok(rt, &board(rt, 1, RemitType::SS));
     let last = Refusal::NotEnded(day(rt, b"2023-12-31"));
@@ -89,31 +88,9 @@ fn on_the_last_day<B: LoanBooks, L: Ledger>(rt: &impl Abort, desk: &mut Desk<B, 
 
 #[test]
 fn months_are_closed_and_remitted_in_order(rt: HostRuntime) -> Result<(), Fail> {
-    months_before(
-        &rt,
-        &mut Desk::<Plain, Brand>::new(rt.alloc(), Blank::new(1))?,
-    );
-    months_before(
-        &rt,
-        &mut Desk::<Checked, Brand>::new(rt.alloc(), Blank::new(1))?,
-    );
-    months_after(
-        &rt,
-        &mut Desk::<Plain, Brand>::new(rt.alloc(), Blank::new(1))?,
-    );
-    months_after(
-        &rt,
-        &mut Desk::<Checked, Brand>::new(rt.alloc(), Blank::new(1))?,
-    );
-    on_the_last_day(
-        &rt,
-        &mut Desk::<Plain, Brand>::new(rt.alloc(), Blank::new(1))?,
-    );
-    on_the_last_day(
-        &rt,
-        &mut Desk::<Checked, Brand>::new(rt.alloc(), Blank::new(1))?,
-    );
-    Ok(())
+    over_both(&rt, rt.alloc(), Course::MonthsBefore)?;
+    over_both(&rt, rt.alloc(), Course::MonthsAfter)?;
+    over_both(&rt, rt.alloc(), Course::OnTheLastDay)
 }
 
 /// A number where that many of the terms are sound, and one out of its range where they are not.
@@ -165,7 +142,7 @@ const FAULTS: [TermFault; 10] = [
 ];
 
 /// Each fault of terms, before all that follow it.
-fn faults_in_order<B: LoanBooks, L: Ledger>(rt: &impl Abort, desk: &mut Desk<B, L>) {
+pub(crate) fn faults_in_order<B: LoanBooks, L: Ledger>(rt: &impl Abort, desk: &mut Desk<B, L>) {
     boarded(rt, desk, RemitType::SS);
     for place in 0..10 {
         let command = board_faulty(rt, 2, place as u32);
@@ -175,7 +152,7 @@ fn faults_in_order<B: LoanBooks, L: Ledger>(rt: &impl Abort, desk: &mut Desk<B, 
 }
 
 /// Boarding: a loan that is there, and one of a later day.
-fn not_boarded<B: LoanBooks, L: Ledger>(rt: &impl Abort, desk: &mut Desk<B, L>) {
+pub(crate) fn not_boarded<B: LoanBooks, L: Ledger>(rt: &impl Abort, desk: &mut Desk<B, L>) {
     let now = day(rt, b"2023-12-01");
     desk.ok(rt, &today(rt, b"2023-12-01"));
     desk.no(rt, &board(rt, 1, RemitType::SS), Refusal::FutureDated(now));
@@ -191,27 +168,12 @@ fn not_boarded<B: LoanBooks, L: Ledger>(rt: &impl Abort, desk: &mut Desk<B, L>) 
 
 #[test]
 fn terms_are_refused_in_order(rt: HostRuntime) -> Result<(), Fail> {
-    faults_in_order(
-        &rt,
-        &mut Desk::<Plain, Brand>::new(rt.alloc(), Blank::new(1))?,
-    );
-    faults_in_order(
-        &rt,
-        &mut Desk::<Checked, Brand>::new(rt.alloc(), Blank::new(1))?,
-    );
-    not_boarded(
-        &rt,
-        &mut Desk::<Plain, Brand>::new(rt.alloc(), Blank::new(1))?,
-    );
-    not_boarded(
-        &rt,
-        &mut Desk::<Checked, Brand>::new(rt.alloc(), Blank::new(1))?,
-    );
-    Ok(())
+    over_both(&rt, rt.alloc(), Course::FaultsInOrder)?;
+    over_both(&rt, rt.alloc(), Course::NotBoarded)
 }
 
 /// Entries for which two rules hold: the first one refuses them.
-fn entries_refused<B: LoanBooks, L: Ledger>(rt: &impl Abort, desk: &mut Desk<B, L>) {
+pub(crate) fn entries_refused<B: LoanBooks, L: Ledger>(rt: &impl Abort, desk: &mut Desk<B, L>) {
     paid(rt, desk, RemitType::SS);
     desk.no(rt, &pay(rt, 7, b"2024-02-01", 0), Refusal::NoSuchLoan);
     desk.no(rt, &pay(rt, 7, b"2024-02-02", 100), Refusal::NoSuchLoan);
@@ -248,7 +210,7 @@ fn entries_refused<B: LoanBooks, L: Ledger>(rt: &impl Abort, desk: &mut Desk<B, 
 }
 
 /// Questions that are refused.
-fn questions_refused<B: LoanBooks, L: Ledger>(rt: &impl Abort, desk: &mut Desk<B, L>) {
+pub(crate) fn questions_refused<B: LoanBooks, L: Ledger>(rt: &impl Abort, desk: &mut Desk<B, L>) {
     paid(rt, desk, RemitType::SS);
     desk.no_answer(rt, &Query::Books(7), Refusal::NoSuchLoan);
     desk.no_answer(rt, &Query::Escrow(7), Refusal::NoSuchLoan);
@@ -265,27 +227,12 @@ fn questions_refused<B: LoanBooks, L: Ledger>(rt: &impl Abort, desk: &mut Desk<B
 
 #[test]
 fn the_first_rule_that_holds_refuses(rt: HostRuntime) -> Result<(), Fail> {
-    entries_refused(
-        &rt,
-        &mut Desk::<Plain, Brand>::new(rt.alloc(), Blank::new(1))?,
-    );
-    entries_refused(
-        &rt,
-        &mut Desk::<Checked, Brand>::new(rt.alloc(), Blank::new(1))?,
-    );
-    questions_refused(
-        &rt,
-        &mut Desk::<Plain, Brand>::new(rt.alloc(), Blank::new(1))?,
-    );
-    questions_refused(
-        &rt,
-        &mut Desk::<Checked, Brand>::new(rt.alloc(), Blank::new(1))?,
-    );
-    Ok(())
+    over_both(&rt, rt.alloc(), Course::EntriesRefused)?;
+    over_both(&rt, rt.alloc(), Course::QuestionsRefused)
 }
 
 /// Escrow lines that are wrong, and the seventeenth.
-fn lines_refused<B: LoanBooks, L: Ledger>(rt: &impl Abort, desk: &mut Desk<B, L>) {
+pub(crate) fn lines_refused<B: LoanBooks, L: Ledger>(rt: &impl Abort, desk: &mut Desk<B, L>) {
     boarded(rt, desk, RemitType::SS);
     let [amount, range, every] = [LineWhy::Amount, LineWhy::MonthRange, LineWhy::Every];
     desk.no(rt, &tax(1, 1, 13, 5, 0), Refusal::BadLine(amount));
@@ -302,7 +249,7 @@ fn lines_refused<B: LoanBooks, L: Ledger>(rt: &impl Abort, desk: &mut Desk<B, L>
 }
 
 /// The sixty-fifth change of a loan's type.
-fn types_refused<B: LoanBooks, L: Ledger>(rt: &impl Abort, desk: &mut Desk<B, L>) {
+pub(crate) fn types_refused<B: LoanBooks, L: Ledger>(rt: &impl Abort, desk: &mut Desk<B, L>) {
     boarded(rt, desk, RemitType::SS);
     for _ in 0..32 {
         desk.ok(rt, &retype(rt, 1, b"2024-02", RemitType::AA));
@@ -314,23 +261,8 @@ fn types_refused<B: LoanBooks, L: Ledger>(rt: &impl Abort, desk: &mut Desk<B, L>
 
 #[test]
 fn limits_come_first(rt: HostRuntime) -> Result<(), Fail> {
-    lines_refused(
-        &rt,
-        &mut Desk::<Plain, Brand>::new(rt.alloc(), Blank::new(1))?,
-    );
-    lines_refused(
-        &rt,
-        &mut Desk::<Checked, Brand>::new(rt.alloc(), Blank::new(1))?,
-    );
-    types_refused(
-        &rt,
-        &mut Desk::<Plain, Brand>::new(rt.alloc(), Blank::new(1))?,
-    );
-    types_refused(
-        &rt,
-        &mut Desk::<Checked, Brand>::new(rt.alloc(), Blank::new(1))?,
-    );
-    Ok(())
+    over_both(&rt, rt.alloc(), Course::LinesRefused)?;
+    over_both(&rt, rt.alloc(), Course::TypesRefused)
 }
 
 /// An analysis is refused for its plan.
@@ -346,7 +278,7 @@ fn plan_refused<B: LoanBooks, L: Ledger>(
 }
 
 /// Plans that are not lawful: the balance is 1,090.00, of which 50.00 are a surplus.
-fn surplus_refused<B: LoanBooks, L: Ledger>(rt: &impl Abort, desk: &mut Desk<B, L>) {
+pub(crate) fn surplus_refused<B: LoanBooks, L: Ledger>(rt: &impl Abort, desk: &mut Desk<B, L>) {
     with_bills(rt, desk);
     let nothing = PlanFault::NothingToPlan(PlanPart::Short);
     plan_refused(rt, desk, &ask_short(2), nothing);
@@ -357,7 +289,7 @@ fn surplus_refused<B: LoanBooks, L: Ledger>(rt: &impl Abort, desk: &mut Desk<B, 
 }
 
 /// With a bill of 1,000.00 paid the balance is 90.00, which is short of 1,040.00 by 950.00.
-fn shortage_refused<B: LoanBooks, L: Ledger>(rt: &impl Abort, desk: &mut Desk<B, L>) {
+pub(crate) fn shortage_refused<B: LoanBooks, L: Ledger>(rt: &impl Abort, desk: &mut Desk<B, L>) {
     with_bills(rt, desk);
     desk.ok(rt, &disburse(rt, 2, b"2024-06-12", 100_000, 1));
     let spread = PlanFault::MustSpread(PlanPart::Short);
@@ -370,21 +302,6 @@ fn shortage_refused<B: LoanBooks, L: Ledger>(rt: &impl Abort, desk: &mut Desk<B,
 
 #[test]
 fn plans_are_refused(rt: HostRuntime) -> Result<(), Fail> {
-    surplus_refused(
-        &rt,
-        &mut Desk::<Plain, Brand>::new(rt.alloc(), Blank::new(1))?,
-    );
-    surplus_refused(
-        &rt,
-        &mut Desk::<Checked, Brand>::new(rt.alloc(), Blank::new(1))?,
-    );
-    shortage_refused(
-        &rt,
-        &mut Desk::<Plain, Brand>::new(rt.alloc(), Blank::new(1))?,
-    );
-    shortage_refused(
-        &rt,
-        &mut Desk::<Checked, Brand>::new(rt.alloc(), Blank::new(1))?,
-    );
-    Ok(())
+    over_both(&rt, rt.alloc(), Course::SurplusRefused)?;
+    over_both(&rt, rt.alloc(), Course::ShortageRefused)
 }

@@ -1,16 +1,15 @@
 //! Commands and what they must answer, worked by hand, for both ways of keeping books.
 
 use crate::tests::commands::*;
+use crate::tests::course::{Course, over_both};
 use crate::tests::desk::{Desk, EMPTY, Seen};
 use custodial_book::Part;
 use period_adjust::{Adjustment, ReportLine};
-use std::marker::Brand;
 use std::process::Abort;
-use std::sync::ledger::{Blank, Ledger};
+use std::sync::ledger::Ledger;
 use std::test::Fail;
 use svc_base::Cents;
-use svc_checkpoint::Checked;
-use svc_replay::{LoanBooks, Plain};
+use svc_replay::LoanBooks;
 use svc_types::{Designation, Query, Refusal, RemitType};
 use svc_world::Custody;
 
@@ -63,7 +62,7 @@ fn after_first(rt: &impl Abort) -> Seen {
 }
 
 /// The first installment is paid: the books, and the rows.
-fn first_installment<B: LoanBooks, L: Ledger>(rt: &impl Abort, desk: &mut Desk<B, L>) {
+pub(crate) fn first_installment<B: LoanBooks, L: Ledger>(rt: &impl Abort, desk: &mut Desk<B, L>) {
     paid(rt, desk, RemitType::SS);
     desk.books(rt, 1, after_first(rt));
     let rows = [
@@ -76,19 +75,11 @@ fn first_installment<B: LoanBooks, L: Ledger>(rt: &impl Abort, desk: &mut Desk<B
 
 #[test]
 fn a_payment_pays_the_first_installment(rt: HostRuntime) -> Result<(), Fail> {
-    first_installment(
-        &rt,
-        &mut Desk::<Plain, Brand>::new(rt.alloc(), Blank::new(1))?,
-    );
-    first_installment(
-        &rt,
-        &mut Desk::<Checked, Brand>::new(rt.alloc(), Blank::new(1))?,
-    );
-    Ok(())
+    over_both(&rt, rt.alloc(), Course::FirstInstallment)
 }
 
 /// A cent is missing, and comes.
-fn a_cent_short<B: LoanBooks, L: Ledger>(rt: &impl Abort, desk: &mut Desk<B, L>) {
+pub(crate) fn a_cent_short<B: LoanBooks, L: Ledger>(rt: &impl Abort, desk: &mut Desk<B, L>) {
     boarded(rt, desk, RemitType::SS);
     desk.ok(rt, &pay(rt, 1, b"2024-02-01", 119_909));
     let waiting = Seen {
@@ -102,19 +93,11 @@ fn a_cent_short<B: LoanBooks, L: Ledger>(rt: &impl Abort, desk: &mut Desk<B, L>)
 
 #[test]
 fn a_payment_waits_until_it_covers_the_installment(rt: HostRuntime) -> Result<(), Fail> {
-    a_cent_short(
-        &rt,
-        &mut Desk::<Plain, Brand>::new(rt.alloc(), Blank::new(1))?,
-    );
-    a_cent_short(
-        &rt,
-        &mut Desk::<Checked, Brand>::new(rt.alloc(), Blank::new(1))?,
-    );
-    Ok(())
+    over_both(&rt, rt.alloc(), Course::ACentShort)
 }
 
 /// The last day of grace, and the day after it.
-fn grace<B: LoanBooks, L: Ledger>(rt: &impl Abort, desk: &mut Desk<B, L>) {
+pub(crate) fn grace<B: LoanBooks, L: Ledger>(rt: &impl Abort, desk: &mut Desk<B, L>) {
     paid(rt, desk, RemitType::SS);
     desk.ok(rt, &today(rt, b"2024-03-16"));
     desk.books(rt, 1, after_first(rt));
@@ -128,15 +111,7 @@ fn grace<B: LoanBooks, L: Ledger>(rt: &impl Abort, desk: &mut Desk<B, L>) {
 
 #[test]
 fn a_late_charge_follows_the_days_of_grace(rt: HostRuntime) -> Result<(), Fail> {
-    grace(
-        &rt,
-        &mut Desk::<Plain, Brand>::new(rt.alloc(), Blank::new(1))?,
-    );
-    grace(
-        &rt,
-        &mut Desk::<Checked, Brand>::new(rt.alloc(), Blank::new(1))?,
-    );
-    Ok(())
+    over_both(&rt, rt.alloc(), Course::Grace)
 }
 
 /// Four months closed on 2024-04-01 after the first payment, the last with these sums.
@@ -176,7 +151,7 @@ pub(crate) fn twelve_actual<B: LoanBooks, L: Ledger>(rt: &impl Abort, desk: &mut
 }
 
 /// What is advanced, and the late payment that pays it back.
-fn advanced<B: LoanBooks, L: Ledger>(rt: &impl Abort, desk: &mut Desk<B, L>) {
+pub(crate) fn advanced<B: LoanBooks, L: Ledger>(rt: &impl Abort, desk: &mut Desk<B, L>) {
     twelve_scheduled(rt, desk);
     desk.rows(rt, 11, 1, &[(Part::Remitted, 115_743)]);
     let rows = [(Part::PiAdvance, 115_747), (Part::Remitted, 115_747)];
@@ -192,15 +167,7 @@ fn advanced<B: LoanBooks, L: Ledger>(rt: &impl Abort, desk: &mut Desk<B, L>) {
 
 #[test]
 fn a_scheduled_installment_is_advanced(rt: HostRuntime) -> Result<(), Fail> {
-    advanced(
-        &rt,
-        &mut Desk::<Plain, Brand>::new(rt.alloc(), Blank::new(1))?,
-    );
-    advanced(
-        &rt,
-        &mut Desk::<Checked, Brand>::new(rt.alloc(), Blank::new(1))?,
-    );
-    Ok(())
+    over_both(&rt, rt.alloc(), Course::Advanced)
 }
 
 /// The books after the second installment was paid within its grace.
@@ -216,7 +183,7 @@ fn after_second(rt: &impl Abort) -> Seen {
 }
 
 /// A payment of a closed month, which pays an advance back.
-fn paid_back<B: LoanBooks, L: Ledger>(rt: &impl Abort, desk: &mut Desk<B, L>) {
+pub(crate) fn paid_back<B: LoanBooks, L: Ledger>(rt: &impl Abort, desk: &mut Desk<B, L>) {
     twelve_scheduled(rt, desk);
     desk.ok(rt, &pay(rt, 1, b"2024-03-10", 119_910));
     let rows = [
@@ -234,15 +201,7 @@ fn paid_back<B: LoanBooks, L: Ledger>(rt: &impl Abort, desk: &mut Desk<B, L>) {
 
 #[test]
 fn a_late_payment_pays_an_advance_back(rt: HostRuntime) -> Result<(), Fail> {
-    paid_back(
-        &rt,
-        &mut Desk::<Plain, Brand>::new(rt.alloc(), Blank::new(1))?,
-    );
-    paid_back(
-        &rt,
-        &mut Desk::<Checked, Brand>::new(rt.alloc(), Blank::new(1))?,
-    );
-    Ok(())
+    over_both(&rt, rt.alloc(), Course::PaidBack)
 }
 
 /// A loan's line whose balance is the investor's too.
@@ -276,7 +235,7 @@ fn adjustment(
 }
 
 /// A payment of a closed month, which the next report sends.
-fn sent_later<B: LoanBooks, L: Ledger>(rt: &impl Abort, desk: &mut Desk<B, L>) {
+pub(crate) fn sent_later<B: LoanBooks, L: Ledger>(rt: &impl Abort, desk: &mut Desk<B, L>) {
     twelve_actual(rt, desk);
     let march = line(0, 0, 19_980_090);
     desk.reports(rt, b"2024-03", &[march], &[]);
@@ -302,19 +261,11 @@ fn sent_later<B: LoanBooks, L: Ledger>(rt: &impl Abort, desk: &mut Desk<B, L>) {
 
 #[test]
 fn a_report_never_changes(rt: HostRuntime) -> Result<(), Fail> {
-    sent_later(
-        &rt,
-        &mut Desk::<Plain, Brand>::new(rt.alloc(), Blank::new(1))?,
-    );
-    sent_later(
-        &rt,
-        &mut Desk::<Checked, Brand>::new(rt.alloc(), Blank::new(1))?,
-    );
-    Ok(())
+    over_both(&rt, rt.alloc(), Course::SentLater)
 }
 
 /// A command sent again, and another one under its key.
-fn sent_again<B: LoanBooks, L: Ledger>(rt: &impl Abort, desk: &mut Desk<B, L>) {
+pub(crate) fn sent_again<B: LoanBooks, L: Ledger>(rt: &impl Abort, desk: &mut Desk<B, L>) {
     paid(rt, desk, RemitType::SS);
     desk.again(rt, 3, &pay(rt, 1, b"2024-02-01", 119_910));
     desk.books(rt, 1, after_first(rt));
@@ -325,15 +276,7 @@ fn sent_again<B: LoanBooks, L: Ledger>(rt: &impl Abort, desk: &mut Desk<B, L>) {
 
 #[test]
 fn a_command_sent_again_has_its_reply(rt: HostRuntime) -> Result<(), Fail> {
-    sent_again(
-        &rt,
-        &mut Desk::<Plain, Brand>::new(rt.alloc(), Blank::new(1))?,
-    );
-    sent_again(
-        &rt,
-        &mut Desk::<Checked, Brand>::new(rt.alloc(), Blank::new(1))?,
-    );
-    Ok(())
+    over_both(&rt, rt.alloc(), Course::SentAgain)
 }
 
 /// Two installments paid and remitted, and the first taken back.
@@ -381,26 +324,18 @@ fn taken_back_later<B: LoanBooks, L: Ledger>(rt: &impl Abort, desk: &mut Desk<B,
 }
 
 /// Both.
-fn reversed<B: LoanBooks, L: Ledger>(rt: &impl Abort, desk: &mut Desk<B, L>) {
+pub(crate) fn reversed<B: LoanBooks, L: Ledger>(rt: &impl Abort, desk: &mut Desk<B, L>) {
     taken_back(rt, desk);
     taken_back_later(rt, desk);
 }
 
 #[test]
 fn a_reversal_changes_closed_months(rt: HostRuntime) -> Result<(), Fail> {
-    reversed(
-        &rt,
-        &mut Desk::<Plain, Brand>::new(rt.alloc(), Blank::new(1))?,
-    );
-    reversed(
-        &rt,
-        &mut Desk::<Checked, Brand>::new(rt.alloc(), Blank::new(1))?,
-    );
-    Ok(())
+    over_both(&rt, rt.alloc(), Course::Reversed)
 }
 
 /// A loan paid off on 2024-02-16.
-fn paid_off<B: LoanBooks, L: Ledger>(rt: &impl Abort, desk: &mut Desk<B, L>) {
+pub(crate) fn paid_off<B: LoanBooks, L: Ledger>(rt: &impl Abort, desk: &mut Desk<B, L>) {
     paid(rt, desk, RemitType::SS);
     desk.ok(rt, &today(rt, b"2024-02-16"));
     desk.pays_off(rt, 1, b"2024-02-16", 20_030_040);
@@ -421,15 +356,7 @@ fn paid_off<B: LoanBooks, L: Ledger>(rt: &impl Abort, desk: &mut Desk<B, L>) {
 
 #[test]
 fn a_payoff_satisfies_the_loan(rt: HostRuntime) -> Result<(), Fail> {
-    paid_off(
-        &rt,
-        &mut Desk::<Plain, Brand>::new(rt.alloc(), Blank::new(1))?,
-    );
-    paid_off(
-        &rt,
-        &mut Desk::<Checked, Brand>::new(rt.alloc(), Blank::new(1))?,
-    );
-    Ok(())
+    over_both(&rt, rt.alloc(), Course::PaidOff)
 }
 
 /// Twelve commands: the loan is paid off, and that month is remitted.
@@ -450,7 +377,7 @@ pub(crate) fn paid_off_and_remitted<B: LoanBooks, L: Ledger>(
 }
 
 /// The payoff taken back.
-fn payoff_taken_back<B: LoanBooks, L: Ledger>(rt: &impl Abort, desk: &mut Desk<B, L>) {
+pub(crate) fn payoff_taken_back<B: LoanBooks, L: Ledger>(rt: &impl Abort, desk: &mut Desk<B, L>) {
     paid_off_and_remitted(rt, desk);
     desk.ok(rt, &reverse(1, 5));
     let rows = [
@@ -475,19 +402,11 @@ fn payoff_taken_back<B: LoanBooks, L: Ledger>(rt: &impl Abort, desk: &mut Desk<B
 
 #[test]
 fn a_payoff_is_taken_back(rt: HostRuntime) -> Result<(), Fail> {
-    payoff_taken_back(
-        &rt,
-        &mut Desk::<Plain, Brand>::new(rt.alloc(), Blank::new(1))?,
-    );
-    payoff_taken_back(
-        &rt,
-        &mut Desk::<Checked, Brand>::new(rt.alloc(), Blank::new(1))?,
-    );
-    Ok(())
+    over_both(&rt, rt.alloc(), Course::PayoffTakenBack)
 }
 
 /// A curtailment, and one of a cent too much.
-fn curtailed<B: LoanBooks, L: Ledger>(rt: &impl Abort, desk: &mut Desk<B, L>) {
+pub(crate) fn curtailed<B: LoanBooks, L: Ledger>(rt: &impl Abort, desk: &mut Desk<B, L>) {
     paid(rt, desk, RemitType::SS);
     desk.ok(rt, &today(rt, b"2024-02-10"));
     desk.ok(rt, &curtail(rt, 1, b"2024-02-10", 100_000));
@@ -506,19 +425,11 @@ fn curtailed<B: LoanBooks, L: Ledger>(rt: &impl Abort, desk: &mut Desk<B, L>) {
 
 #[test]
 fn a_curtailment_reduces_the_investors_balance(rt: HostRuntime) -> Result<(), Fail> {
-    curtailed(
-        &rt,
-        &mut Desk::<Plain, Brand>::new(rt.alloc(), Blank::new(1))?,
-    );
-    curtailed(
-        &rt,
-        &mut Desk::<Checked, Brand>::new(rt.alloc(), Blank::new(1))?,
-    );
-    Ok(())
+    over_both(&rt, rt.alloc(), Course::Curtailed)
 }
 
 /// What may be given up and paid out, and a late charge that is paid.
-fn late_charge_paid<B: LoanBooks, L: Ledger>(rt: &impl Abort, desk: &mut Desk<B, L>) {
+pub(crate) fn late_charge_paid<B: LoanBooks, L: Ledger>(rt: &impl Abort, desk: &mut Desk<B, L>) {
     paid(rt, desk, RemitType::SS);
     desk.ok(rt, &today(rt, b"2024-03-20"));
     desk.no(rt, &waive(1, 5_997), Refusal::OverWaiver(5_996));
@@ -535,15 +446,7 @@ fn late_charge_paid<B: LoanBooks, L: Ledger>(rt: &impl Abort, desk: &mut Desk<B,
 
 #[test]
 fn a_late_charge_is_paid_last(rt: HostRuntime) -> Result<(), Fail> {
-    late_charge_paid(
-        &rt,
-        &mut Desk::<Plain, Brand>::new(rt.alloc(), Blank::new(1))?,
-    );
-    late_charge_paid(
-        &rt,
-        &mut Desk::<Checked, Brand>::new(rt.alloc(), Blank::new(1))?,
-    );
-    Ok(())
+    over_both(&rt, rt.alloc(), Course::LateChargePaid)
 }
 
 /// Whether the books are these after a single payment of 2024-02-01.
