@@ -5,6 +5,7 @@ ghost use Rattle.std.specs.Prelude.{◌≡◌, ◌≤◌, length, IfSome};
 mod commands;
 mod course;
 mod desk;
+mod limits;
 mod many;
 mod more;
 mod refused;

@@ -92,6 +92,31 @@ pub(crate) fn board_escrow(rt: &impl Abort, id: u32) -> Command
     )
 }
 
+/// Takes on a loan of 200,000.00 at 12 percent without a fee, Scheduled/Actual, on 2023-12-15.
+pub(crate) fn board_dear(rt: &impl Abort, id: u32) -> Command
+    ensures { IsCommand result }
+{
+    let boarded = day(rt, b"2023-12-15");
+    let first = month(rt, b"2024-01");
+    Command::Board(
+        id,
+        Terms {
+            boarded,
+            principal: 20_000_000,
+            rate: 12_000,
+            fee: 0,
+            pi: 300_000,
+            term: 360,
+            first,
+            grace: 15,
+            late: 500,
+            cushion: 2,
+            escrow: 0,
+            kind: RemitType::SA,
+        },
+    )
+}
+
 /// A payment.
 pub(crate) fn pay(rt: &impl Abort, id: u32, text: &[u8], cents: u32) -> Command
     ensures { IsCommand result }
@@ -117,6 +142,13 @@ pub(crate) fn pay_too_much(rt: &impl Abort, id: u32, text: &[u8]) -> Command
     ensures { IsCommand result }
 {
     Command::Pay(id, day(rt, text), 10_000_000_001, Designation::Regular)
+}
+
+/// A payment of 100,000,000.01 on the principal.
+pub(crate) fn curtail_too_much(rt: &impl Abort, id: u32, text: &[u8]) -> Command
+    ensures { IsCommand result }
+{
+    Command::Curtail(id, day(rt, text), 10_000_000_001)
 }
 
 /// A payment on the principal.
@@ -257,6 +289,48 @@ pub(crate) fn spread_short(id: u32, months: u32) -> Command
             surplus: SurplusPlan::Unsaid,
             short: PartPlan::Spread(months),
             deficient: PartPlan::Unsaid,
+        },
+    )
+}
+
+/// An analysis that asks the deficiency within 30 days.
+pub(crate) fn ask_deficient(id: u32) -> Command
+    ensures { IsCommand result }
+{
+    Command::Analyse(
+        id,
+        Plan {
+            surplus: SurplusPlan::Unsaid,
+            short: PartPlan::Unsaid,
+            deficient: PartPlan::Within30,
+        },
+    )
+}
+
+/// An analysis that asks the shortage and the deficiency within 30 days.
+pub(crate) fn ask_both(id: u32) -> Command
+    ensures { IsCommand result }
+{
+    Command::Analyse(
+        id,
+        Plan {
+            surplus: SurplusPlan::Unsaid,
+            short: PartPlan::Within30,
+            deficient: PartPlan::Within30,
+        },
+    )
+}
+
+/// An analysis with a spread of the deficiency alone.
+pub(crate) fn spread_deficient(id: u32, months: u32) -> Command
+    ensures { IsCommand result }
+{
+    Command::Analyse(
+        id,
+        Plan {
+            surplus: SurplusPlan::Unsaid,
+            short: PartPlan::Unsaid,
+            deficient: PartPlan::Spread(months),
         },
     )
 }

@@ -3,6 +3,7 @@
 ghost use Rattle.std.specs.Prelude.{◌≡◌, ◌<◌};
 
 use crate::tests::desk::Desk;
+use crate::tests::limits::*;
 use crate::tests::many::*;
 use crate::tests::more::*;
 use crate::tests::refused::*;
@@ -44,6 +45,14 @@ pub(crate) enum Course {
     TypesRefused,
     SurplusRefused,
     ShortageRefused,
+    DeficiencyRefused,
+    DeficiencyAsked,
+    DaysToCome,
+    NotThere,
+    EntriesFull,
+    LoansFull,
+    MonthsFull,
+    AdjustmentsFull,
     FirstInstallment,
     ACentShort,
     Grace,
@@ -88,6 +97,14 @@ impl Course {
             Course::TypesRefused => types_refused(rt, desk),
             Course::SurplusRefused => surplus_refused(rt, desk),
             Course::ShortageRefused => shortage_refused(rt, desk),
+            Course::DeficiencyRefused => deficiency_refused(rt, desk),
+            Course::DeficiencyAsked => deficiency_asked(rt, desk),
+            Course::DaysToCome => days_to_come(rt, desk),
+            Course::NotThere => not_there(rt, desk),
+            Course::EntriesFull => entries_full(rt, desk),
+            Course::LoansFull => loans_full(rt, desk),
+            Course::MonthsFull => months_full(rt, desk),
+            Course::AdjustmentsFull => adjustments_full(rt, desk),
             Course::FirstInstallment => first_installment(rt, desk),
             Course::ACentShort => a_cent_short(rt, desk),
             Course::Grace => grace(rt, desk),
@@ -122,5 +139,10 @@ fn over<B: LoanBooks, L: Ledger>(
 /// Over books that are refolded, and over books with checkpoints.
 pub(crate) fn over_both(rt: &impl Abort, alloc: Global, course: Course) -> Result<(), Fail> {
     over::<Plain, Brand>(rt, alloc, Blank::new(1), course)?;
+    over::<Checked, Brand>(rt, alloc, Blank::new(1), course)
+}
+
+/// Over books with checkpoints alone, where refolding would take too long.
+pub(crate) fn over_checked(rt: &impl Abort, alloc: Global, course: Course) -> Result<(), Fail> {
     over::<Checked, Brand>(rt, alloc, Blank::new(1), course)
 }

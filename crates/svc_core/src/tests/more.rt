@@ -163,6 +163,28 @@ fn a_surplus_is_refunded(rt: HostRuntime) -> Result<(), Fail> {
     over_both(&rt, rt.alloc(), Course::Analysed)
 }
 
+/// With a bill of 1,219.99 paid the deficiency is a cent less than the base of a month, and is asked within 30
+/// days; of the shortage nothing is said, so nothing is asked for it.
+pub(crate) fn deficiency_asked<B: LoanBooks, L: Ledger>(rt: &impl Abort, desk: &mut Desk<B, L>) {
+    with_bills(rt, desk);
+    desk.ok(rt, &disburse(rt, 2, b"2024-06-12", 121_999, 1));
+    let asked = Figures {
+        balance: -12_999,
+        surplus: 0,
+        short: 104_000,
+        deficient: 12_999,
+        within30: 12_999,
+        ..figures(rt, 0)
+    };
+    desk.says(rt, &ask_deficient(2), Extra::Analysed(asked));
+    desk.last_rows(rt, 2, &[]);
+}
+
+#[test]
+fn a_small_deficiency_is_asked_at_once(rt: HostRuntime) -> Result<(), Fail> {
+    over_both(&rt, rt.alloc(), Course::DeficiencyAsked)
+}
+
 /// A bill above the escrow balance is advanced, and paid back by a deposit.
 pub(crate) fn escrow_advanced<B: LoanBooks, L: Ledger>(rt: &impl Abort, desk: &mut Desk<B, L>) {
     desk.ok(rt, &today(rt, b"2024-06-15"));

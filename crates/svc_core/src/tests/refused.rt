@@ -99,7 +99,7 @@ fn term(sound: bool, good: u32, bad: u32) -> u32 {
 }
 
 /// Takes on a loan whose first terms, so many, are sound, and the others are not.
-fn board_faulty(rt: &impl Abort, id: u32, sound: u32) -> Command
+pub(crate) fn board_faulty(rt: &impl Abort, id: u32, sound: u32) -> Command
     ensures { IsCommand result }
 {
     let boarded = day(rt, b"2023-12-15");
@@ -209,6 +209,42 @@ pub(crate) fn entries_refused<B: LoanBooks, L: Ledger>(rt: &impl Abort, desk: &m
     desk.no(rt, &reverse(1, 4), Refusal::NoSuchEntry);
 }
 
+/// Entries of a day to come, and amounts out of their range, of which the kind's own rule holds too.
+pub(crate) fn days_to_come<B: LoanBooks, L: Ledger>(rt: &impl Abort, desk: &mut Desk<B, L>) {
+    paid(rt, desk, RemitType::SS);
+    desk.no(
+        rt,
+        &curtail(rt, 1, b"2024-02-02", 20_000_001),
+        after_first_day(rt),
+    );
+    desk.no(rt, &payoff(rt, 1, b"2024-02-02", 1), after_first_day(rt));
+    desk.no(
+        rt,
+        &disburse(rt, 1, b"2024-02-02", 100, 9),
+        after_first_day(rt),
+    );
+    desk.no(
+        rt,
+        &curtail_too_much(rt, 1, b"2024-02-01"),
+        Refusal::BadAmount,
+    );
+    desk.no(rt, &payoff(rt, 1, b"2024-02-01", 0), Refusal::BadAmount);
+}
+
+/// Entries of no amount for a loan that is not there.
+pub(crate) fn not_there<B: LoanBooks, L: Ledger>(rt: &impl Abort, desk: &mut Desk<B, L>) {
+    boarded(rt, desk, RemitType::SS);
+    desk.no(rt, &curtail(rt, 7, b"2024-02-01", 0), Refusal::NoSuchLoan);
+    desk.no(rt, &payoff(rt, 7, b"2024-02-01", 0), Refusal::NoSuchLoan);
+    desk.no(
+        rt,
+        &disburse(rt, 7, b"2024-02-01", 0, 9),
+        Refusal::NoSuchLoan,
+    );
+    desk.no(rt, &refund(7, 0), Refusal::NoSuchLoan);
+    desk.no(rt, &waive(7, 0), Refusal::NoSuchLoan);
+}
+
 /// Questions that are refused.
 pub(crate) fn questions_refused<B: LoanBooks, L: Ledger>(rt: &impl Abort, desk: &mut Desk<B, L>) {
     paid(rt, desk, RemitType::SS);
@@ -228,7 +264,9 @@ pub(crate) fn questions_refused<B: LoanBooks, L: Ledger>(rt: &impl Abort, desk: 
 #[test]
 fn the_first_rule_that_holds_refuses(rt: HostRuntime) -> Result<(), Fail> {
     over_both(&rt, rt.alloc(), Course::EntriesRefused)?;
-    over_both(&rt, rt.alloc(), Course::QuestionsRefused)
+    over_both(&rt, rt.alloc(), Course::QuestionsRefused)?;
+    over_both(&rt, rt.alloc(), Course::DaysToCome)?;
+    over_both(&rt, rt.alloc(), Course::NotThere)
 }
 
 /// Escrow lines that are wrong, and the seventeenth.
@@ -300,8 +338,32 @@ pub(crate) fn shortage_refused<B: LoanBooks, L: Ledger>(rt: &impl Abort, desk: &
     plan_refused(rt, desk, &analyse(2, SurplusPlan::Retain), nothing);
 }
 
+/// With a bill of 1,220.00 paid the balance is 130.00 below 0, as much as the base of a month: a deficiency that
+/// may not be asked within 30 days. The shortage is judged before it.
+pub(crate) fn deficiency_refused<B: LoanBooks, L: Ledger>(rt: &impl Abort, desk: &mut Desk<B, L>) {
+    with_bills(rt, desk);
+    desk.ok(rt, &disburse(rt, 2, b"2024-06-12", 122_000, 1));
+    let spread = PlanFault::MustSpread(PlanPart::Deficient);
+    plan_refused(rt, desk, &ask_deficient(2), spread);
+    let short = PlanFault::MustSpread(PlanPart::Short);
+    plan_refused(rt, desk, &ask_both(2), short);
+    plan_refused(
+        rt,
+        desk,
+        &spread_deficient(2, 1),
+        PlanFault::TooFewMonths(1),
+    );
+    plan_refused(
+        rt,
+        desk,
+        &spread_deficient(2, 61),
+        PlanFault::TooManyMonths(61),
+    );
+}
+
 #[test]
 fn plans_are_refused(rt: HostRuntime) -> Result<(), Fail> {
     over_both(&rt, rt.alloc(), Course::SurplusRefused)?;
-    over_both(&rt, rt.alloc(), Course::ShortageRefused)
+    over_both(&rt, rt.alloc(), Course::ShortageRefused)?;
+    over_both(&rt, rt.alloc(), Course::DeficiencyRefused)
 }
