@@ -1,6 +1,6 @@
 //! An open journal.
 
-ghost use Rattle.std.specs.Prelude.{◌≡◌, ◌⊎◌, ◌↔◌, ℕ, ◌+◌, ◌≤◌, ◌<◌, List, [], ◌∷◌, ◌++◌, length, Some, true, false, IfErr, OnOk, IsErrOf};
+ghost use Rattle.std.specs.Prelude.{◌≡◌, ◌⊎◌, ◌↔◌, ℕ, ◌+◌, ◌≤◌, ◌<◌, List, [], ◌∷◌, ◌++◌, length, Some, true, false, IfErr, OnOk, OnErr, IsErrOf};
 ghost use Rattle.serv_disk.specs.Faults.{HasRisen};
 ghost use Rattle.serv_disk.specs.Disks.{Each, LeavesOnly};
 ghost use Rattle.serv_journal.specs.Format.{Form, IsLine, version_number};
@@ -93,6 +93,7 @@ impl Journal {
         // The journal is spent exactly after `DiskFault`.
         ensures spent { IsErrOf result JournalFault.DiskFault ↔ (self.new.spent ≡ true) }
         ensures faults { D.faults disk.old ≤ D.faults disk.new }
+        ensures size { OnErr result (self.new.size ≡ self.old.size) }
         ensures limit { self.new.limit ≡ self.old.limit }
         ensures same_version { self.new.version ≡ self.old.version }
     {

@@ -8,7 +8,8 @@ use Rattle.serv_line.specs.LineFaults.{IsFault, too_long, misfit}
 use Rattle.serv_line.proofs.LineLemmas.{line_short, no_fault, same_line}
 use Rattle.serv_line.proofs.FaultLemmas.{one_fault}
 use Rattle.svc_types.specs.declared.requests.Request.{Request}
-use Rattle.serv_top.specs.Machine.{history_after_request, bound_of_request, Stand, IsTried, Said, Asks, Faulty, Says, asks, errs}
+use Rattle.serv_machine.specs.Replies.{history_after_request, bound_of_request}
+use Rattle.serv_top.specs.Machine.{Stand, IsTried, Said, Asks, Faulty, Says, asks, errs}
 use Rattle.serv_top.specs.Replies.{Say, Answers, replies_to, history_after_all}
 
 cut_fault : (line : List ℕ) (place : ℕ) → length (take 513 line) ≡ 513 → 512 < length line → IsFault (take 513 line) place → Says line (Faulty place)

@@ -1,0 +1,5 @@
+//! A stub.
+#![tactic(auto)]
+
+/// Nothing.
+pub fn nothing() {}

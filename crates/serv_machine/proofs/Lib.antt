@@ -1,0 +1,3 @@
+pub mod OnDiskLemmas
+pub mod SpellLemmas
+pub mod EngineLemmas
