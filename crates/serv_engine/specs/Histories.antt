@@ -1,5 +1,5 @@
 -- Which contents of a disk keep which history of accepted commands.
-use Rattle.std.specs.Prelude.{ℕ, ◌+◌, List, map, length, sum_by}
+use Rattle.std.specs.Prelude.{ℕ, ◌+◌, List, length, map, sum_by}
 use Rattle.svc_types.specs.declared.requests.Request.TheVariants as request
 use Rattle.svc_world.specs.World.{Accepted}
 use Rattle.serv_line.specs.Lines.{line_of}
@@ -13,6 +13,14 @@ line_of_command a = line_of (request.Do a.key a.command)
 
 abbrev pub lines_of_history : List Accepted → List (List ℕ)
 lines_of_history h = map line_of_command h
+
+-- the bytes of an accepted command in a journal of version 2: its commit byte, its number, its length, its line
+abbrev pub record_length : Accepted → ℕ
+record_length a = 7 + length (line_of_command a)
+
+-- those of a history
+abbrev pub lengths_of : List Accepted → ℕ
+lengths_of h = sum_by record_length h
 
 -- a content has a history, whole
 abbrev pub IsWholeFor : Form → List Accepted → List ℕ → Type 0
@@ -32,11 +40,3 @@ pub record IsFileOf (h : List Accepted) (file : List ℕ) : Type 0 where
   pub commit : ℕ
   pub rest : List ℕ
   pub read : IsRead form (lines_of_history h) commit rest file
-
--- the length of a command's record in a journal: its commit byte, its number, its length and its line
-abbrev pub record_length : Accepted → ℕ
-record_length a = 7 + length (line_of_command a)
-
--- the length of all records of a history
-abbrev pub lengths_of : List Accepted → ℕ
-lengths_of h = sum_by record_length h

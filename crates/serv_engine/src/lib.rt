@@ -1,5 +1,15 @@
-//! A stub.
+//! The engine: the books of a servicer over a journal. A command is in the journal before it is answered.
 #![tactic(auto)]
 
-/// Nothing.
-pub fn nothing() {}
+mod adding;
+mod engine;
+mod fault;
+mod old_version;
+mod opening;
+mod replaying;
+
+pub use engine::Engine;
+pub use fault::EngineFault;
+
+#[cfg(test)]
+mod tests;

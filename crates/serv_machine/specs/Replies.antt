@@ -89,3 +89,8 @@ pending_of r (Ok done) = []
 pending_of r (Err halt.OutOfMemory) = []
 pending_of (request.Do key c) (Err halt.DiskFault) = accepted key c ∷ []
 pending_of (request.Ask q) (Err halt.DiskFault) = []
+
+-- a command is appended to a journal, and a query is not
+abbrev pub IsAppending : Request → Type 0
+IsAppending (request.Do key c) = ⊤
+IsAppending (request.Ask q) = ⊥

@@ -4,7 +4,7 @@ ghost use Rattle.std.specs.Prelude.{◌≡◌, ◌≢◌, ◌+◌, ◌≤◌, �
 ghost use Rattle.svc_types.specs.Requests.{IsCommand, IsQuery, IsRequest};
 ghost use Rattle.svc_types.specs.declared.requests.Request.TheVariants as request;
 ghost use Rattle.serv_disk.specs.Faults.{HasRisen};
-ghost use Rattle.serv_machine.specs.Replies.{bound_of_request, history_after_request, pending_of, reply_to_request};
+ghost use Rattle.serv_machine.specs.Replies.{bound_of_request, history_after_request, pending_of, reply_to_request, IsAppending};
 ghost use Rattle.serv_machine.specs.OnDisk.{OnDisk};
 
 use crate::faults::{ActFault, Halt};
@@ -37,6 +37,7 @@ pub fn answer_request<D: Disk, M: Machine<D>, L: Ledger>(
         ⊎ (M.history machine.new ≡ history_after_request (M.history machine.old) request.now)) }
     ensures stopped { result ≡ Err Halt.DiskFault → (M.history machine.new ≡ M.history machine.old)
         × HasRisen (D.faults disk.old) (D.faults disk.new) }
+    ensures appending { result ≡ Err Halt.DiskFault → IsAppending request.now }
     ensures disk { OnDisk D.images D.moment D.images_since disk.old disk.new
         (M.history machine.old).commands (M.history machine.new).commands (pending_of request.now result) }
     ensures ready { result ≢ Err Halt.DiskFault → M.ready machine.new disk.new }

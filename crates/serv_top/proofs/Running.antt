@@ -1,5 +1,5 @@
 -- A run in its course: what it has taken, accepted and written so far, and what that is where it ends.
-use Rattle.std.proofs.Common.{◌≡◌, ◌≢◌, ◌⊎◌, ℕ, ◌+◌, ◌<◌, ◌≤◌, List, [], ◌∷◌, ◌++◌, length, refl, sym, ap, subst, arith, inl, inr, append-nil, length-append}
+use Rattle.std.proofs.Common.{◌≡◌, ◌≢◌, ◌⊎◌, ℕ, ◌+◌, ◌<◌, ◌≤◌, List, [], ◌∷◌, ◌++◌, length, refl, sym, ap, subst, ◌∙◌, arith, inl, inr, append-nil, length-append}
 use Rattle.std.specs.Prelude.{Option}
 use Rattle.std.specs.Io.KnownBytes.{Appends, Consumes, IsAtEnd}
 use Rattle.std.proofs.KnownBytes.{Consumes-nil, Consumes-trans, Appends-nil}
@@ -170,17 +170,17 @@ ran_nothing waiting steps left held = record {
 -- a run over a machine that begins with nothing
 none_pending : (waiting : ℕ) (st : Status) (s s' : Stand) (pending : List Accepted) (left left' held held' : Option (List ℕ)) → st ≢ status.DiskFault → Ended waiting st s s' pending left left' held held'
     → Ended waiting st s s' [] left left' held held'
-none_pending waiting status.Done s s' pending left left' held held' no e = record { taken = e.taken; written = e.written; took = e.took; wrote = e.wrote; says = (refl, e.says.1, e.says.2, e.says.3) }
-none_pending waiting status.ReadFault s s' pending left left' held held' no e = record { taken = e.taken; written = e.written; took = e.took; wrote = e.wrote; says = (refl, e.says.1, e.says.2) }
-none_pending waiting status.WriteFault s s' pending left left' held held' no e = record { taken = e.taken; written = e.written; took = e.took; wrote = e.wrote; says = (refl, e.says.1, e.says.2) }
-none_pending waiting status.DiskFault s s' pending left left' held held' no e = absurd (no refl)
-none_pending waiting (status.TooMuch n) s s' pending left left' held held' no e = record { taken = e.taken; written = e.written; took = e.took; wrote = e.wrote; says = (refl, e.says.1, e.says.2, e.says.3) }
-none_pending waiting status.OutOfMemory s s' pending left left' held held' no e = record { taken = e.taken; written = e.written; took = e.took; wrote = e.wrote; says = (refl, e.says.1, e.says.2) }
-none_pending waiting status.Usage s s' pending left left' held held' no e = absurd e.says
-none_pending waiting status.NotJournal s s' pending left left' held held' no e = absurd e.says
-none_pending waiting status.AlreadyThere s s' pending left left' held held' no e = absurd e.says
-none_pending waiting (status.Damaged place) s s' pending left left' held held' no e = absurd e.says
-none_pending waiting (status.JournalFull bytes) s s' pending left left' held held' no e = absurd e.says
+none_pending waiting status.Done s s' pending left left' held held' calm e = record { taken = e.taken; written = e.written; took = e.took; wrote = e.wrote; says = (refl, e.says.1, e.says.2, e.says.3) }
+none_pending waiting status.ReadFault s s' pending left left' held held' calm e = record { taken = e.taken; written = e.written; took = e.took; wrote = e.wrote; says = (refl, e.says.1, e.says.2) }
+none_pending waiting status.WriteFault s s' pending left left' held held' calm e = record { taken = e.taken; written = e.written; took = e.took; wrote = e.wrote; says = (refl, e.says.1, e.says.2) }
+none_pending waiting status.DiskFault s s' pending left left' held held' calm e = absurd (calm refl)
+none_pending waiting (status.TooMuch n) s s' pending left left' held held' calm e = record { taken = e.taken; written = e.written; took = e.took; wrote = e.wrote; says = (refl, e.says.1, e.says.2, e.says.3) }
+none_pending waiting status.OutOfMemory s s' pending left left' held held' calm e = record { taken = e.taken; written = e.written; took = e.took; wrote = e.wrote; says = (refl, e.says.1, e.says.2) }
+none_pending waiting status.Usage s s' pending left left' held held' calm e = absurd e.says
+none_pending waiting status.NotJournal s s' pending left left' held held' calm e = absurd e.says
+none_pending waiting status.AlreadyThere s s' pending left left' held held' calm e = absurd e.says
+none_pending waiting (status.Damaged place) s s' pending left left' held held' calm e = absurd e.says
+none_pending waiting (status.JournalFull bytes) s s' pending left left' held held' calm e = absurd e.says
 
 pub ran_serving : {D : Type 0} (images : D → List ℕ → Type 0) (moment : D → ℕ) (images_since : D → ℕ → List ℕ → Type 0) (old new : D) (waiting : ℕ) (st : Status) (h h' : History) (steps steps' : ℕ)
     (left left' held held' : Option (List ℕ)) → h ≡ nothing → st ≢ status.DiskFault → Ends images moment images_since old new waiting st (stand h steps) (stand h' steps') left left' held held'

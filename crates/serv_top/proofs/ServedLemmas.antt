@@ -1,5 +1,5 @@
 -- Bytes that are fed one after the other, the text that they make, and what of it is in the sink.
-use Rattle.std.proofs.Common.{◌≡◌, ℕ, ◌+◌, ◌<◌, ◌≤◌, ◌⊎◌, List, [], ◌∷◌, ◌++◌, length, take, drop, refl, sym, ap, subst, ◌∙◌, arith, inl, inr, append-nil, append_assoc, take-append-drop, get_or}
+use Rattle.std.proofs.Common.{◌≡◌, ℕ, ◌+◌, ◌<◌, ◌≤◌, ◌⊎◌, List, [], ◌∷◌, ◌++◌, length, take, drop, refl, sym, ap, subst, ◌∙◌, arith, inl, inr, append-nil, append_assoc, length-append, take-append-drop, get_or}
 use Rattle.std.specs.Prelude.{Option, Result, Ok, Err, OnOk, OnErr, ◌==◌, Bool, true, false, if◌then◌else◌, MatchBool}
 use Rattle.std.proofs.lemmas.List.{length-take-le, take_at, take_all, take-append-le, take_more, drop_more}
 use Rattle.std.proofs.lemmas.Bool.{cases_lt}
@@ -369,3 +369,6 @@ byte_among before bytes i d below =
 
 pub byte_more : (before bytes : List ℕ) (i d : ℕ) → i < length bytes → before ++ take (i + 1) bytes ≡ (before ++ take i bytes) ++ get_or bytes i d ∷ []
 byte_more before bytes i d below = ap (λ rest. before ++ rest) (take_more bytes i d below) ∙ sym (append_assoc before (take i bytes) (get_or bytes i d ∷ []))
+
+pub few_none : (waiting : ℕ) (text : List ℕ) → text ≡ [] → length text ≤ waiting
+few_none waiting text none = omega (arith, ap length none)

@@ -6,7 +6,7 @@ use Rattle.serv_disk.specs.Disks.{Each, LeavesOnly}
 use Rattle.serv_disk.specs.Faults.{HasRisen}
 use Rattle.serv_journal.specs.Reading.{IsNoJournal}
 use Rattle.serv_engine.specs.Histories.{IsGoodFound, lengths_of}
-use Rattle.serv_engine.specs.Opening.{IsDamagedAt, IsTooLong, IsFound, IsClosed, history_bound}
+use Rattle.serv_engine.specs.Opening.{IsDamagedAt, IsTooLong, IsFound, IsClosed, IsFileWithin, history_bound}
 use Rattle.serv_machine.specs.History.{in_journal}
 use Rattle.serv_machine.specs.OnDisk.{HasHistory, OnDisk}
 use Rattle.serv_top.specs.declared.status.Status.{Status}
@@ -61,10 +61,12 @@ IsOnly only status = (status ≡ only) ⊎ ((status ≡ OutOfMemory) ⊎ (status
 
 -- none was opened: for its cause; but for a fault of the disk, reads give the same, or the same with the closed commit byte 0
 pub record IsUnopened {D : Type 0} (seen : D → Option (List ℕ)) (images : D → List ℕ → Type 0) (moment : D → ℕ) (images_since : D → ℕ → List ℕ → Type 0) (faults : D → ℕ)
-    (old new : D) (status : Status) : Type 0 where
+    (old new : D) (status : Status) (steps steps' : ℕ) : Type 0 where
   pub cause : IsCause status (seen old) (faults old) (faults new)
   pub good : KeepsGood seen images moment images_since old new
   pub kept : (status ≡ DiskFault) ⊎ ((seen new ≡ seen old) ⊎ ((s : List ℕ) → seen old ≡ Some s → IsClosed s (seen new)))
+  -- no step was taken, or those of the commands that were found and of the one that is the fault
+  pub cost : (steps' ≡ steps) ⊎ ((s : List ℕ) → seen old ≡ Some s → IsFileWithin s steps steps')
 
 -- one was opened, with these commands and this length without a command, after which the disk was this one; and then lines were
 -- answered over it

@@ -62,7 +62,7 @@ pub(crate) fn apply<S: Source, K: Sink, D: Disk, L: Ledger>(
     steps: &mut Steps<L>,
 ) -> Status
     ensures applied { (IsUnopened D.seen D.images D.moment D.images_since D.faults disk.old disk.new result
-        × (src.new ≡ src.old) × (snk.new ≡ snk.old))
+        steps.old steps.new × (src.new ≡ src.old) × (snk.new ≡ snk.old))
         ⊎ IsApplied D.seen D.images D.moment D.images_since disk.old disk.new result steps.old steps.new
         (S.left src.old) (S.left src.new) (K.held snk.old) (K.held snk.new) }
     // The faults of the file come exactly by their causes.

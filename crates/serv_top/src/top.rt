@@ -77,7 +77,7 @@ pub fn run<S: Source, K: Sink, D: Disk, L: Ledger>(
     // Over a journal the same, with what a crash at any moment leaves on the disk; or none was opened.
     ensures apply { task_in (map (λ w. w.now) words.now) ≡ Some task.Apply
         → (IsUnopened D.seen D.images D.moment D.images_since D.faults disk.old disk.new result
-        × (src.new ≡ src.old) × (snk.new ≡ snk.old))
+        steps.old steps.new × (src.new ≡ src.old) × (snk.new ≡ snk.old))
         ⊎ IsApplied D.seen D.images D.moment D.images_since disk.old disk.new result steps.old steps.new
         (S.left src.old) (S.left src.new) (K.held snk.old) (K.held snk.new) }
     ensures not_journal { (s : List ℕ) → D.seen disk.old ≡ Some s → IsNoJournal s
@@ -132,5 +132,3 @@ pub fn run<S: Source, K: Sink, D: Disk, L: Ledger>(
     }
 }
 
-#[cfg(test)]
-mod tests;
