@@ -93,8 +93,6 @@ store_ended waiting (status.JournalFull bytes) s s' pending taken left written i
 
 -- ---- a journal was opened
 
-
-
 same_store : (e e' : EngineState) → (history_of e').store ≡ (history_of e).store → history_of e' ≡ in_journal (e.journal.size - lengths_of e.history) e.journal.limit e'.history
 same_store e e' same = let make : Store → History = λ store. record { commands = e'.history; store = store } in ap make same
 

@@ -132,3 +132,5 @@ pub fn run<S: Source, K: Sink, D: Disk, L: Ledger>(
     }
 }
 
+#[cfg(test)]
+mod tests;
