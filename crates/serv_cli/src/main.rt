@@ -4,10 +4,11 @@
 
 ghost use Rattle.std.specs.Prelude.{◌≡◌, ◌<◌};
 
-use serv_disk::{ReadSource, WriteSink};
+use serv_disk::{FileDisk, ReadSource, WriteSink};
 use serv_top::Status;
 use std::alloc::{AllocError, Global};
 use std::env;
+use std::fs::Files;
 use std::io::{self, ErrorKind};
 use std::marker::Brand;
 use std::process::ExitCode;
@@ -37,8 +38,12 @@ fn texts_of(alloc: Global, words: &[String]) -> Result<Vec<&str>, AllocError> {
     Ok(texts)
 }
 
-/// Makes the objects and runs what the words ask for.
-fn start<R: Env + Input + Print + AllocGlobal, L: Ledger>(rt: &R, blank: Blank) -> Status
+/// Makes the objects and runs what the words ask for. The first word is the path of the journal's file.
+fn start<R: Env + Input + Print + AllocGlobal, F: Files + Drop, L: Ledger>(
+    rt: &R,
+    files: F,
+    blank: Blank,
+) -> Status
     requires name { blank.name ≡ L.name }
     requires parts { blank.parts ≡ L.parts }
     requires some { 0 < L.parts }
@@ -50,14 +55,31 @@ fn start<R: Env + Input + Print + AllocGlobal, L: Ledger>(rt: &R, blank: Blank) 
     let Ok(texts) = texts_of(rt.alloc(), &words) else {
         return Status::OutOfMemory;
     };
+    let path = match words.first() {
+        Some(word) => word.as_str(),
+        None => "",
+    };
+    let Ok(mut disk) = FileDisk::new(rt.alloc(), files, path) else {
+        return Status::OutOfMemory;
+    };
     let mut src = ReadSource::new(rt.reader());
     let mut snk = WriteSink::new(io::writer(rt));
     let mut steps = Steps::<L>::new(blank);
-    serv_top::run(rt.alloc(), &texts, &mut src, &mut snk, &mut steps)
+    serv_top::run(
+        rt.alloc(),
+        &texts,
+        &mut src,
+        &mut snk,
+        &mut disk,
+        &mut steps,
+    )
 }
 
 fn main(rt: HostRuntime) -> ExitCode {
-    let status = start::<HostRuntime, Brand>(&rt, Blank::new(1));
+    let status = match rt.clone() {
+        Ok(files) => start::<HostRuntime, HostRuntime, Brand>(&rt, files, Blank::new(1)),
+        Err(_) => Status::OutOfMemory,
+    };
     if status != Status::Done {
         let _ = eprintln!(rt; "status {status}");
     }

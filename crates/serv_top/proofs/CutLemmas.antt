@@ -2,7 +2,8 @@
 use Rattle.std.proofs.Common.{◌≡◌, ℕ, ◌<◌, ◌≤◌, List, [], ◌∷◌, ◌++◌, length, take, drop, arith, refl, sym, ap, subst, ◌∙◌, inl, inr, length-append, append_assoc, take-append-drop}
 use Rattle.std.proofs.lemmas.Bool.{cases_lt}
 use Rattle.std.proofs.lemmas.List.{length-drop, take_at, drop_at, take-append-le, drop-append-le}
-use Rattle.serv_top.specs.Machine.{History, Said, Says, reply_to, history_after, Stand}
+use Rattle.serv_machine.specs.History.{History}
+use Rattle.serv_top.specs.Machine.{Said, Says, reply_to, history_after, Stand}
 use Rattle.serv_top.specs.Replies.{Say, replies_to, IsCutIn, IsCutAt}
 
 -- what is written ends in the first reply
@@ -83,6 +84,6 @@ cut_before lines more h written cut = record {
   partial = cut.partial;
 }
 
-pub cut_in_one : (lines : List (List ℕ)) (s s' : Stand) (written : List ℕ) → IsCutIn lines s s' written → IsCutAt lines s.history written
-cut_in_one lines s s' written cut =
+pub cut_in_one : (waiting : ℕ) (lines : List (List ℕ)) (s s' : Stand) (written : List ℕ) → IsCutIn waiting lines s s' written → IsCutAt lines s.history written
+cut_in_one waiting lines s s' written cut =
     subst (λ ls. IsCutAt ls s.history written) (sym cut.lines_are) (cut_before cut.acted cut.others s.history written (cut_at cut.acted cut.said s.history written cut.cut.rest cut.say cut.cut.some cut.cut.joined))

@@ -2,7 +2,8 @@
 use Rattle.std.proofs.Common.{◌≡◌, ℕ, ◌+◌, arith, List, [], ◌∷◌, ◌++◌, refl, sym, ap, ◌∙◌, append-nil, append_assoc}
 use Rattle.std.specs.Prelude.{◌==◌, if◌then◌else◌, true, false}
 use Rattle.serv_top.specs.Lines.{onto_first, onto_ended, lines_of, ended_lines, open_from, open_line}
-use Rattle.serv_top.specs.Machine.{History, Said, Says, reply_to, history_after, bound_of, Stand, Moves}
+use Rattle.serv_machine.specs.History.{History}
+use Rattle.serv_top.specs.Machine.{Said, Says, reply_to, history_after, bound_of, Stand, Moves}
 use Rattle.serv_top.specs.Replies.{Say, history_after_all, replies_to, bound_of_all, MovesAll}
 
 -- the lines that end, where the stream goes on from this piece of a line

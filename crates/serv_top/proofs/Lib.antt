@@ -5,4 +5,4 @@ pub mod LineLemmas
 pub mod CutLemmas
 pub mod ServedLemmas
 pub mod Running
-pub mod SpellLemmas
+pub mod Applied

@@ -1,93 +1,191 @@
 -- A run in its course: what it has taken, accepted and written so far, and what that is where it ends.
-use Rattle.std.proofs.Common.{◌≡◌, ℕ, ◌+◌, ◌<◌, ◌≤◌, List, [], ◌++◌, length, refl, subst, arith, inl, inr, append-nil, length-append}
+use Rattle.std.proofs.Common.{◌≡◌, ◌≢◌, ◌⊎◌, ℕ, ◌+◌, ◌<◌, ◌≤◌, List, [], ◌∷◌, ◌++◌, length, refl, sym, ap, subst, ◌∙◌, arith, inl, inr, append-nil, length-append}
 use Rattle.std.specs.Prelude.{Option}
 use Rattle.std.specs.Io.KnownBytes.{Appends, Consumes, IsAtEnd}
 use Rattle.std.proofs.KnownBytes.{Consumes-nil, Consumes-trans, Appends-nil}
+use Rattle.svc_world.specs.World.{Accepted}
+use Rattle.serv_machine.specs.History.{History, nothing}
+use Rattle.serv_machine.specs.OnDisk.{OnDisk}
+use Rattle.serv_machine.proofs.OnDiskLemmas.{disk_more}
 use Rattle.serv_top.specs.declared.serving.Stop.{Stop}
 use Rattle.serv_top.specs.declared.serving.Stop.TheVariants as stop
 use Rattle.serv_top.specs.declared.status.Status.{Status}
 use Rattle.serv_top.specs.declared.status.Status.TheVariants as status
 use Rattle.serv_top.specs.Lines.{lines_of, ended_lines}
-use Rattle.serv_top.specs.Machine.{History, Stand, stand}
-use Rattle.serv_top.specs.Serving.{AllServed, Served, Stopped}
+use Rattle.serv_top.specs.Machine.{Stand, stand}
+use Rattle.serv_top.specs.Serving.{AllServed, Served, Stopped, Stops}
 use Rattle.serv_top.specs.Stop.{status_of}
-use Rattle.serv_top.specs.Outcome.{Ended, Ran, input_limit}
+use Rattle.serv_top.specs.Outcome.{Ended, Ends, Ran, input_limit}
 use Rattle.serv_top.proofs.ServedLemmas.{served_none}
 
 -- the bytes taken are served
-pub record Running (s s' : Stand) (left left' held held' : Option (List ℕ)) (line text : List ℕ) (count : ℕ) : Type 0 where
+pub record Running (waiting : ℕ) (s s' : Stand) (left left' held held' : Option (List ℕ)) (line text : List ℕ) (count : ℕ) : Type 0 where
   pub taken : List ℕ
   pub took : Consumes left left' taken
-  pub served : Served taken s s' held held' line text
+  pub served : Served waiting taken s s' held held' line text
   pub count_is : count ≡ length taken
 
-pub running_none : (s s' : Stand) (left held : Option (List ℕ)) (line text : List ℕ) → line ≡ [] → text ≡ [] → s'.history ≡ s.history → s'.steps ≤ s.steps → Running s s' left left held held line text 0
-running_none s s' left held line text no_line no_text same cost = record { taken = []; took = Consumes-nil left; served = served_none s s' held line text no_line no_text same cost; count_is = refl }
+pub running_none : (waiting : ℕ) (s s' : Stand) (left held : Option (List ℕ)) (line text : List ℕ) → line ≡ [] → text ≡ [] → s'.history ≡ s.history → s'.steps ≤ s.steps
+    → Running waiting s s' left left held held line text 0
+running_none waiting s s' left held line text no_line no_text same cost =
+    record { taken = []; took = Consumes-nil left; served = served_none waiting s s' held line text no_line no_text same cost; count_is = refl }
 
 -- more bytes are taken and served
-pub running_more : {s s' : Stand} {left left' held held' : Option (List ℕ)} {line text : List ℕ} {count : ℕ} (run : Running s s' left left' held held' line text count)
+pub running_more : {waiting : ℕ} {s s' : Stand} {left left' held held' : Option (List ℕ)} {line text : List ℕ} {count : ℕ} (run : Running waiting s s' left left' held held' line text count)
     (bytes : List ℕ) (n : ℕ) (s'' : Stand) (left'' held'' : Option (List ℕ)) (line' text' : List ℕ) → length bytes ≡ n → Consumes left' left'' bytes
-    → Served (run.taken ++ bytes) s s'' held held'' line' text' → Running s s'' left left'' held held'' line' text' (count + n)
+    → Served waiting (run.taken ++ bytes) s s'' held held'' line' text' → Running waiting s s'' left left'' held held'' line' text' (count + n)
 running_more {left} {left'} run bytes n s'' left'' held'' line' text' long took served =
     let counted = run.count_is in
     let joined = length-append run.taken bytes in
     record { taken = run.taken ++ bytes; took = Consumes-trans left left' left'' run.taken bytes run.took took; served = served; count_is = omega arith }
 
--- it stops at one of the bytes that were taken last
-pub ended_at_bytes : {s s' : Stand} {left left' held held' : Option (List ℕ)} {line text : List ℕ} {count : ℕ} (run : Running s s' left left' held held' line text count)
-    (bytes : List ℕ) (n : ℕ) (s'' : Stand) (left'' held'' : Option (List ℕ)) → length bytes ≡ n → count + n ≤ input_limit → Consumes left' left'' bytes
-    → (why : Stop) → Stopped why (ended_lines (run.taken ++ bytes)) s s'' held held'' → Ended (status_of why) s s'' left left'' held held''
-ended_at_bytes {left} {left'} run bytes n s'' left'' held'' long within took stop.WriteFault stopped =
-    let counted = run.count_is in
-    let joined = length-append run.taken bytes in
-    record { taken = run.taken ++ bytes; written = stopped.written; took = Consumes-trans left left' left'' run.taken bytes run.took took; wrote = stopped.wrote; says = (omega arith, inl stopped.says) }
-ended_at_bytes {left} {left'} run bytes n s'' left'' held'' long within took stop.OutOfMemory stopped =
-    let counted = run.count_is in
-    let joined = length-append run.taken bytes in
-    record { taken = run.taken ++ bytes; written = stopped.written; took = Consumes-trans left left' left'' run.taken bytes run.took took; wrote = stopped.wrote; says = (omega arith, inl stopped.says) }
-
 -- the end of the input
-end_took : {s s' : Stand} {left left' held held' : Option (List ℕ)} {line text : List ℕ} {count : ℕ} (run : Running s s' left left' held held' line text count)
+end_took : {waiting : ℕ} {s s' : Stand} {left left' held held' : Option (List ℕ)} {line text : List ℕ} {count : ℕ} (run : Running waiting s s' left left' held held' line text count)
     (left'' : Option (List ℕ)) → Consumes left' left'' [] → Consumes left left'' run.taken
 end_took {left} {left'} run left'' took = subst (Consumes left left'') (append-nil run.taken) (Consumes-trans left left' left'' run.taken [] run.took took)
 
-pub ended_done : {s s' : Stand} {left left' held held' : Option (List ℕ)} {line text : List ℕ} {count : ℕ} (run : Running s s' left left' held held' line text count)
-    (s'' : Stand) (left'' held'' : Option (List ℕ)) → count < input_limit → Consumes left' left'' [] → IsAtEnd left'' → AllServed (lines_of run.taken) s s'' held held''
-    → Ended status.Done s s'' left left'' held held''
-ended_done run s'' left'' held'' below took end all =
-    let counted = run.count_is in
-    record { taken = run.taken; written = all.written; took = end_took run left'' took; wrote = all.wrote; says = (end, omega arith, all.answers) }
+-- it stops at some of the lines that ended in these bytes
+stopped_ended : (waiting : ℕ) (why : Stop) (bytes : List ℕ) (s s' : Stand) (pending : List Accepted) (left left' held held' : Option (List ℕ)) → Consumes left left' bytes → length bytes ≤ input_limit
+    → Stopped why waiting (ended_lines bytes) s s' pending held held' → Ended waiting (status_of why) s s' pending left left' held held'
+stopped_ended waiting stop.WriteFault bytes s s' pending left left' held held' took within stopped =
+    record { taken = bytes; written = stopped.written; took = took; wrote = stopped.wrote; says = (stopped.says.0, within, inl stopped.says.1) }
+stopped_ended waiting stop.DiskFault bytes s s' pending left left' held held' took within stopped =
+    record { taken = bytes; written = stopped.written; took = took; wrote = stopped.wrote; says = (within, inl stopped.says) }
+stopped_ended waiting stop.OutOfMemory bytes s s' pending left left' held held' took within stopped =
+    record { taken = bytes; written = stopped.written; took = took; wrote = stopped.wrote; says = (stopped.says.0, within, inl stopped.says.1) }
 
-pub ended_at_end : {s s' : Stand} {left left' held held' : Option (List ℕ)} {line text : List ℕ} {count : ℕ} (run : Running s s' left left' held held' line text count)
-    (s'' : Stand) (left'' held'' : Option (List ℕ)) → count < input_limit → Consumes left' left'' [] → IsAtEnd left'' → (why : Stop) → Stopped why (lines_of run.taken) s s'' held held''
-    → Ended (status_of why) s s'' left left'' held held''
-ended_at_end run s'' left'' held'' below took end stop.WriteFault stopped =
-    let counted = run.count_is in
-    record { taken = run.taken; written = stopped.written; took = end_took run left'' took; wrote = stopped.wrote; says = (omega arith, inr (end, stopped.says)) }
-ended_at_end run s'' left'' held'' below took end stop.OutOfMemory stopped =
-    let counted = run.count_is in
-    record { taken = run.taken; written = stopped.written; took = end_took run left'' took; wrote = stopped.wrote; says = (omega arith, inr (end, stopped.says)) }
+stopped_last : (waiting : ℕ) (why : Stop) (bytes : List ℕ) (s s' : Stand) (pending : List Accepted) (left left' held held' : Option (List ℕ)) → Consumes left left' bytes → length bytes ≤ input_limit → IsAtEnd left'
+    → Stopped why waiting (lines_of bytes) s s' pending held held' → Ended waiting (status_of why) s s' pending left left' held held'
+stopped_last waiting stop.WriteFault bytes s s' pending left left' held held' took within end stopped =
+    record { taken = bytes; written = stopped.written; took = took; wrote = stopped.wrote; says = (stopped.says.0, within, inr (end, stopped.says.1)) }
+stopped_last waiting stop.DiskFault bytes s s' pending left left' held held' took within end stopped =
+    record { taken = bytes; written = stopped.written; took = took; wrote = stopped.wrote; says = (within, inr (end, stopped.says)) }
+stopped_last waiting stop.OutOfMemory bytes s s' pending left left' held held' took within end stopped =
+    record { taken = bytes; written = stopped.written; took = took; wrote = stopped.wrote; says = (stopped.says.0, within, inr (end, stopped.says.1)) }
 
--- a run that takes nothing
-pub ran_nothing : (steps : ℕ) (left held : Option (List ℕ)) → Ran status.OutOfMemory [] steps steps left left held held
-ran_nothing steps left held = record {
-  after = [];
+module _ {D : Type 0} (images : D → List ℕ → Type 0) (moment : D → ℕ) (images_since : D → ℕ → List ℕ → Type 0) (old mid new : D) where
+  -- it stops at one of the bytes that were taken last
+  pub ends_at_bytes : (waiting : ℕ) (s t s' : Stand) (left left' left'' held held' held'' : Option (List ℕ)) (line text : List ℕ) (count : ℕ) (run : Running waiting s t left left' held held' line text count)
+      (bytes : List ℕ) (n : ℕ) → length bytes ≡ n → count + n ≤ input_limit → Consumes left' left'' bytes → OnDisk images moment images_since old mid s.history.commands t.history.commands []
+      → (why : Stop) → Stops images moment images_since mid new why waiting (ended_lines (run.taken ++ bytes)) s t s' held held''
+      → Ends images moment images_since old new waiting (status_of why) s s' left left'' held held''
+  ends_at_bytes waiting s t s' left left' left'' held held' held'' line text count run bytes n long within took first why stops =
+      let counted = run.count_is in
+      let joined = length-append run.taken bytes in
+      let small : length (run.taken ++ bytes) ≤ input_limit = omega arith in
+      record {
+        pending = stops.pending;
+        ended = stopped_ended waiting why (run.taken ++ bytes) s s' stops.pending left left'' held held'' (Consumes-trans left left' left'' run.taken bytes run.took took) small stops.stopped;
+        disk = disk_more images moment images_since old mid new s.history.commands t.history.commands s'.history.commands stops.pending first stops.disk;
+      }
+
+  -- it stops at the last piece
+  pub ends_at_end : (waiting : ℕ) (s t s' : Stand) (left left' left'' held held' held'' : Option (List ℕ)) (line text : List ℕ) (count : ℕ) (run : Running waiting s t left left' held held' line text count)
+      → count < input_limit → Consumes left' left'' [] → IsAtEnd left'' → OnDisk images moment images_since old mid s.history.commands t.history.commands []
+      → (why : Stop) → Stops images moment images_since mid new why waiting (lines_of run.taken) s t s' held held''
+      → Ends images moment images_since old new waiting (status_of why) s s' left left'' held held''
+  ends_at_end waiting s t s' left left' left'' held held' held'' line text count run below took end first why stops =
+      let counted = run.count_is in
+      let small : length run.taken ≤ input_limit = omega arith in
+      record {
+        pending = stops.pending;
+        ended = stopped_last waiting why run.taken s s' stops.pending left left'' held held'' (end_took run left'' took) small end stops.stopped;
+        disk = disk_more images moment images_since old mid new s.history.commands t.history.commands s'.history.commands stops.pending first stops.disk;
+      }
+
+  -- all lines are answered
+  pub ends_done : (waiting : ℕ) (s t s' : Stand) (left left' left'' held held' held'' : Option (List ℕ)) (line text : List ℕ) (count : ℕ) (run : Running waiting s t left left' held held' line text count)
+      → count < input_limit → Consumes left' left'' [] → IsAtEnd left'' → OnDisk images moment images_since old mid s.history.commands t.history.commands []
+      → OnDisk images moment images_since mid new t.history.commands s'.history.commands [] → AllServed (lines_of run.taken) s s' held held''
+      → Ends images moment images_since old new waiting status.Done s s' left left'' held held''
+  ends_done waiting s t s' left left' left'' held held' held'' line text count run below took end first second all =
+      let counted = run.count_is in
+      record {
+        pending = [];
+        ended = record { taken = run.taken; written = all.written; took = end_took run left'' took; wrote = all.wrote; says = (refl, end, omega arith, all.answers) };
+        disk = disk_more images moment images_since old mid new s.history.commands t.history.commands s'.history.commands [] first second;
+      }
+
+  pub disk_on : (s t s' : Stand) → OnDisk images moment images_since old mid s.history.commands t.history.commands [] → OnDisk images moment images_since mid new t.history.commands s'.history.commands []
+      → OnDisk images moment images_since old new s.history.commands s'.history.commands []
+  disk_on s t s' first second = disk_more images moment images_since old mid new s.history.commands t.history.commands s'.history.commands [] first second
+
+module _ {D : Type 0} (images : D → List ℕ → Type 0) (moment : D → ℕ) (images_since : D → ℕ → List ℕ → Type 0) (old new : D) where
+  -- a read failed: what was taken before is served
+  pub ends_unread : (waiting : ℕ) (s s' : Stand) (left left' left'' held held' : Option (List ℕ)) (line text : List ℕ) (count : ℕ) (run : Running waiting s s' left left' held held' line text count)
+      → text ≡ [] → count < input_limit → left'' ≡ left' → OnDisk images moment images_since old new s.history.commands s'.history.commands []
+      → Ends images moment images_since old new waiting status.ReadFault s s' left left'' held held'
+  ends_unread waiting s s' left left' left'' held held' line text count run none below same disk =
+      let counted = run.count_is in
+      record {
+        pending = [];
+        ended = record {
+          taken = run.taken;
+          written = run.served.written;
+          took = subst (λ x. Consumes left x run.taken) (sym same) run.took;
+          wrote = run.served.wrote;
+          says = (refl, omega arith, record { said = run.served.said; say = run.served.say; text = whole_text run.served.written text none ∙ run.served.gathered; moved = run.served.moved });
+        };
+        disk = disk;
+      }
+    where
+      whole_text : (written text : List ℕ) → text ≡ [] → written ≡ written ++ text
+      whole_text written text none = sym (append-nil written) ∙ ap (λ t. written ++ t) (sym none)
+
+  -- too much was taken
+  pub ends_full : (waiting : ℕ) (s s' : Stand) (left left' held held' : Option (List ℕ)) (line text : List ℕ) (count : ℕ) (run : Running waiting s s' left left' held held' line text count)
+      → text ≡ [] → count ≤ input_limit → input_limit ≤ count → OnDisk images moment images_since old new s.history.commands s'.history.commands []
+      → Ends images moment images_since old new waiting (status.TooMuch count) s s' left left' held held'
+  ends_full waiting s s' left left' held held' line text count run none within full disk =
+      let counted = run.count_is in
+      let all : count ≡ input_limit = omega (arith, within, full) in
+      record {
+        pending = [];
+        ended = record {
+          taken = run.taken;
+          written = run.served.written;
+          took = run.took;
+          wrote = run.served.wrote;
+          says = (refl, counted, all, record { said = run.served.said; say = run.served.say; text = whole_text run.served.written text none ∙ run.served.gathered; moved = run.served.moved });
+        };
+        disk = disk;
+      }
+    where
+      whole_text : (written text : List ℕ) → text ≡ [] → written ≡ written ++ text
+      whole_text written text none = sym (append-nil written) ∙ ap (λ t. written ++ t) (sym none)
+
+-- a run in memory that takes nothing
+pub ran_nothing : (waiting steps : ℕ) (left held : Option (List ℕ)) → Ran waiting status.OutOfMemory steps steps left left held held
+ran_nothing waiting steps left held = record {
+  after = nothing;
   ended = record {
     taken = [];
     written = [];
     took = Consumes-nil left;
     wrote = Appends-nil held;
-    says = (omega arith, inl (record { acted = []; others = []; lines_are = refl; said = []; say = tt; before = stand [] steps; moved = (refl, omega arith); rest = []; text = refl; after = inl (refl, omega arith) }));
+    says = (refl, omega arith, inl (record { acted = []; others = []; lines_are = refl; said = []; say = tt; before = stand nothing steps; moved = (refl, omega arith); rest = []; text = refl; few = omega arith; after = inl (refl, omega arith) }));
   };
 }
 
--- a run over a machine whose history is empty at the entry
-pub ran_serving : (status : Status) (h h' : History) (steps steps' : ℕ) (left left' held held' : Option (List ℕ)) → h ≡ [] → Ended status (stand h steps) (stand h' steps') left left' held held'
-    → Ran status [] steps steps' left left' held held'
-ran_serving status h h' steps steps' left left' held held' none ended = record { after = h'; ended = subst (λ x. Ended status (stand x steps) (stand h' steps') left left' held held') none ended }
+-- a run over a machine that begins with nothing
+none_pending : (waiting : ℕ) (st : Status) (s s' : Stand) (pending : List Accepted) (left left' held held' : Option (List ℕ)) → st ≢ status.DiskFault → Ended waiting st s s' pending left left' held held'
+    → Ended waiting st s s' [] left left' held held'
+none_pending waiting status.Done s s' pending left left' held held' calm e = record { taken = e.taken; written = e.written; took = e.took; wrote = e.wrote; says = (refl, e.says.1, e.says.2, e.says.3) }
+none_pending waiting status.ReadFault s s' pending left left' held held' calm e = record { taken = e.taken; written = e.written; took = e.took; wrote = e.wrote; says = (refl, e.says.1, e.says.2) }
+none_pending waiting status.WriteFault s s' pending left left' held held' calm e = record { taken = e.taken; written = e.written; took = e.took; wrote = e.wrote; says = (refl, e.says.1, e.says.2) }
+none_pending waiting status.DiskFault s s' pending left left' held held' calm e = absurd (calm refl)
+none_pending waiting (status.TooMuch n) s s' pending left left' held held' calm e = record { taken = e.taken; written = e.written; took = e.took; wrote = e.wrote; says = (refl, e.says.1, e.says.2, e.says.3) }
+none_pending waiting status.OutOfMemory s s' pending left left' held held' calm e = record { taken = e.taken; written = e.written; took = e.took; wrote = e.wrote; says = (refl, e.says.1, e.says.2) }
+none_pending waiting status.Usage s s' pending left left' held held' calm e = absurd e.says
+none_pending waiting status.NotJournal s s' pending left left' held held' calm e = absurd e.says
+none_pending waiting status.AlreadyThere s s' pending left left' held held' calm e = absurd e.says
+none_pending waiting (status.Damaged place) s s' pending left left' held held' calm e = absurd e.says
+none_pending waiting (status.JournalFull bytes) s s' pending left left' held held' calm e = absurd e.says
 
-pub ran_usage : (steps : ℕ) (left held : Option (List ℕ)) → Ran status.Usage [] steps steps left left held held
-ran_usage steps left held = record {
-  after = [];
-  ended = record { taken = []; written = []; took = Consumes-nil left; wrote = Appends-nil held; says = (refl, refl, (refl, omega arith)) };
+pub ran_serving : {D : Type 0} (images : D → List ℕ → Type 0) (moment : D → ℕ) (images_since : D → ℕ → List ℕ → Type 0) (old new : D) (waiting : ℕ) (st : Status) (h h' : History) (steps steps' : ℕ)
+    (left left' held held' : Option (List ℕ)) → h ≡ nothing → st ≢ status.DiskFault → Ends images moment images_since old new waiting st (stand h steps) (stand h' steps') left left' held held'
+    → Ran waiting st steps steps' left left' held held'
+ran_serving images moment images_since old new waiting st h h' steps steps' left left' held held' none calm ends = record {
+  after = h';
+  ended = subst (λ x. Ended waiting st (stand x steps) (stand h' steps') [] left left' held held') none (none_pending waiting st (stand h steps) (stand h' steps') ends.pending left left' held held' calm ends.ended);
 }

@@ -1,35 +1,47 @@
 -- Bytes that are fed one after the other, the text that they make, and what of it is in the sink.
-use Rattle.std.proofs.Common.{◌≡◌, ℕ, ◌+◌, ◌<◌, ◌≤◌, ◌⊎◌, List, [], ◌∷◌, ◌++◌, length, take, drop, refl, sym, ap, subst, ◌∙◌, arith, inl, inr, append-nil, append_assoc, take-append-drop, get_or}
+use Rattle.std.proofs.Common.{◌≡◌, ℕ, ◌+◌, ◌<◌, ◌≤◌, ◌⊎◌, List, [], ◌∷◌, ◌++◌, length, take, drop, refl, sym, ap, subst, ◌∙◌, arith, inl, inr, append-nil, append_assoc, length-append, take-append-drop, get_or}
 use Rattle.std.specs.Prelude.{Option, Result, Ok, Err, OnOk, OnErr, ◌==◌, Bool, true, false, if◌then◌else◌, MatchBool}
 use Rattle.std.proofs.lemmas.List.{length-take-le, take_at, take_all, take-append-le, take_more, drop_more}
 use Rattle.std.proofs.lemmas.Bool.{cases_lt}
 use Rattle.std.specs.Io.KnownBytes.{Appends}
 use Rattle.std.proofs.KnownBytes.{Appends-nil, Appends-trans}
+use Rattle.svc_world.specs.World.{Accepted}
 use Rattle.serv_disk.specs.Faults.{IsProperPrefix, AppendsPart}
+use Rattle.serv_machine.specs.declared.faults.Halt.{Halt}
+use Rattle.serv_machine.specs.declared.faults.Halt.TheVariants as halt
+use Rattle.serv_machine.specs.OnDisk.{OnDisk}
+use Rattle.serv_machine.proofs.OnDiskLemmas.{disk_more}
 use Rattle.serv_top.specs.declared.serving.Stop.{Stop}
-use Rattle.serv_top.specs.declared.serving.Stop.TheVariants.{WriteFault, OutOfMemory}
+use Rattle.serv_top.specs.declared.serving.Stop.TheVariants.{WriteFault, DiskFault, OutOfMemory}
 use Rattle.serv_top.specs.Lines.{lines_of, ended_lines, open_line}
-use Rattle.serv_top.specs.Machine.{Said, Says, reply_to, Stand, Stays, Moves, IsTried}
-use Rattle.serv_top.specs.Replies.{Say, Answers, IsCutIn, IsBegun, IsTriedNext, replies_to, MovesAll}
-use Rattle.serv_top.specs.Serving.{AllServed, AppendsFront, Feeds, FailsAt, IsReplied, Served, Stopped, IsStoppedText}
+use Rattle.serv_top.specs.Machine.{Said, Says, reply_to, Stand, Stays, Moves, IsTried, IsStuck}
+use Rattle.serv_top.specs.Replies.{Say, Answers, IsCutIn, IsBegun, IsHeldUp, IsTriedNext, before_last, replies_to, MovesAll}
+use Rattle.serv_top.specs.Serving.{AllServed, AppendsFront, Feeds, FailsAt, Halts, HaltsAt, IsHalted, IsDropped, IsReplied, Served, Stopped, Stops, IsStoppedText}
+use Rattle.serv_top.specs.Stop.{stop_of}
 use Rattle.serv_top.proofs.LineLemmas.{says_whole}
 use Rattle.serv_top.proofs.Cutting.{unended, ended_from, open_from-push, ended_lines-push, ended_lines-append, lines_of-from, say-push, replies_to-push, moves_more}
 
-pub served_none : (s s' : Stand) (held : Option (List ℕ)) (line text : List ℕ) → line ≡ [] → text ≡ [] → s'.history ≡ s.history → s'.steps ≤ s.steps → Served [] s s' held held line text
-served_none s s' held line text no_line no_text same cost = record { said = []; say = tt; moved = (same, omega (arith, cost)); written = []; wrote = Appends-nil held; gathered = no_text; line_is = no_line }
+pub served_none : (waiting : ℕ) (s s' : Stand) (held : Option (List ℕ)) (line text : List ℕ) → line ≡ [] → text ≡ [] → s'.history ≡ s.history → s'.steps ≤ s.steps
+    → Served waiting [] s s' held held line text
+served_none waiting s s' held line text no_line no_text same cost =
+    record { said = []; say = tt; moved = (same, omega (arith, cost)); written = []; wrote = Appends-nil held; gathered = no_text; late = omega arith; line_is = no_line }
 
 -- what was not written yet is written
-pub served_flushed : (bytes : List ℕ) (s s' : Stand) (held held' held'' : Option (List ℕ)) (line text line' text' : List ℕ) → Served bytes s s' held held' line text → Appends held' held'' text
-    → line' ≡ line → text' ≡ [] → Served bytes s s' held held'' line' text'
-served_flushed bytes s s' held held' held'' line text line' text' run wrote same none = record {
+pub served_flushed : (waiting : ℕ) (bytes : List ℕ) (s s' : Stand) (held held' held'' : Option (List ℕ)) (line text line' text' : List ℕ) → Served waiting bytes s s' held held' line text
+    → Appends held' held'' text → line' ≡ line → text' ≡ [] → Served waiting bytes s s' held held'' line' text'
+served_flushed waiting bytes s s' held held' held'' line text line' text' run wrote same none = record {
   said = run.said;
   say = run.say;
   moved = run.moved;
   written = run.written ++ text;
   wrote = Appends-trans held held' held'' run.written text run.wrote wrote;
   gathered = ap (λ t. (run.written ++ text) ++ t) none ∙ append-nil (run.written ++ text) ∙ run.gathered;
+  late = longer (length (replies_to s.history (before_last run.said))) (length run.written) (length (run.written ++ text)) (length text) waiting (length-append run.written text) run.late;
   line_is = same ∙ run.line_is;
 }
+  where
+    longer : (n a b c w : ℕ) → b ≡ a + c → n ≤ a + w → n ≤ b + w
+    longer n a b c w is le = omega arith
 
 -- a line that is cut before a byte is added is cut as if it was added first
 take_cut : (n : ℕ) (xs ys : List ℕ) → take n (take n xs ++ ys) ≡ take n (xs ++ ys)
@@ -46,9 +58,9 @@ open_cases : (piece : List ℕ) → (piece ≡ []) ⊎ ((unended piece ≡ piece
 open_cases [] = inl refl
 open_cases (b ∷ piece) = inr (refl, λ none. cc)
 
--- where it stops stays so, whatever lines come behind
-cut_further : (lines more : List (List ℕ)) (s s' : Stand) (written : List ℕ) → IsCutIn lines s s' written → IsCutIn (lines ++ more) s s' written
-cut_further lines more s s' written cut = record {
+-- where it stops stays so, whatever lines come after
+cut_further : (waiting : ℕ) (lines more : List (List ℕ)) (s s' : Stand) (written : List ℕ) → IsCutIn waiting lines s s' written → IsCutIn waiting (lines ++ more) s s' written
+cut_further waiting lines more s s' written cut = record {
   acted = cut.acted;
   others = cut.others ++ more;
   lines_are = ap (λ ls. ls ++ more) cut.lines_are ∙ append_assoc cut.acted cut.others more;
@@ -56,6 +68,7 @@ cut_further lines more s s' written cut = record {
   say = cut.say;
   moved = cut.moved;
   cut = cut.cut;
+  late = cut.late;
 }
 
 next_further : (others more : List (List ℕ)) (s s' : Stand) → IsTriedNext others s s' → IsTriedNext (others ++ more) s s'
@@ -66,8 +79,8 @@ near_further : (others more : List (List ℕ)) (s s' : Stand) → Stays s s' ⊎
 near_further others more s s' (inl same) = inl same
 near_further others more s s' (inr next) = inr (next_further others more s s' next)
 
-begun_further : (lines more : List (List ℕ)) (s s' : Stand) (written : List ℕ) → IsBegun lines s s' written → IsBegun (lines ++ more) s s' written
-begun_further lines more s s' written begun = record {
+begun_further : (waiting : ℕ) (lines more : List (List ℕ)) (s s' : Stand) (written : List ℕ) → IsBegun waiting lines s s' written → IsBegun waiting (lines ++ more) s s' written
+begun_further waiting lines more s s' written begun = record {
   acted = begun.acted;
   others = begun.others ++ more;
   lines_are = ap (λ ls. ls ++ more) begun.lines_are ∙ append_assoc begun.acted begun.others more;
@@ -77,18 +90,40 @@ begun_further lines more s s' written begun = record {
   moved = begun.moved;
   rest = begun.rest;
   text = begun.text;
+  few = begun.few;
   after = near_further begun.others more begun.before s' begun.after;
 }
 
-stopped_text_further : (why : Stop) (lines more : List (List ℕ)) (s s' : Stand) (written : List ℕ) → IsStoppedText why lines s s' written → IsStoppedText why (lines ++ more) s s' written
-stopped_text_further WriteFault lines more s s' written cut = cut_further lines more s s' written cut
-stopped_text_further OutOfMemory lines more s s' written begun = begun_further lines more s s' written begun
+held_up_further : (waiting : ℕ) (lines more : List (List ℕ)) (s s' : Stand) (pending : List Accepted) (written : List ℕ) → IsHeldUp waiting lines s s' pending written
+    → IsHeldUp waiting (lines ++ more) s s' pending written
+held_up_further waiting lines more s s' pending written held = record {
+  acted = held.acted;
+  next = held.next;
+  others = held.others ++ more;
+  lines_are = ap (λ ls. ls ++ more) held.lines_are ∙ append_assoc held.acted (held.next ∷ held.others) more;
+  said = held.said;
+  say = held.say;
+  before = held.before;
+  moved = held.moved;
+  rest = held.rest;
+  text = held.text;
+  few = held.few;
+  stuck = held.stuck;
+}
 
-pub stopped_further : (why : Stop) (bytes more : List ℕ) (s s' : Stand) (held held' : Option (List ℕ)) → Stopped why (ended_lines bytes) s s' held held' → Stopped why (ended_lines (bytes ++ more)) s s' held held'
-stopped_further why bytes more s s' held held' stopped = record {
+stopped_text_further : (why : Stop) (waiting : ℕ) (lines more : List (List ℕ)) (s s' : Stand) (pending : List Accepted) (written : List ℕ) → IsStoppedText why waiting lines s s' pending written
+    → IsStoppedText why waiting (lines ++ more) s s' pending written
+stopped_text_further WriteFault waiting lines more s s' pending written cut = (cut.0, cut_further waiting lines more s s' written cut.1)
+stopped_text_further DiskFault waiting lines more s s' pending written held = held_up_further waiting lines more s s' pending written held
+stopped_text_further OutOfMemory waiting lines more s s' pending written begun = (begun.0, begun_further waiting lines more s s' written begun.1)
+
+pub stopped_further : (why : Stop) (waiting : ℕ) (bytes more : List ℕ) (s s' : Stand) (pending : List Accepted) (held held' : Option (List ℕ)) → Stopped why waiting (ended_lines bytes) s s' pending held held'
+    → Stopped why waiting (ended_lines (bytes ++ more)) s s' pending held held'
+stopped_further why waiting bytes more s s' pending held held' stopped = record {
   written = stopped.written;
   wrote = stopped.wrote;
-  says = subst (λ lines. IsStoppedText why lines s s' stopped.written) (sym (ended_lines-append bytes more)) (stopped_text_further why (ended_lines bytes) (ended_from (open_line bytes) more) s s' stopped.written stopped.says);
+  says = subst (λ lines. IsStoppedText why waiting lines s s' pending stopped.written) (sym (ended_lines-append bytes more))
+      (stopped_text_further why waiting (ended_lines bytes) (ended_from (open_line bytes) more) s s' pending stopped.written stopped.says);
 }
 
 -- nothing more was done
@@ -104,27 +139,46 @@ front_none : (held : Option (List ℕ)) (text : List ℕ) → AppendsFront held 
 front_none held text = record { part = []; rest = text; wrote = Appends-nil held; joined = refl }
 
 -- of the replies to lines that were acted on a part of what was not written yet is written
-pub cut_of : (lines : List (List ℕ)) (said : List Said) (s s' : Stand) (held held' held'' : Option (List ℕ)) (written text : List ℕ) → Say lines said → MovesAll said s s'
-    → Appends held held' written → written ++ text ≡ replies_to s.history said → AppendsPart held' held'' text → Stopped WriteFault lines s s' held held''
-cut_of lines said s s' held held' held'' written text say moved wrote gathered part = record {
+pub cut_of : (waiting : ℕ) (lines : List (List ℕ)) (said : List Said) (s s' : Stand) (held held' held'' : Option (List ℕ)) (written text : List ℕ) → Say lines said → MovesAll said s s'
+    → Appends held held' written → written ++ text ≡ replies_to s.history said → length (replies_to s.history (before_last said)) ≤ length written + waiting
+    → AppendsPart held' held'' text → Stopped WriteFault waiting lines s s' [] held held''
+cut_of waiting lines said s s' held held' held'' written text say moved wrote gathered late part = record {
   written = written ++ part.part;
   wrote = Appends-trans held held' held'' written part.part wrote part.wrote;
-  says = record {
-    acted = lines;
-    others = [];
-    lines_are = sym (append-nil lines);
-    said = said;
-    say = say;
-    moved = moved;
-    cut = record { rest = part.partial.rest; some = part.partial.some; joined = sym gathered ∙ ap (λ t. written ++ t) part.partial.joined ∙ sym (append_assoc written part.part part.partial.rest) };
-  };
+  says = (
+    refl,
+    record {
+      acted = lines;
+      others = [];
+      lines_are = sym (append-nil lines);
+      said = said;
+      say = say;
+      moved = moved;
+      cut = record { rest = part.partial.rest; some = part.partial.some; joined = sym gathered ∙ ap (λ t. written ++ t) part.partial.joined ∙ sym (append_assoc written part.part part.partial.rest) };
+      late = longer (length (replies_to s.history (before_last said))) (length written) (length (written ++ part.part)) (length part.part) waiting (length-append written part.part) late;
+    },
+  );
 }
+  where
+    longer : (n a b c w : ℕ) → b ≡ a + c → n ≤ a + w → n ≤ b + w
+    longer n a b c w is le = omega arith
 
-pub stopped_by_fault : (bytes : List ℕ) (s s' : Stand) (held held' held'' : Option (List ℕ)) (line text : List ℕ) → Served bytes s s' held held' line text → AppendsPart held' held'' text
-    → Stopped WriteFault (ended_lines bytes) s s' held held''
-stopped_by_fault bytes s s' held held' held'' line text run part = cut_of (ended_lines bytes) run.said s s' held held' held'' run.written text run.say run.moved run.wrote run.gathered part
+pub stopped_by_fault : (waiting : ℕ) (bytes : List ℕ) (s s' : Stand) (held held' held'' : Option (List ℕ)) (line text : List ℕ) → Served waiting bytes s s' held held' line text
+    → AppendsPart held' held'' text → Stopped WriteFault waiting (ended_lines bytes) s s' [] held held''
+stopped_by_fault waiting bytes s s' held held' held'' line text run part =
+    cut_of waiting (ended_lines bytes) run.said s s' held held' held'' run.written text run.say run.moved run.wrote run.gathered run.late part
 
-module _ (bytes : List ℕ) {s s' : Stand} {held held' : Option (List ℕ)} {line text : List ℕ} (run : Served bytes s s' held held' line text) where
+-- one more is the last
+pub before_last-push : (saids : List Said) (said : Said) → before_last (saids ++ said ∷ []) ≡ saids
+before_last-push [] said = refl
+before_last-push (s ∷ []) said = refl
+before_last-push (s ∷ (next ∷ more)) said = ap (λ l. s ∷ l) (before_last-push (next ∷ more) said)
+
+late_of : (all n m l w : ℕ) → all ≡ n → n ≡ m + l → l ≤ w → all ≤ m + w
+late_of all n m l w same is le = omega arith
+
+module _ (waiting : ℕ) (bytes : List ℕ) {s s' : Stand} {held held' : Option (List ℕ)} {line text : List ℕ} (run : Served waiting bytes s s' held held' line text)
+    (few : length text ≤ waiting) where
   abbrev ended : List (List ℕ)
   ended = ended_lines bytes
 
@@ -144,12 +198,18 @@ module _ (bytes : List ℕ) {s s' : Stand} {held held' : Option (List ℕ)} {lin
       ap (λ t. run.written ++ t) added ∙ sym (append_assoc run.written text (reply_to s'.history said)) ∙ ap (λ t. t ++ reply_to s'.history said) run.gathered
       ∙ ap (λ h. replies_to s.history run.said ++ reply_to h said) run.moved.0 ∙ sym (replies_to-push s.history run.said said)
 
+  -- no more is missing of the replies to the lines before it than may wait
+  all_late : (said : Said) → length (replies_to s.history (before_last (run.said ++ said ∷ []))) ≤ length run.written + waiting
+  all_late said =
+      late_of (length (replies_to s.history (before_last (run.said ++ said ∷ [])))) (length (run.written ++ text)) (length run.written) (length text) waiting
+      (ap (λ l. length (replies_to s.history l)) (before_last-push run.said said) ∙ sym (ap length run.gathered)) (length-append run.written text) few
+
   -- one more byte, where it is tested whether it is a line feed
   more_at : (b : ℕ) (t : Bool) (s'' : Stand) (line' text' : List ℕ)
       → ended_lines (bytes ++ b ∷ []) ≡ (if t then ended ++ piece ∷ [] else ended)
       → open_line (bytes ++ b ∷ []) ≡ (if t then [] else piece ++ b ∷ [])
       → MatchBool t ((line' ≡ []) × IsReplied line s' s'' text text') ((line' ≡ take 513 (line ++ b ∷ [])) × Stays s' s'' × (text' ≡ text))
-      → Served (bytes ++ b ∷ []) s s'' held held' line' text'
+      → Served waiting (bytes ++ b ∷ []) s s'' held held' line' text'
   more_at b true s'' line' text' lines opened fed = record {
     said = run.said ++ fed.1.said ∷ [];
     say = all_say _ fed.1.said lines fed.1.says;
@@ -157,6 +217,7 @@ module _ (bytes : List ℕ) {s s' : Stand} {held held' : Option (List ℕ)} {lin
     written = run.written;
     wrote = run.wrote;
     gathered = all_gathered fed.1.said text' fed.1.added;
+    late = all_late fed.1.said;
     line_is = fed.0 ∙ sym (ap (take 513) opened);
   }
   more_at b false s'' line' text' lines opened fed = record {
@@ -166,25 +227,57 @@ module _ (bytes : List ℕ) {s s' : Stand} {held held' : Option (List ℕ)} {lin
     written = run.written;
     wrote = run.wrote;
     gathered = ap (λ t. run.written ++ t) fed.2 ∙ run.gathered;
+    late = run.late;
     line_is = fed.0 ∙ ap (λ l. take 513 (l ++ b ∷ [])) run.line_is ∙ take_cut 513 piece (b ∷ []) ∙ sym (ap (take 513) opened);
   }
 
   -- one more byte
-  pub served_more : (b : ℕ) (s'' : Stand) (line' text' : List ℕ) → Feeds b line line' s' s'' text text' → Served (bytes ++ b ∷ []) s s'' held held' line' text'
+  pub served_more : (b : ℕ) (s'' : Stand) (line' text' : List ℕ) → Feeds b line line' s' s'' text text' → Served waiting (bytes ++ b ∷ []) s s'' held held' line' text'
   served_more b s'' line' text' fed = more_at b (b == 10) s'' line' text' (ended_lines-push bytes b) (open_from-push [] bytes b) fed
 
   tried_piece : (s'' : Stand) → IsTried line s' s'' → IsTried piece s' s''
   tried_piece s'' is = record { said = is.said; says = says_piece is.said is.says; near = is.near; cost = is.cost }
 
+  stuck_piece : (s'' : Stand) (pending : List Accepted) → IsStuck line s' s'' pending → IsStuck piece s' s'' pending
+  stuck_piece s'' pending is = record { key = is.key; command = is.command; says = says_piece _ is.says; pending_is = is.pending_is; same = is.same; cost = is.cost }
+
+  few_of : (part rest : List ℕ) → text ≡ part ++ rest → length rest ≤ waiting
+  few_of part rest joined = omega (arith, few, ap length joined, length-append part rest)
+
   -- memory is short, and of what was not written yet a front part is written
-  short_of : (s'' : Stand) (held'' : Option (List ℕ)) (lines others : List (List ℕ)) → lines ≡ ended ++ others → AppendsFront held' held'' text
-      → Stays s' s'' ⊎ IsTriedNext others s' s'' → Stopped OutOfMemory lines s s'' held held''
-  short_of s'' held'' lines others e front near = record {
+  short_of : (s'' : Stand) (held'' : Option (List ℕ)) (lines others : List (List ℕ)) (pending : List Accepted) → pending ≡ [] → lines ≡ ended ++ others → AppendsFront held' held'' text
+      → Stays s' s'' ⊎ IsTriedNext others s' s'' → Stopped OutOfMemory waiting lines s s'' pending held held''
+  short_of s'' held'' lines others pending none e front near = record {
+    written = run.written ++ front.part;
+    wrote = Appends-trans held held' held'' run.written front.part run.wrote front.wrote;
+    says = (
+      none,
+      record {
+        acted = ended;
+        others = others;
+        lines_are = e;
+        said = run.said;
+        say = run.say;
+        before = s';
+        moved = run.moved;
+        rest = front.rest;
+        text = sym run.gathered ∙ ap (λ t. run.written ++ t) front.joined ∙ sym (append_assoc run.written front.part front.rest);
+        few = few_of front.part front.rest front.joined;
+        after = near;
+      },
+    );
+  }
+
+  -- the disk failed at the next line, and of what was not written yet a front part is written
+  held_of : (s'' : Stand) (held'' : Option (List ℕ)) (lines : List (List ℕ)) (pending : List Accepted) → lines ≡ ended ++ piece ∷ [] → AppendsFront held' held'' text
+      → IsStuck line s' s'' pending → Stopped DiskFault waiting lines s s'' pending held held''
+  held_of s'' held'' lines pending e front stuck = record {
     written = run.written ++ front.part;
     wrote = Appends-trans held held' held'' run.written front.part run.wrote front.wrote;
     says = record {
       acted = ended;
-      others = others;
+      next = piece;
+      others = [];
       lines_are = e;
       said = run.said;
       say = run.say;
@@ -192,17 +285,30 @@ module _ (bytes : List ℕ) {s s' : Stand} {held held' : Option (List ℕ)} {lin
       moved = run.moved;
       rest = front.rest;
       text = sym run.gathered ∙ ap (λ t. run.written ++ t) front.joined ∙ sym (append_assoc run.written front.part front.rest);
-      after = near;
+      few = few_of front.part front.rest front.joined;
+      stuck = stuck_piece s'' pending stuck;
     };
   }
 
-  short_where : (t : Bool) (s'' : Stand) (held'' : Option (List ℕ)) (lines : List (List ℕ)) → lines ≡ (if t then ended ++ piece ∷ [] else ended)
-      → MatchBool t (IsTried line s' s'') (Stays s' s'') → AppendsFront held' held'' text → Stopped OutOfMemory lines s s'' held held''
-  short_where true s'' held'' lines e tried front = short_of s'' held'' lines (piece ∷ []) e front (inr (tried_piece s'' tried))
-  short_where false s'' held'' lines e same front = short_of s'' held'' lines [] (e ∙ sym (append-nil ended)) front (inl same)
+  -- where a line has no reply
+  halted_of : (why : Halt) (s'' : Stand) (held'' : Option (List ℕ)) (lines : List (List ℕ)) (pending : List Accepted) → lines ≡ ended ++ piece ∷ [] → AppendsFront held' held'' text
+      → IsHalted why line s' s'' pending → Stopped (stop_of why) waiting lines s s'' pending held held''
+  halted_of halt.OutOfMemory s'' held'' lines pending e front is = short_of s'' held'' lines (piece ∷ []) pending is.0 e front (inr (tried_piece s'' is.1))
+  halted_of halt.DiskFault s'' held'' lines pending e front is = held_of s'' held'' lines pending e front is
 
-  pub short_at_byte : (b : ℕ) (s'' : Stand) (held'' : Option (List ℕ)) → FailsAt b line s' s'' → AppendsFront held' held'' text → Stopped OutOfMemory (ended_lines (bytes ++ b ∷ [])) s s'' held held''
-  short_at_byte b s'' held'' fails front = short_where (b == 10) s'' held'' _ (ended_lines-push bytes b) fails front
+  dropped_of : (why : Halt) (s'' : Stand) (held'' : Option (List ℕ)) (lines : List (List ℕ)) (pending : List Accepted) → lines ≡ ended → AppendsFront held' held'' text
+      → IsDropped why s' s'' pending → Stopped (stop_of why) waiting lines s s'' pending held held''
+  dropped_of halt.OutOfMemory s'' held'' lines pending e front is = short_of s'' held'' lines [] pending is.0 (e ∙ sym (append-nil ended)) front (inl is.1)
+  dropped_of halt.DiskFault s'' held'' lines pending e front is = absurd is
+
+  fails_where : (t : Bool) (why : Halt) (s'' : Stand) (held'' : Option (List ℕ)) (lines : List (List ℕ)) (pending : List Accepted) → lines ≡ (if t then ended ++ piece ∷ [] else ended)
+      → MatchBool t (IsHalted why line s' s'' pending) (IsDropped why s' s'' pending) → AppendsFront held' held'' text → Stopped (stop_of why) waiting lines s s'' pending held held''
+  fails_where true why s'' held'' lines pending e is front = halted_of why s'' held'' lines pending e front is
+  fails_where false why s'' held'' lines pending e is front = dropped_of why s'' held'' lines pending e front is
+
+  pub fails_at_byte : (b : ℕ) (why : Halt) (s'' : Stand) (held'' : Option (List ℕ)) (pending : List Accepted) → FailsAt why b line s' s'' pending → AppendsFront held' held'' text
+      → Stopped (stop_of why) waiting (ended_lines (bytes ++ b ∷ [])) s s'' pending held held''
+  fails_at_byte b why s'' held'' pending fails front = fails_where (b == 10) why s'' held'' _ pending (ended_lines-push bytes b) fails front
 
   no_line : piece ≡ [] → line ≡ []
   no_line none = run.line_is ∙ ap (take 513) none
@@ -239,14 +345,25 @@ module _ (bytes : List ℕ) {s s' : Stand} {held held' : Option (List ℕ)} {lin
   }
 
   -- or of the reply to the last one a part is written
-  pub cut_last : (s'' : Stand) (held'' : Option (List ℕ)) (text' : List ℕ) → (line ≡ [] → ⊥) → IsReplied line s' s'' text text' → AppendsPart held' held'' text' → Stopped WriteFault (lines_of bytes) s s'' held held''
+  pub cut_last : (s'' : Stand) (held'' : Option (List ℕ)) (text' : List ℕ) → (line ≡ [] → ⊥) → IsReplied line s' s'' text text' → AppendsPart held' held'' text'
+      → Stopped WriteFault waiting (lines_of bytes) s s'' [] held held''
   cut_last s'' held'' text' some replied part =
-      cut_of (lines_of bytes) (run.said ++ replied.said ∷ []) s s'' held held' held'' run.written text' (all_say _ replied.said (last_line some) replied.says)
-      (moves_more run.said replied.said s s' s'' run.moved replied.after) run.wrote (all_gathered replied.said text' replied.added) part
+      cut_of waiting (lines_of bytes) (run.said ++ replied.said ∷ []) s s'' held held' held'' run.written text' (all_say _ replied.said (last_line some) replied.says)
+      (moves_more run.said replied.said s s' s'' run.moved replied.after) run.wrote (all_gathered replied.said text' replied.added) (all_late replied.said) part
 
-  -- or nothing, where memory is short
-  pub short_last : (s'' : Stand) → (line ≡ [] → ⊥) → IsTried line s' s'' → Stopped OutOfMemory (lines_of bytes) s s'' held held'
-  short_last s'' some tried = short_of s'' held' _ (piece ∷ []) (last_line some) (front_none held' text) (inr (tried_piece s'' tried))
+  -- or it has no reply
+  pub halted_last : (why : Halt) (s'' : Stand) (pending : List Accepted) → (line ≡ [] → ⊥) → IsHalted why line s' s'' pending → Stopped (stop_of why) waiting (lines_of bytes) s s'' pending held held'
+  halted_last why s'' pending some is = halted_of why s'' held' _ pending (last_line some) (front_none held' text) is
+
+-- a run of the disk's calls, and the call that stops
+pub stops_more : {D : Type 0} (images : D → List ℕ → Type 0) (moment : D → ℕ) (images_since : D → ℕ → List ℕ → Type 0) (old mid new : D) (why : Stop) (waiting : ℕ)
+    (bytes more : List ℕ) (s t0 t1 s' : Stand) (held held' : Option (List ℕ)) → OnDisk images moment images_since old mid t0.history.commands t1.history.commands []
+    → Stops images moment images_since mid new why waiting (ended_lines bytes) s t1 s' held held' → Stops images moment images_since old new why waiting (ended_lines (bytes ++ more)) s t0 s' held held'
+stops_more images moment images_since old mid new why waiting bytes more s t0 t1 s' held held' first stops = record {
+  pending = stops.pending;
+  stopped = stopped_further why waiting bytes more s s' stops.pending held held' stops.stopped;
+  disk = disk_more images moment images_since old mid new t0.history.commands t1.history.commands s'.history.commands stops.pending first stops.disk;
+}
 
 -- a byte among others
 pub byte_among : (before bytes : List ℕ) (i d : ℕ) → i < length bytes → ((before ++ take i bytes) ++ get_or bytes i d ∷ []) ++ drop (i + 1) bytes ≡ before ++ bytes
@@ -258,3 +375,6 @@ byte_among before bytes i d below =
 
 pub byte_more : (before bytes : List ℕ) (i d : ℕ) → i < length bytes → before ++ take (i + 1) bytes ≡ (before ++ take i bytes) ++ get_or bytes i d ∷ []
 byte_more before bytes i d below = ap (λ rest. before ++ rest) (take_more bytes i d below) ∙ sym (append_assoc before (take i bytes) (get_or bytes i d ∷ []))
+
+pub few_none : (waiting : ℕ) (text : List ℕ) → text ≡ [] → length text ≤ waiting
+few_none waiting text none = omega (arith, ap length none)

@@ -6,3 +6,4 @@ pub mod Status
 pub mod Outcome
 pub mod Serving
 pub mod Stop
+pub mod Journal

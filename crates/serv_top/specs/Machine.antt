@@ -1,28 +1,15 @@
--- The machine that answers lines: what a line says, its reply over the commands that were accepted before, which commands
--- are accepted after it, and how many steps it may take.
-use Rattle.std.specs.Prelude.{◌≡◌, ℕ, ◌+◌, ◌≤◌, ◌⊎◌, List, [], length, Option, Some, None}
+-- What a line says to the machine, its reply, what is held after it, and how many steps it may take.
+use Rattle.std.specs.Prelude.{◌≡◌, ℕ, ◌+◌, ◌≤◌, ◌⊎◌, List, [], ◌∷◌}
 use Rattle.svc_types.specs.declared.requests.Command.{Command}
 use Rattle.svc_types.specs.declared.requests.Request.{Request}
 use Rattle.svc_types.specs.declared.requests.Request.TheVariants as request
-use Rattle.svc_types.specs.declared.replies.Refusal.{Refusal}
 use Rattle.svc_types.specs.Requests.{IsRequest}
+use Rattle.svc_world.specs.World.{Accepted, accepted}
 use Rattle.serv_line.specs.Lines.{line_of}
 use Rattle.serv_line.specs.LineFaults.{IsFault}
-use Rattle.serv_line.specs.Replies.{text_of_reply, text_of_bad}
-use Rattle.serv_line.specs.Refusals.{text_of_refusal}
-use Rattle.serv_report.specs.AnswerTexts.{text_of_answer}
-use Rattle.svc_core.specs.Bound.{step_bound, query_bound}
-use Rattle.svc_world.specs.declared.answer.Answer.{Answer}
-use Rattle.svc_world.specs.World.{Accepted, world}
-use Rattle.svc_world.specs.Judging as judging
-use Rattle.svc_world.specs.Judging.{Judgement, Kept, Refused, Fresh, judged, next_reply}
-use Rattle.svc_world.specs.Refusals.{query_refusal}
-use Rattle.svc_world.specs.Answers.{answer_to}
-use Rattle.svc_world.specs.Custody.{rows_in}
-
--- the commands that were accepted, with their keys, in their order
-abbrev pub History : Type 0
-History = List Accepted
+use Rattle.serv_line.specs.Replies.{text_of_bad}
+use Rattle.serv_machine.specs.History.{History}
+use Rattle.serv_machine.specs.Replies.{reply_to_request, history_after_request, bound_of_request}
 
 -- what a line says: it asks something, or its fault stands at a place
 pub data Said : Type 0 where
@@ -34,55 +21,24 @@ pub data Says (line : List ℕ) : Said → Type 0 where
   asks : (r : Request) → IsRequest r → line ≡ line_of r → Says line (Asks r)
   errs : (place : ℕ) → IsFault line place → Says line (Faulty place)
 
--- ---- the reply
-
--- to a command: the reply that was given to it, the first rule that refuses it, or the reply to the next command
-abbrev pub text_of_judged : History → Command → Judgement → List ℕ
-text_of_judged h c (Kept reply) = text_of_reply reply
-text_of_judged h c (Refused why) = text_of_refusal why
-text_of_judged h c Fresh = text_of_reply (next_reply h c)
-
--- to a query: the first rule that refuses it, or its answer; one that is not refused has an answer
-abbrev pub text_of_asked : Option Refusal → Option Answer → List ℕ
-text_of_asked (Some why) answer = text_of_refusal why
-text_of_asked None (Some answer) = text_of_answer answer
-text_of_asked None None = []
-
-unfoldable pub reply_to_request : History → Request → List ℕ
-reply_to_request h (request.Do key c) = text_of_judged h c (judged h key c)
-reply_to_request h (request.Ask q) =
-    text_of_asked (query_refusal (length h) (world h) q) (answer_to (world h) (rows_in h) q)
-
--- to a line
+-- the reply
 abbrev pub reply_to : History → Said → List ℕ
 reply_to h (Asks r) = reply_to_request h r
 reply_to h (Faulty place) = text_of_bad place
 
--- ---- the history after it
-
--- a command that is fresh is accepted, and nothing else is
-unfoldable pub history_after_request : History → Request → History
-history_after_request h (request.Do key c) = judging.history_after h key c (judged h key c)
-history_after_request h (request.Ask q) = h
-
+-- what is held after it
 abbrev pub history_after : History → Said → History
 history_after h (Asks r) = history_after_request h r
 history_after h (Faulty place) = h
 
--- ---- the steps of it
-
--- at most those of the month that is asked for, and of those after it
-unfoldable pub bound_of_request : History → Request → ℕ
-bound_of_request h (request.Do key c) = step_bound h key c
-bound_of_request h (request.Ask q) = query_bound (world h) q
-
+-- the steps of it, at most
 abbrev pub bound_of : History → Said → ℕ
 bound_of h (Asks r) = bound_of_request h r
 bound_of h (Faulty place) = 0
 
 -- ---- where the machine stands
 
--- what was accepted, and how many steps were taken
+-- what is held, and how many steps were taken
 pub record Stand : Type 0 where
   pub history : History
   pub steps : ℕ
@@ -104,3 +60,12 @@ pub record IsTried (line : List ℕ) (s s' : Stand) : Type 0 where
   pub says : Says line said
   pub near : (s'.history ≡ s.history) ⊎ (s'.history ≡ history_after s.history said)
   pub cost : s'.steps ≤ s.steps + bound_of s.history said
+
+-- the disk failed while the command of a line was being appended; it is not accepted
+pub record IsStuck (line : List ℕ) (s s' : Stand) (pending : List Accepted) : Type 0 where
+  pub key : List ℕ
+  pub command : Command
+  pub says : Says line (Asks (request.Do key command))
+  pub pending_is : pending ≡ accepted key command ∷ []
+  pub same : s'.history ≡ s.history
+  pub cost : s'.steps ≤ s.steps + bound_of s.history (Asks (request.Do key command))

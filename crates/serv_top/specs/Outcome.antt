@@ -1,11 +1,14 @@
 -- What a run has taken from its source, accepted and written to its sink when it ends with a status.
 use Rattle.std.specs.Prelude.{◌≡◌, ℕ, ◌^◌, ◌<◌, ◌≤◌, ◌⊎◌, List, [], length, Option}
 use Rattle.std.specs.Io.KnownBytes.{Appends, Consumes, IsAtEnd}
+use Rattle.svc_world.specs.World.{Accepted}
+use Rattle.serv_machine.specs.History.{History, nothing}
+use Rattle.serv_machine.specs.OnDisk.{OnDisk}
 use Rattle.serv_top.specs.declared.status.Status.{Status}
-use Rattle.serv_top.specs.declared.status.Status.TheVariants.{Done, Usage, ReadFault, WriteFault, TooMuch, OutOfMemory}
+use Rattle.serv_top.specs.declared.status.Status.TheVariants.{Done, Usage, ReadFault, WriteFault, DiskFault, NotJournal, AlreadyThere, Damaged, TooMuch, OutOfMemory, JournalFull}
 use Rattle.serv_top.specs.Lines.{lines_of, ended_lines}
-use Rattle.serv_top.specs.Machine.{History, Stand, Stays, stand}
-use Rattle.serv_top.specs.Replies.{Answers, IsBegun, IsCutIn}
+use Rattle.serv_top.specs.Machine.{Stand, stand}
+use Rattle.serv_top.specs.Replies.{Answers, IsBegun, IsCutIn, IsHeldUp}
 
 -- how many bytes of input are too many
 abbrev pub input_limit : ℕ
@@ -16,28 +19,43 @@ abbrev pub HoldsOfLines : (List (List ℕ) → Type 0) → List ℕ → Option (
 HoldsOfLines P taken left = P (ended_lines taken) ⊎ (IsAtEnd left × P (lines_of taken))
 
 -- what is accepted and written, and the steps of it, by the status, where these bytes are taken and these are left; the
--- machine stands so at the entry and so at the exit
-abbrev pub IsOutput : Status → Stand → Stand → List ℕ → Option (List ℕ) → List ℕ → Type 0
-IsOutput Done s s' taken left written =
-    IsAtEnd left × (length taken < input_limit) × Answers (lines_of taken) s s' written
-IsOutput Usage s s' taken left written = (taken ≡ []) × (written ≡ []) × Stays s s'
-IsOutput ReadFault s s' taken left written = (length taken < input_limit) × Answers (ended_lines taken) s s' written
-IsOutput WriteFault s s' taken left written =
-    (length taken ≤ input_limit) × HoldsOfLines (λ lines. IsCutIn lines s s' written) taken left
-IsOutput (TooMuch n) s s' taken left written =
-    (n ≡ length taken) × (n ≡ input_limit) × Answers (ended_lines taken) s s' written
-IsOutput OutOfMemory s s' taken left written =
-    (length taken ≤ input_limit) × HoldsOfLines (λ lines. IsBegun lines s s' written) taken left
+-- machine stands so at the entry and so at the exit, and of the replies this many bytes may wait. Other statuses do not
+-- come where lines are answered
+abbrev pub IsOutput : ℕ → Status → Stand → Stand → List Accepted → List ℕ → Option (List ℕ) → List ℕ → Type 0
+IsOutput waiting Done s s' pending taken left written =
+    (pending ≡ []) × IsAtEnd left × (length taken < input_limit) × Answers (lines_of taken) s s' written
+IsOutput waiting ReadFault s s' pending taken left written =
+    (pending ≡ []) × (length taken < input_limit) × Answers (ended_lines taken) s s' written
+IsOutput waiting WriteFault s s' pending taken left written =
+    (pending ≡ []) × (length taken ≤ input_limit) × HoldsOfLines (λ lines. IsCutIn waiting lines s s' written) taken left
+IsOutput waiting DiskFault s s' pending taken left written =
+    (length taken ≤ input_limit) × HoldsOfLines (λ lines. IsHeldUp waiting lines s s' pending written) taken left
+IsOutput waiting (TooMuch n) s s' pending taken left written =
+    (pending ≡ []) × (n ≡ length taken) × (n ≡ input_limit) × Answers (ended_lines taken) s s' written
+IsOutput waiting OutOfMemory s s' pending taken left written =
+    (pending ≡ []) × (length taken ≤ input_limit) × HoldsOfLines (λ lines. IsBegun waiting lines s s' written) taken left
+IsOutput waiting Usage s s' pending taken left written = ⊥
+IsOutput waiting NotJournal s s' pending taken left written = ⊥
+IsOutput waiting AlreadyThere s s' pending taken left written = ⊥
+IsOutput waiting (Damaged place) s s' pending taken left written = ⊥
+IsOutput waiting (JournalFull bytes) s s' pending taken left written = ⊥
 
 -- what is taken from the source, accepted and written to the sink, where these tell what is left and what is held
-pub record Ended (status : Status) (s s' : Stand) (left left' held held' : Option (List ℕ)) : Type 0 where
+pub record Ended (waiting : ℕ) (status : Status) (s s' : Stand) (pending : List Accepted) (left left' held held' : Option (List ℕ)) : Type 0 where
   pub taken : List ℕ
   pub written : List ℕ
   pub took : Consumes left left' taken
   pub wrote : Appends held held' written
-  pub says : IsOutput status s s' taken left' written
+  pub says : IsOutput waiting status s s' pending taken left' written
 
--- the same of a run that begins with a history and these steps, where of the history at the exit nothing else is seen
-pub record Ran (status : Status) (h : History) (steps steps' : ℕ) (left left' held held' : Option (List ℕ)) : Type 0 where
+-- the same with what it leaves on a disk
+pub record Ends {D : Type 0} (images : D → List ℕ → Type 0) (moment : D → ℕ) (images_since : D → ℕ → List ℕ → Type 0) (old new : D)
+    (waiting : ℕ) (status : Status) (s s' : Stand) (left left' held held' : Option (List ℕ)) : Type 0 where
+  pub pending : List Accepted
+  pub ended : Ended waiting status s s' pending left left' held held'
+  pub disk : OnDisk images moment images_since old new s.history.commands s'.history.commands pending
+
+-- the same of a run in memory, which begins with nothing; of what is held at the exit nothing else is seen
+pub record Ran (waiting : ℕ) (status : Status) (steps steps' : ℕ) (left left' held held' : Option (List ℕ)) : Type 0 where
   pub after : History
-  pub ended : Ended status (stand h steps) (stand after steps') left left' held held'
+  pub ended : Ended waiting status (stand nothing steps) (stand after steps') [] left left' held held'

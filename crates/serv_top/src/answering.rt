@@ -1,109 +1,43 @@
 //! The reply to one line.
 
-ghost use Rattle.std.specs.Prelude.{◌≡◌, ◌+◌, ◌≤◌, ◌⊎◌, ◌++◌, OnErr, OnOk};
-ghost use Rattle.svc_types.specs.Requests.{IsCommand, IsQuery, IsRequest};
-ghost use Rattle.svc_types.specs.declared.requests.Request.TheVariants as request;
-ghost use Rattle.serv_top.specs.Machine.{IsTried, bound_of_request, history_after_request, reply_to_request, stand};
-ghost use Rattle.serv_top.specs.Serving.{IsReplied};
+ghost use Rattle.std.specs.Prelude.{◌≡◌, ◌≢◌, ◌≤◌, [], Err, IfErr, OnErr, OnOk};
+ghost use Rattle.serv_disk.specs.Faults.{HasRisen};
+ghost use Rattle.serv_machine.specs.OnDisk.{OnDisk};
+ghost use Rattle.serv_top.specs.Machine.{stand};
+ghost use Rattle.serv_top.specs.Serving.{IsReplied, Halts};
 
-use crate::machine::Machine;
-use serv_line::{push_bad, push_refusal, push_reply, read_line};
-use serv_report::push_answer;
+use serv_disk::Disk;
+use serv_line::{push_bad, read_line};
+use serv_machine::{Halt, Machine, answer_request};
 use std::sync::ledger::Ledger;
-use svc_base::{OutOfMemory, Steps};
-use svc_core::CoreFault;
-use svc_types::{Command, Key, Query, Request};
+use svc_base::Steps;
 
-/// Acts on a line, which is given without its line feed, and appends its reply. Where memory is short
-/// nothing is appended; a command may then be accepted all the same.
-pub(crate) fn answer_line<M: Machine, L: Ledger>(
+/// Acts on a line, which is given without its line feed, and appends its reply. Where it halts nothing is
+/// appended; for want of memory a command may then be accepted all the same.
+pub(crate) fn answer_line<D: Disk, M: Machine<D>, L: Ledger>(
     machine: &mut M,
+    disk: &mut D,
     line: &[u8],
     out: &mut Vec<u8>,
     steps: &mut Steps<L>,
-) -> Result<(), OutOfMemory>
+) -> Result<(), Halt>
+    requires { M.ready machine.old disk.old }
     ensures replied { OnOk result (IsReplied line.now (stand (M.history machine.old) steps.old)
         (stand (M.history machine.new) steps.new) out.old.items out.new.items) }
     ensures kept { OnErr result (out.new.items ≡ out.old.items) }
-    ensures tried { OnErr result (IsTried line.now (stand (M.history machine.old) steps.old)
-        (stand (M.history machine.new) steps.new)) }
+    ensures halts { IfErr result (λ why. Halts D.images D.moment D.images_since disk.old disk.new why line.now
+        (stand (M.history machine.old) steps.old) (stand (M.history machine.new) steps.new)) }
+    ensures disk { OnOk result (OnDisk D.images D.moment D.images_since disk.old disk.new
+        (M.history machine.old).commands (M.history machine.new).commands []) }
+    ensures ready { OnOk result (M.ready machine.new disk.new) }
+    ensures stopped { result ≡ Err Halt.DiskFault → HasRisen (D.faults disk.old) (D.faults disk.new) }
+    ensures faults { D.faults disk.old ≤ D.faults disk.new }
 {
     match read_line(line) {
-        Ok(request) => answer_request(machine, &request, out, steps),
-        Err(fault) => push_bad(out, fault.0),
-    }
-}
-
-/// Acts on a request, and appends its reply.
-fn answer_request<M: Machine, L: Ledger>(
-    machine: &mut M,
-    request: &Request,
-    out: &mut Vec<u8>,
-    steps: &mut Steps<L>,
-) -> Result<(), OutOfMemory>
-    requires { IsRequest request.now }
-    ensures reply { OnOk result
-        (out.new.items ≡ out.old.items ++ reply_to_request (M.history machine.old) request.now) }
-    ensures kept { OnErr result (out.new.items ≡ out.old.items) }
-    ensures history { OnOk result
-        (M.history machine.new ≡ history_after_request (M.history machine.old) request.now) }
-    ensures near { OnErr result ((M.history machine.new ≡ M.history machine.old)
-        ⊎ (M.history machine.new ≡ history_after_request (M.history machine.old) request.now)) }
-    ensures steps { steps.new ≤ steps.old + bound_of_request (M.history machine.old) request.now }
-{
-    match request {
-        Request::Do(key, command) => answer_command(machine, key, command, out, steps),
-        Request::Ask(query) => answer_query(machine, query, out, steps),
-    }
-}
-
-/// Acts on a command, and appends its reply.
-#[tactic(auto, unfolding(crate::specs::Machine::reply_to_request, crate::specs::Machine::history_after_request, crate::specs::Machine::bound_of_request))]
-fn answer_command<M: Machine, L: Ledger>(
-    machine: &mut M,
-    key: &Key,
-    command: &Command,
-    out: &mut Vec<u8>,
-    steps: &mut Steps<L>,
-) -> Result<(), OutOfMemory>
-    requires { IsCommand command.now }
-    ensures reply { OnOk result (out.new.items
-        ≡ out.old.items ++ reply_to_request (M.history machine.old) (request.Do key.now command.now)) }
-    ensures kept { OnErr result (out.new.items ≡ out.old.items) }
-    ensures history { OnOk result (M.history machine.new
-        ≡ history_after_request (M.history machine.old) (request.Do key.now command.now)) }
-    ensures near { OnErr result ((M.history machine.new ≡ M.history machine.old) ⊎ (M.history machine.new
-        ≡ history_after_request (M.history machine.old) (request.Do key.now command.now))) }
-    ensures steps { steps.new ≤ steps.old
-        + bound_of_request (M.history machine.old) (request.Do key.now command.now) }
-{
-    match machine.act(key, command, steps) {
-        Ok(reply) => push_reply(out, &reply),
-        Err(CoreFault::Refused(why)) => push_refusal(out, &why),
-        Err(CoreFault::OutOfMemory) => Err(OutOfMemory),
-    }
-}
-
-/// Answers a query, and appends the answer.
-#[tactic(auto, unfolding(crate::specs::Machine::reply_to_request, crate::specs::Machine::history_after_request, crate::specs::Machine::bound_of_request))]
-fn answer_query<M: Machine, L: Ledger>(
-    machine: &M,
-    query: &Query,
-    out: &mut Vec<u8>,
-    steps: &mut Steps<L>,
-) -> Result<(), OutOfMemory>
-    requires { IsQuery query.now }
-    ensures reply { OnOk result (out.new.items
-        ≡ out.old.items ++ reply_to_request (M.history machine.now) (request.Ask query.now)) }
-    ensures kept { OnErr result (out.new.items ≡ out.old.items) }
-    ensures history { OnOk result
-        (M.history machine.now ≡ history_after_request (M.history machine.now) (request.Ask query.now)) }
-    ensures steps { steps.new ≤ steps.old
-        + bound_of_request (M.history machine.now) (request.Ask query.now) }
-{
-    match machine.answer(query, steps) {
-        Ok(answer) => push_answer(out, &answer),
-        Err(CoreFault::Refused(why)) => push_refusal(out, &why),
-        Err(CoreFault::OutOfMemory) => Err(OutOfMemory),
+        Ok(request) => answer_request(machine, disk, &request, out, steps),
+        Err(fault) => match push_bad(out, fault.0) {
+            Ok(()) => Ok(()),
+            Err(_) => Err(Halt::OutOfMemory),
+        },
     }
 }

@@ -10,6 +10,6 @@ pub fn lines_have_one_answer()
     ensures says { (line : List ℕ) (s t : Said) → Says line s → Says line t → s ≡ t }
     ensures answers { (lines : List (List ℕ)) (s a b : Stand) (x y : List ℕ)
         → Answers lines s a x → Answers lines s b y → (x ≡ y) × (a.history ≡ b.history) }
-    ensures cut { (lines : List (List ℕ)) (s t : Stand) (written : List ℕ)
-        → IsCutIn lines s t written → IsCutAt lines s.history written }
+    ensures cut { (waiting : ℕ) (lines : List (List ℕ)) (s t : Stand) (written : List ℕ)
+        → IsCutIn waiting lines s t written → IsCutAt lines s.history written }
 {}

@@ -3,11 +3,14 @@
 
 mod answering;
 mod laws;
-mod machine;
+mod over_journal;
 mod serving;
 mod status;
+mod stream;
 mod top;
+mod words;
 
 pub use laws::lines_have_one_answer;
 pub use status::Status;
-pub use top::{INPUT_LIMIT, run};
+pub use stream::INPUT_LIMIT;
+pub use top::run;

@@ -1,17 +1,19 @@
 //! Lines that come byte by byte, and the replies to them.
 
-ghost use Rattle.std.specs.Prelude.{◌≡◌, ℕ, ◌≤◌, ◌++◌, List, [], ◌∷◌, Option, Err, OnErr, OnOk, IfErr, take, vec_len};
+ghost use Rattle.std.specs.Prelude.{◌≡◌, ◌≢◌, ℕ, ◌≤◌, ◌++◌, List, [], ◌∷◌, Option, Err, OnErr, OnOk, IfErr, take, vec_len};
 ghost use Rattle.std.specs.Io.KnownBytes.{Appends};
 ghost use Rattle.serv_disk.specs.Faults.{AppendsPart, HasCause, HasRisen};
-ghost use Rattle.serv_top.specs.Machine.{IsTried, Stand, stand};
-ghost use Rattle.serv_top.specs.Serving.{AllServed, AppendsFront, FailsAt, Feeds, IsReplied, Served, Stopped};
+ghost use Rattle.serv_machine.specs.OnDisk.{OnDisk};
+ghost use Rattle.serv_top.specs.declared.serving.Stop.TheVariants as stop;
+ghost use Rattle.serv_top.specs.Machine.{Stand, stand};
+ghost use Rattle.serv_top.specs.Serving.{AllServed, AppendsFront, Feeds, Halts, HaltsAt, IsReplied, Served, Stopped, Stops};
 ghost use Rattle.serv_top.specs.Lines.{ended_lines, lines_of};
-ghost use Rattle.serv_top.specs.Stop.{status_of};
+ghost use Rattle.serv_top.specs.Stop.{status_of, stop_of};
 
 use crate::answering::answer_line;
-use crate::machine::Machine;
 use crate::status::Status;
-use serv_disk::{Failed, Sink, write_whole};
+use serv_disk::{Disk, Failed, Sink, write_whole};
+use serv_machine::{Halt, Machine};
 use std::alloc::Global;
 use std::sync::ledger::Ledger;
 use svc_base::{OutOfMemory, Steps};
@@ -19,13 +21,11 @@ use svc_base::{OutOfMemory, Steps};
 /// How much of a line is kept: a line of 513 bytes is too long, whatever follows.
 const KEPT: usize = 513;
 
-/// How many bytes of replies are gathered before they are written.
-const GATHERED: usize = 1 << 16;
-
 /// Why no further line is answered.
 #[derive(Clone, Copy, Debug, PartialEq, Eq)]
 pub(crate) enum Stop {
     WriteFault,
+    DiskFault,
     OutOfMemory,
 }
 
@@ -36,184 +36,245 @@ impl Stop {
     {
         match self {
             Stop::WriteFault => Status::WriteFault,
+            Stop::DiskFault => Status::DiskFault,
             Stop::OutOfMemory => Status::OutOfMemory,
         }
     }
 }
 
-impl From<Failed> for Stop {
-    ghost use Rattle.std.specs.Prelude.{◌≡◌};
-    ghost use Rattle.serv_top.specs.declared.serving.Stop.TheVariants.{WriteFault};
-
-    ghost from_gives = { λ _ e. e ≡ WriteFault };
-
-    fn from(_: Failed) -> Stop {
-        Stop::WriteFault
+/// Where a line has no reply, no further one is answered.
+fn stop_at(halt: Halt) -> Stop
+    ensures { result ≡ stop_of halt }
+{
+    match halt {
+        Halt::DiskFault => Stop::DiskFault,
+        Halt::OutOfMemory => Stop::OutOfMemory,
     }
 }
 
-impl From<OutOfMemory> for Stop {
-    ghost use Rattle.std.specs.Prelude.{◌≡◌};
-    ghost use Rattle.serv_top.specs.declared.serving.Stop.TheVariants.{OutOfMemory};
-
-    ghost from_gives = { λ _ e. e ≡ OutOfMemory };
-
-    fn from(_: OutOfMemory) -> Stop {
-        Stop::OutOfMemory
-    }
-}
-
-/// The front of the line that has come so far, and the replies that are not written yet.
+/// The front of the line that has come so far, and the replies that are not written yet: after each line at
+/// most `waiting` bytes.
 #[derive(Drop)]
 pub(crate) struct Serving {
     line: Vec<u8>,
     replies: Vec<u8>,
+    waiting: usize,
     ghost short: { vec_len line ≤ 513 },
 }
 
 impl Serving {
     /// Nothing has come yet.
-    pub(crate) fn new(alloc: Global) -> Serving
+    pub(crate) fn new(alloc: Global, waiting: usize) -> Serving
         ensures line { result.line.items ≡ [] }
         ensures replies { result.replies.items ≡ [] }
+        ensures waiting { result.waiting ≡ waiting }
     {
         Serving {
             line: Vec::new(alloc),
             replies: Vec::new(alloc),
+            waiting,
         }
     }
 
     /// Takes bytes in their order, and writes the replies to the lines that they end. Where it stops, the
     /// rest of the bytes is left out.
-    pub(crate) fn feed_all<M: Machine, K: Sink, L: Ledger>(
+    pub(crate) fn feed_all<D: Disk, M: Machine<D>, K: Sink, L: Ledger>(
         &mut self,
         bytes: &[u8],
         machine: &mut M,
+        disk: &mut D,
         snk: &mut K,
         steps: &mut Steps<L>,
     ) -> Result<(), Stop>
+        requires ready { M.ready machine.old disk.old }
+        requires empty { self.old.replies.items ≡ [] }
         ensures fed { (before : List ℕ) (s : Stand) (held : Option (List ℕ))
-            → Served before s (stand (M.history machine.old) steps.old) held (K.held snk.old)
+            → Served self.old.waiting before s (stand (M.history machine.old) steps.old) held (K.held snk.old)
             self.old.line.items self.old.replies.items
-            → OnOk result (Served (before ++ bytes.now) s (stand (M.history machine.new) steps.new)
-            held (K.held snk.new) self.new.line.items self.new.replies.items) }
+            → OnOk result (Served self.old.waiting (before ++ bytes.now) s
+            (stand (M.history machine.new) steps.new) held (K.held snk.new)
+            self.new.line.items self.new.replies.items) }
         ensures stopped { (before : List ℕ) (s : Stand) (held : Option (List ℕ))
-            → Served before s (stand (M.history machine.old) steps.old) held (K.held snk.old)
+            → Served self.old.waiting before s (stand (M.history machine.old) steps.old) held (K.held snk.old)
             self.old.line.items self.old.replies.items
-            → IfErr result (λ why. Stopped why (ended_lines (before ++ bytes.now)) s
+            → IfErr result (λ why. Stops D.images D.moment D.images_since disk.old disk.new why self.old.waiting
+            (ended_lines (before ++ bytes.now)) s (stand (M.history machine.old) steps.old)
             (stand (M.history machine.new) steps.new) held (K.held snk.new)) }
         ensures empty { OnOk result (self.new.replies.items ≡ []) }
+        ensures waiting { self.new.waiting ≡ self.old.waiting }
+        ensures disk { OnOk result (OnDisk D.images D.moment D.images_since disk.old disk.new
+            (M.history machine.old).commands (M.history machine.new).commands []) }
+        ensures ready { OnOk result (M.ready machine.new disk.new) }
         ensures later { K.faults snk.old ≤ K.faults snk.new }
         ensures cause { result ≡ Err Stop.WriteFault → HasRisen (K.faults snk.old) (K.faults snk.new) }
+        ensures disk_later { D.faults disk.old ≤ D.faults disk.new }
+        ensures disk_cause { result ≡ Err Stop.DiskFault → HasRisen (D.faults disk.old) (D.faults disk.new) }
     {
         for byte in bytes {
-            self.feed(*byte, machine, snk, steps)?;
+            match self.feed(*byte, machine, disk, snk, steps) {
+                Ok(()) => {}
+                Err(stop) => return Err(stop),
+            }
         }
-        self.flush(snk)?;
-        Ok(())
+        match self.flush(snk) {
+            Ok(()) => Ok(()),
+            Err(_) => Err(Stop::WriteFault),
+        }
     }
 
     /// Takes one byte, and writes the replies where they are many.
-    fn feed<M: Machine, K: Sink, L: Ledger>(
+    fn feed<D: Disk, M: Machine<D>, K: Sink, L: Ledger>(
         &mut self,
         byte: u8,
         machine: &mut M,
+        disk: &mut D,
         snk: &mut K,
         steps: &mut Steps<L>,
     ) -> Result<(), Stop>
+        requires ready { M.ready machine.old disk.old }
+        requires few { vec_len self.old.replies ≤ self.old.waiting }
         ensures fed { (before : List ℕ) (s : Stand) (held : Option (List ℕ))
-            → Served before s (stand (M.history machine.old) steps.old) held (K.held snk.old)
+            → Served self.old.waiting before s (stand (M.history machine.old) steps.old) held (K.held snk.old)
             self.old.line.items self.old.replies.items
-            → OnOk result (Served (before ++ byte ∷ []) s (stand (M.history machine.new) steps.new)
-            held (K.held snk.new) self.new.line.items self.new.replies.items) }
+            → OnOk result (Served self.old.waiting (before ++ byte ∷ []) s
+            (stand (M.history machine.new) steps.new) held (K.held snk.new)
+            self.new.line.items self.new.replies.items) }
         ensures stopped { (before : List ℕ) (s : Stand) (held : Option (List ℕ))
-            → Served before s (stand (M.history machine.old) steps.old) held (K.held snk.old)
+            → Served self.old.waiting before s (stand (M.history machine.old) steps.old) held (K.held snk.old)
             self.old.line.items self.old.replies.items
-            → IfErr result (λ why. Stopped why (ended_lines (before ++ byte ∷ [])) s
+            → IfErr result (λ why. Stops D.images D.moment D.images_since disk.old disk.new why self.old.waiting
+            (ended_lines (before ++ byte ∷ [])) s (stand (M.history machine.old) steps.old)
             (stand (M.history machine.new) steps.new) held (K.held snk.new)) }
+        ensures few { OnOk result (vec_len self.new.replies ≤ self.new.waiting) }
+        ensures waiting { self.new.waiting ≡ self.old.waiting }
+        ensures disk { OnOk result (OnDisk D.images D.moment D.images_since disk.old disk.new
+            (M.history machine.old).commands (M.history machine.new).commands []) }
+        ensures ready { OnOk result (M.ready machine.new disk.new) }
         ensures later { K.faults snk.old ≤ K.faults snk.new }
         ensures cause { result ≡ Err Stop.WriteFault → HasRisen (K.faults snk.old) (K.faults snk.new) }
+        ensures disk_later { D.faults disk.old ≤ D.faults disk.new }
+        ensures disk_cause { result ≡ Err Stop.DiskFault → HasRisen (D.faults disk.old) (D.faults disk.new) }
     {
-        match self.take(byte, machine, steps) {
-            Ok(()) => self.flush_many(snk),
-            Err(_) => {
+        match self.take(byte, machine, disk, steps) {
+            Ok(()) => match self.flush_many(snk) {
+                Ok(()) => Ok(()),
+                Err(_) => Err(Stop::WriteFault),
+            },
+            Err(halt) => {
                 self.give_up(snk);
-                Err(Stop::OutOfMemory)
+                Err(stop_at(halt))
             }
         }
     }
 
     /// Takes one byte: a line feed ends the line, which is answered; any other byte is added to it.
-    fn take<M: Machine, L: Ledger>(
+    fn take<D: Disk, M: Machine<D>, L: Ledger>(
         &mut self,
         byte: u8,
         machine: &mut M,
+        disk: &mut D,
         steps: &mut Steps<L>,
-    ) -> Result<(), OutOfMemory>
+    ) -> Result<(), Halt>
+        requires { M.ready machine.old disk.old }
         ensures fed { OnOk result (Feeds byte self.old.line.items self.new.line.items
             (stand (M.history machine.old) steps.old) (stand (M.history machine.new) steps.new)
             self.old.replies.items self.new.replies.items) }
-        ensures fails { OnErr result (FailsAt byte self.old.line.items
-            (stand (M.history machine.old) steps.old) (stand (M.history machine.new) steps.new)) }
+        ensures fails { IfErr result (λ why. HaltsAt D.images D.moment D.images_since disk.old disk.new why byte
+            self.old.line.items (stand (M.history machine.old) steps.old)
+            (stand (M.history machine.new) steps.new)) }
         ensures kept { OnErr result (self.new.replies.items ≡ self.old.replies.items) }
+        ensures waiting { self.new.waiting ≡ self.old.waiting }
+        ensures disk { OnOk result (OnDisk D.images D.moment D.images_since disk.old disk.new
+            (M.history machine.old).commands (M.history machine.new).commands []) }
+        ensures ready { OnOk result (M.ready machine.new disk.new) }
+        ensures stopped { result ≡ Err Halt.DiskFault → HasRisen (D.faults disk.old) (D.faults disk.new) }
+        ensures faults { D.faults disk.old ≤ D.faults disk.new }
     {
         if byte == b'\n' {
-            return self.answer(machine, steps);
+            return self.answer(machine, disk, steps);
         }
-        self.keep(byte)
+        match self.keep(byte) {
+            Ok(()) => Ok(()),
+            Err(_) => Err(Halt::OutOfMemory),
+        }
     }
 
     /// Answers the last piece, where it is not empty. All other replies are written.
-    pub(crate) fn finish<M: Machine, K: Sink, L: Ledger>(
+    pub(crate) fn finish<D: Disk, M: Machine<D>, K: Sink, L: Ledger>(
         &mut self,
         machine: &mut M,
+        disk: &mut D,
         snk: &mut K,
         steps: &mut Steps<L>,
     ) -> Result<(), Stop>
-        requires { self.old.replies.items ≡ [] }
+        requires ready { M.ready machine.old disk.old }
+        requires empty { self.old.replies.items ≡ [] }
         ensures served { (bytes : List ℕ) (s : Stand) (held : Option (List ℕ))
-            → Served bytes s (stand (M.history machine.old) steps.old) held (K.held snk.old)
+            → Served self.old.waiting bytes s (stand (M.history machine.old) steps.old) held (K.held snk.old)
             self.old.line.items self.old.replies.items
             → OnOk result (AllServed (lines_of bytes) s (stand (M.history machine.new) steps.new)
             held (K.held snk.new)) }
         ensures stopped { (bytes : List ℕ) (s : Stand) (held : Option (List ℕ))
-            → Served bytes s (stand (M.history machine.old) steps.old) held (K.held snk.old)
+            → Served self.old.waiting bytes s (stand (M.history machine.old) steps.old) held (K.held snk.old)
             self.old.line.items self.old.replies.items
-            → IfErr result (λ why. Stopped why (lines_of bytes) s
+            → IfErr result (λ why. Stops D.images D.moment D.images_since disk.old disk.new why self.old.waiting
+            (lines_of bytes) s (stand (M.history machine.old) steps.old)
             (stand (M.history machine.new) steps.new) held (K.held snk.new)) }
+        ensures disk { OnOk result (OnDisk D.images D.moment D.images_since disk.old disk.new
+            (M.history machine.old).commands (M.history machine.new).commands []) }
         ensures later { K.faults snk.old ≤ K.faults snk.new }
         ensures cause { result ≡ Err Stop.WriteFault → HasRisen (K.faults snk.old) (K.faults snk.new) }
+        ensures disk_later { D.faults disk.old ≤ D.faults disk.new }
+        ensures disk_cause { result ≡ Err Stop.DiskFault → HasRisen (D.faults disk.old) (D.faults disk.new) }
     {
         if self.line.is_empty() {
             return Ok(());
         }
-        self.answer(machine, steps)?;
-        self.flush(snk)?;
-        Ok(())
+        match self.answer(machine, disk, steps) {
+            Ok(()) => match self.flush(snk) {
+                Ok(()) => Ok(()),
+                Err(_) => Err(Stop::WriteFault),
+            },
+            Err(halt) => Err(stop_at(halt)),
+        }
     }
 
     /// Acts on the line, and begins the next line. The reply is not written yet.
-    fn answer<M: Machine, L: Ledger>(
+    fn answer<D: Disk, M: Machine<D>, L: Ledger>(
         &mut self,
         machine: &mut M,
+        disk: &mut D,
         steps: &mut Steps<L>,
-    ) -> Result<(), OutOfMemory>
+    ) -> Result<(), Halt>
+        requires { M.ready machine.old disk.old }
         ensures line { OnOk result (self.new.line.items ≡ []) }
         ensures replied { OnOk result (IsReplied self.old.line.items
             (stand (M.history machine.old) steps.old) (stand (M.history machine.new) steps.new)
             self.old.replies.items self.new.replies.items) }
-        ensures tried { OnErr result (IsTried self.old.line.items
-            (stand (M.history machine.old) steps.old) (stand (M.history machine.new) steps.new)) }
+        ensures halts { IfErr result (λ why. Halts D.images D.moment D.images_since disk.old disk.new why
+            self.old.line.items (stand (M.history machine.old) steps.old)
+            (stand (M.history machine.new) steps.new)) }
         ensures kept { OnErr result (self.new.replies.items ≡ self.old.replies.items) }
+        ensures waiting { self.new.waiting ≡ self.old.waiting }
+        ensures disk { OnOk result (OnDisk D.images D.moment D.images_since disk.old disk.new
+            (M.history machine.old).commands (M.history machine.new).commands []) }
+        ensures ready { OnOk result (M.ready machine.new disk.new) }
+        ensures stopped { result ≡ Err Halt.DiskFault → HasRisen (D.faults disk.old) (D.faults disk.new) }
+        ensures faults { D.faults disk.old ≤ D.faults disk.new }
     {
-        answer_line(machine, &self.line, &mut self.replies, steps)?;
-        self.line.clear();
-        Ok(())
+        match answer_line(machine, disk, &self.line, &mut self.replies, steps) {
+            Ok(()) => {
+                self.line.clear();
+                Ok(())
+            }
+            Err(halt) => Err(halt),
+        }
     }
 
     /// Writes what is not written yet.
     fn flush<K: Sink>(&mut self, snk: &mut K) -> Result<(), Failed>
         ensures line { self.new.line.items ≡ self.old.line.items }
+        ensures waiting { self.new.waiting ≡ self.old.waiting }
         ensures written { OnOk result (Appends (K.held snk.old) (K.held snk.new) self.old.replies.items) }
         ensures empty { OnOk result (self.new.replies.items ≡ []) }
         ensures part { OnErr result (AppendsPart (K.held snk.old) (K.held snk.new) self.old.replies.items) }
@@ -224,27 +285,30 @@ impl Serving {
         Ok(())
     }
 
-    /// Writes what is not written yet, where it is much.
-    fn flush_many<K: Sink>(&mut self, snk: &mut K) -> Result<(), Stop>
+    /// Writes what is not written yet, where it is more than may wait.
+    fn flush_many<K: Sink>(&mut self, snk: &mut K) -> Result<(), Failed>
         ensures fed { (bytes : List ℕ) (s t : Stand) (held : Option (List ℕ))
-            → Served bytes s t held (K.held snk.old) self.old.line.items self.old.replies.items
-            → OnOk result (Served bytes s t held (K.held snk.new) self.new.line.items self.new.replies.items) }
+            → Served self.old.waiting bytes s t held (K.held snk.old) self.old.line.items self.old.replies.items
+            → OnOk result (Served self.old.waiting bytes s t held (K.held snk.new)
+            self.new.line.items self.new.replies.items) }
         ensures stopped { (bytes : List ℕ) (s t : Stand) (held : Option (List ℕ))
-            → Served bytes s t held (K.held snk.old) self.old.line.items self.old.replies.items
-            → IfErr result (λ why. Stopped why (ended_lines bytes) s t held (K.held snk.new)) }
-        ensures later { K.faults snk.old ≤ K.faults snk.new }
-        ensures cause { result ≡ Err Stop.WriteFault → HasRisen (K.faults snk.old) (K.faults snk.new) }
+            → Served self.old.waiting bytes s t held (K.held snk.old) self.old.line.items self.old.replies.items
+            → OnErr result (Stopped stop.WriteFault self.old.waiting (ended_lines bytes) s t []
+            held (K.held snk.new)) }
+        ensures few { OnOk result (vec_len self.new.replies ≤ self.new.waiting) }
+        ensures waiting { self.new.waiting ≡ self.old.waiting }
+        ensures cause { HasCause (K.faults snk.old) (K.faults snk.new) result }
     {
-        if self.replies.len() < GATHERED {
+        if self.replies.len() <= self.waiting {
             return Ok(());
         }
-        self.flush(snk)?;
-        Ok(())
+        self.flush(snk)
     }
 
     /// Writes what is not written yet, as far as the sink takes it.
     fn give_up<K: Sink>(&mut self, snk: &mut K)
         ensures front { AppendsFront (K.held snk.old) (K.held snk.new) self.old.replies.items }
+        ensures waiting { self.new.waiting ≡ self.old.waiting }
         ensures later { K.faults snk.old ≤ K.faults snk.new }
     {
         let _ = self.flush(snk);
@@ -254,6 +318,7 @@ impl Serving {
     fn keep(&mut self, byte: u8) -> Result<(), OutOfMemory>
         ensures line { OnOk result (self.new.line.items ≡ take 513 (self.old.line.items ++ byte ∷ [])) }
         ensures replies { self.new.replies.items ≡ self.old.replies.items }
+        ensures waiting { self.new.waiting ≡ self.old.waiting }
     {
         if self.line.len() < KEPT {
             self.line.push(byte)?;

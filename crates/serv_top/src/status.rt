@@ -8,7 +8,7 @@ use std::fmt;
 /// How a run ended. The program's exit status is its number.
 #[derive(Clone, Copy, Debug, PartialEq, Eq)]
 pub enum Status {
-    /// The input was read to its end, and all replies were written.
+    /// The input was read to its end, and all replies were written; or the journal was made.
     Done,
     /// The words of the command line are none that the program knows.
     Usage,
@@ -16,10 +16,20 @@ pub enum Status {
     ReadFault,
     /// A write to the sink failed.
     WriteFault,
+    /// A call of the disk failed.
+    DiskFault,
+    /// The file does not begin as a journal does.
+    NotJournal,
+    /// There is a journal, or a file that is longer than an empty one.
+    AlreadyThere,
+    /// The place of the first record that is none, or of whose command the ones before it leave no place.
+    Damaged(u64),
     /// The input is too long: this many bytes were taken.
     TooMuch(u64),
     /// Memory that the run asked for was not to be had.
     OutOfMemory,
+    /// The journal of version 1, of this many bytes, has no room to be written anew.
+    JournalFull(u64),
 }
 
 impl Status {
@@ -32,8 +42,13 @@ impl Status {
             Status::Usage => 2,
             Status::ReadFault => 3,
             Status::WriteFault => 4,
+            Status::DiskFault => 5,
+            Status::NotJournal => 6,
+            Status::AlreadyThere => 7,
+            Status::Damaged(_) => 8,
             Status::TooMuch(_) => 11,
             Status::OutOfMemory => 12,
+            Status::JournalFull(_) => 13,
         }
     }
 }
@@ -47,8 +62,13 @@ impl fmt::Display for Status {
             Status::Usage => write!(f, "{number} Usage"),
             Status::ReadFault => write!(f, "{number} ReadFault"),
             Status::WriteFault => write!(f, "{number} WriteFault"),
+            Status::DiskFault => write!(f, "{number} DiskFault"),
+            Status::NotJournal => write!(f, "{number} NotJournal"),
+            Status::AlreadyThere => write!(f, "{number} AlreadyThere"),
+            Status::Damaged(place) => write!(f, "{number} Damaged {place}"),
             Status::TooMuch(bytes) => write!(f, "{number} TooMuch {bytes}"),
             Status::OutOfMemory => write!(f, "{number} OutOfMemory"),
+            Status::JournalFull(bytes) => write!(f, "{number} JournalFull {bytes}"),
         }
     }
 }

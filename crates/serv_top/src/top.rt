@@ -1,135 +1,135 @@
 //! The program's top call.
 
-ghost use Rattle.std.specs.Prelude.{◌≡◌, ◌≢◌, ℕ, ◌^◌, ◌<◌, ◌≤◌, ◌⊎◌, ◌↔◌, List, [], true, false, map, length, Some};
-ghost use Rattle.std.specs.Io.KnownBytes.{IsAtEnd};
+ghost use Rattle.std.specs.Prelude.{◌≡◌, ◌≢◌, ℕ, ◌+◌, ◌<◌, ◌≤◌, ◌⊎◌, ◌↔◌, ◌∷◌, ◌++◌, List, [], map, length, None, Some};
+ghost use Rattle.svc_world.specs.World.{Accepted};
+ghost use Rattle.svc_world.specs.Judging.{IsHistory};
+ghost use Rattle.serv_disk.specs.Disks.{Each, LeavesOnly};
 ghost use Rattle.serv_disk.specs.Faults.{HasRisen};
-ghost use Rattle.serv_top.specs.Machine.{stand};
-ghost use Rattle.serv_top.specs.Outcome.{Ended, Ran};
-ghost use Rattle.serv_top.specs.Words.{is_session_of};
+ghost use Rattle.serv_journal.specs.Reading.{IsNoJournal};
+ghost use Rattle.serv_engine.specs.Histories.{IsGoodFound};
+ghost use Rattle.serv_engine.specs.Opening.{IsDamagedAt, IsTooLong};
+ghost use Rattle.serv_top.specs.declared.words.Task.TheVariants as task;
+ghost use Rattle.serv_top.specs.Journal.{IsInit, IsOnly, IsUnopened, IsApplied, journal_limit};
+ghost use Rattle.serv_top.specs.Outcome.{Ran, input_limit};
+ghost use Rattle.serv_top.specs.Words.{task_in};
 
-use crate::machine::Machine;
-use crate::serving::Serving;
+use crate::over_journal::{apply, make_journal};
 use crate::status::Status;
-use serv_disk::{Sink, Source, read_some};
+use crate::stream::serve;
+use crate::words::{Task, read_words};
+use serv_disk::{Disk, Sink, Source};
+use serv_machine::Nowhere;
 use std::alloc::Global;
 use std::sync::ledger::Ledger;
 use svc_base::Steps;
 use svc_checkpoint::Checked;
 use svc_core::Core;
 
-/// A run that has taken this many bytes takes no more: 67,108,864.
-pub const INPUT_LIMIT: u64 = 1 << 26;
-
-/// How many bytes are asked for at a time.
-const ROOM: usize = 1 << 16;
-
-/// Answers lines to the end of the source, by the machine.
-fn serve<M: Machine, S: Source, K: Sink, L: Ledger>(
-    alloc: Global,
-    machine: &mut M,
-    src: &mut S,
-    snk: &mut K,
-    steps: &mut Steps<L>,
-) -> Status
-    ensures ended { Ended result
-        (stand (M.history machine.old) steps.old) (stand (M.history machine.new) steps.new)
-        (S.left src.old) (S.left src.new) (K.held snk.old) (K.held snk.new) }
-    ensures known { result ≢ Status.Usage }
-    ensures read { result ≡ Status.ReadFault → HasRisen (S.faults src.old) (S.faults src.new) }
-    ensures write { result ≡ Status.WriteFault → HasRisen (K.faults snk.old) (K.faults snk.new) }
-    ensures read_later { S.faults src.old ≤ S.faults src.new }
-    ensures write_later { K.faults snk.old ≤ K.faults snk.new }
-{
-    let mut serving = Serving::new(alloc);
-    let mut room = [0; ROOM];
-    let mut taken = 0;
-    while taken < INPUT_LIMIT {
-        let most = (INPUT_LIMIT - taken).min(ROOM as u64) as usize;
-        match read_some(src, &mut room, most) {
-            Ok(0) => match serving.finish(machine, snk, steps) {
-                Ok(()) => return Status::Done,
-                Err(stop) => return stop.status(),
-            },
-            Ok(n) => match serving.feed_all(&room[..n], machine, snk, steps) {
-                Ok(()) => taken += n as u64,
-                Err(stop) => return stop.status(),
-            },
-            Err(_) => return Status::ReadFault,
-        }
-    }
-    Status::TooMuch(taken)
-}
+/// How many bytes of replies over books in memory may wait for a write: 65,536.
+const GATHERED: usize = 1 << 16;
 
 /// Answers lines to the end of the source, by books in memory that begin empty.
-#[tactic(auto, using(crate::proofs::Running::ran_nothing, crate::proofs::Running::ran_serving))]
 fn session<S: Source, K: Sink, L: Ledger>(
     alloc: Global,
     src: &mut S,
     snk: &mut K,
     steps: &mut Steps<L>,
 ) -> Status
-    ensures ran { Ran result [] steps.old steps.new
+    ensures ran { Ran GATHERED result steps.old steps.new
         (S.left src.old) (S.left src.new) (K.held snk.old) (K.held snk.new) }
-    ensures known { result ≢ Status.Usage }
+    ensures disk { result ≢ Status.DiskFault }
     ensures read { result ≡ Status.ReadFault → HasRisen (S.faults src.old) (S.faults src.new) }
     ensures write { result ≡ Status.WriteFault → HasRisen (K.faults snk.old) (K.faults snk.new) }
     ensures read_later { S.faults src.old ≤ S.faults src.new }
     ensures write_later { K.faults snk.old ≤ K.faults snk.new }
 {
     match Core::<Checked>::new(alloc) {
-        Ok(mut core) => serve(alloc, &mut core, src, snk, steps),
+        Ok(mut core) => serve(alloc, GATHERED, &mut core, &mut Nowhere, src, snk, steps),
         Err(_) => Status::OutOfMemory,
     }
 }
 
-/// Whether the words are a journal's name and `session`.
-fn is_session(words: &[&str]) -> bool
-    ensures { result ≡ is_session_of (map (λ w. w.now) words.now) }
-{
-    match words {
-        [journal, word] => !journal.is_empty() && *word == "session",
-        _ => false,
-    }
-}
-
-/// Runs what the words ask for. The words `<journal> session`, with any name that is not empty, answer
-/// the lines of the source, each on the sink, over books in memory that begin empty. A last piece
-/// without a line feed is a line too. All lines that a line feed ended in the bytes taken are answered
-/// before the source is read again.
-#[tactic(auto, using(crate::proofs::Running::ran_usage))]
-pub fn run<S: Source, K: Sink, L: Ledger>(
+/// Runs what the words ask for, each of which begins with a journal's name, which is not empty. `<journal> init`
+/// makes an empty journal. `<journal> apply` answers the lines of the source, each on the sink, over the
+/// journal of the disk: an accepted command is in it before it is answered. `<journal> session` does so
+/// over books in memory that begin empty. A last piece without a line feed is a line too. All lines that
+/// a line feed ended in the bytes taken are answered before the source is read again.
+pub fn run<S: Source, K: Sink, D: Disk, L: Ledger>(
     alloc: Global,
     words: &[&str],
     src: &mut S,
     snk: &mut K,
+    disk: &mut D,
     steps: &mut Steps<L>,
 ) -> Status
-    // What is taken, accepted and written, for each status, and the steps of it; the history is empty at the
-    // entry.
-    ensures ran { Ran result [] steps.old steps.new
-        (S.left src.old) (S.left src.new) (K.held snk.old) (K.held snk.new) }
-
     // Words that the program does not know, and no others, are refused, and all objects are left as they were.
-    ensures usage { (result ≡ Status.Usage) ↔ (is_session_of (map (λ w. w.now) words.now) ≡ false) }
+    ensures usage { (result ≡ Status.Usage) ↔ (task_in (map (λ w. w.now) words.now) ≡ None) }
     ensures untouched_source { result ≡ Status.Usage → src.new ≡ src.old }
     ensures untouched_sink { result ≡ Status.Usage → snk.new ≡ snk.old }
+    ensures untouched_disk { result ≡ Status.Usage → disk.new ≡ disk.old }
     ensures untouched_steps { result ≡ Status.Usage → steps.new ≡ steps.old }
+
+    // In memory: what is taken, accepted and written, for each status, and the steps of it.
+    ensures session { task_in (map (λ w. w.now) words.now) ≡ Some task.Session
+        → Ran GATHERED result steps.old steps.new
+        (S.left src.old) (S.left src.new) (K.held snk.old) (K.held snk.new) × (disk.new ≡ disk.old) }
+
+    // Over a journal the same, with what a crash at any moment leaves on the disk; or none was opened.
+    ensures apply { task_in (map (λ w. w.now) words.now) ≡ Some task.Apply
+        → (IsUnopened D.seen D.images D.moment D.images_since D.faults disk.old disk.new result
+        steps.old steps.new × (src.new ≡ src.old) × (snk.new ≡ snk.old))
+        ⊎ IsApplied D.seen D.images D.moment D.images_since disk.old disk.new result steps.old steps.new
+        (S.left src.old) (S.left src.new) (K.held snk.old) (K.held snk.new) }
+    ensures not_journal { (s : List ℕ) → D.seen disk.old ≡ Some s → IsNoJournal s
+        → task_in (map (λ w. w.now) words.now) ≡ Some task.Apply → IsOnly Status.NotJournal result }
+    ensures damaged { (s : List ℕ) (place : ℕ) → D.seen disk.old ≡ Some s → IsDamagedAt place s
+        → task_in (map (λ w. w.now) words.now) ≡ Some task.Apply → IsOnly (Status.Damaged place) result }
+    ensures full { (s : List ℕ) (bytes : ℕ) → D.seen disk.old ≡ Some s → IsTooLong journal_limit bytes s
+        → task_in (map (λ w. w.now) words.now) ≡ Some task.Apply → IsOnly (Status.JournalFull bytes) result }
+
+    // A journal is made of a file of at most 9 bytes, and nothing else is touched.
+    ensures init { task_in (map (λ w. w.now) words.now) ≡ Some task.Init
+        → IsInit result (D.seen disk.old) (D.seen disk.new) (D.images disk.new) (D.faults disk.old) (D.faults disk.new)
+        × (src.new ≡ src.old) × (snk.new ≡ snk.old) × (steps.new ≡ steps.old) }
+    ensures init_moments { task_in (map (λ w. w.now) words.now) ≡ Some task.Init
+        → Each (D.images disk.old) (λ c. length c ≤ 9)
+        → LeavesOnly D.moment D.images_since disk.old disk.new (λ c. length c ≤ 9) }
+    ensures already { (s : List ℕ) → D.seen disk.old ≡ Some s → 9 < length s
+        → task_in (map (λ w. w.now) words.now) ≡ Some task.Init
+        → (result ≡ Status.AlreadyThere) ⊎ (result ≡ Status.DiskFault) }
 
     // A fault is answered only where the count of its object rose in this call. No count falls.
     ensures read { result ≡ Status.ReadFault → HasRisen (S.faults src.old) (S.faults src.new) }
     ensures write { result ≡ Status.WriteFault → HasRisen (K.faults snk.old) (K.faults snk.new) }
+    ensures disk { result ≡ Status.DiskFault → HasRisen (D.faults disk.old) (D.faults disk.new) }
     ensures read_later { S.faults src.old ≤ S.faults src.new }
     ensures write_later { K.faults snk.old ≤ K.faults snk.new }
+    ensures disk_later { D.faults disk.old ≤ D.faults disk.new }
 
-    // Where no count rises and the input is shorter than the limit, known words end in Done or for want of memory.
-    ensures complete { (input : List ℕ) → S.left src.old ≡ Some input → length input < INPUT_LIMIT
+    // Where no count rises and the input is shorter than the limit, lines end in Done or for want of memory; over
+    // a disk that is good for a history and a command also where the journal cannot be written anew.
+    ensures complete { (input : List ℕ) → S.left src.old ≡ Some input → length input < input_limit
         → ¬ HasRisen (S.faults src.old) (S.faults src.new) → ¬ HasRisen (K.faults snk.old) (K.faults snk.new)
-        → is_session_of (map (λ w. w.now) words.now) ≡ true → (result ≡ Status.Done) ⊎ (result ≡ Status.OutOfMemory) }
+        → task_in (map (λ w. w.now) words.now) ≡ Some task.Session
+        → (result ≡ Status.Done) ⊎ (result ≡ Status.OutOfMemory) }
+    ensures complete_apply { (input s : List ℕ) (h : List Accepted) (a : Accepted)
+        → S.left src.old ≡ Some input → length input < input_limit
+        → D.seen disk.old ≡ Some s → IsHistory (h ++ a ∷ []) → Each (D.images disk.old) (IsGoodFound h a)
+        → ¬ HasRisen (S.faults src.old) (S.faults src.new) → ¬ HasRisen (K.faults snk.old) (K.faults snk.new)
+        → ¬ HasRisen (D.faults disk.old) (D.faults disk.new)
+        → task_in (map (λ w. w.now) words.now) ≡ Some task.Apply
+        → (result ≡ Status.Done) ⊎ ((result ≡ Status.OutOfMemory)
+        ⊎ ((bytes : ℕ) × (result ≡ Status.JournalFull bytes))) }
+    ensures complete_init { ¬ HasRisen (D.faults disk.old) (D.faults disk.new)
+        → task_in (map (λ w. w.now) words.now) ≡ Some task.Init
+        → (result ≡ Status.Done) ⊎ (result ≡ Status.AlreadyThere) }
 {
-    if !is_session(words) {
-        return Status::Usage;
+    match read_words(words) {
+        None => Status::Usage,
+        Some(Task::Init) => make_journal(disk),
+        Some(Task::Apply) => apply(alloc, src, snk, disk, steps),
+        Some(Task::Session) => session(alloc, src, snk, steps),
     }
-    session(alloc, src, snk, steps)
 }
 
 #[cfg(test)]

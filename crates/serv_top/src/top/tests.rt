@@ -1,11 +1,13 @@
+mod journals;
 mod sharing;
+mod stops;
 mod tables;
 
 ghost use Rattle.std.specs.Prelude.{◌≡◌, ◌<◌};
 
-use super::{INPUT_LIMIT, run};
-use crate::Status;
-use serv_disk::{MemSink, MemSource, Source};
+use super::run;
+use crate::{INPUT_LIMIT, Status};
+use serv_disk::{MemDisk, MemSink, MemSource, Source};
 use sharing::{Telling, Waiting};
 use std::alloc::{AllocError, Global};
 use std::cell::Cell;
@@ -16,6 +18,9 @@ use std::test::Fail;
 use svc_base::Steps;
 use tables::*;
 
+/// A journal without a command.
+const NEW_JOURNAL: &[u8] = b"MSRVJ002\x00";
+
 /// What a run over memory came to.
 #[derive(Drop)]
 struct Ending {
@@ -23,135 +28,175 @@ struct Ending {
     output: Vec<u8>,
     /// The first bytes of what is left.
     left: Vec<u8>,
+    /// What reads of the disk give.
+    journal: Vec<u8>,
 }
 
-/// Runs the words `j session`, or `j frob`, over memory with these failing calls.
-fn run_over<L: Ledger>(
-    alloc: Global,
-    blank: Blank,
-    known: bool,
-    input: Vec<u8>,
-    reads: Vec<u32>,
-    writes: Vec<u32>,
-) -> Result<Ending, AllocError>
+/// What a run over memory is given: a word, what the disk and the source hold, and which of their calls fail.
+#[derive(Clone, Copy)]
+struct Given<'a> {
+    word: &'a str,
+    journal: &'a [u8],
+    calls: &'a [u32],
+    input: &'a [u8],
+    reads: &'a [u32],
+    writes: &'a [u32],
+}
+
+/// Lines in memory.
+const SESSION: Given<'static> = Given {
+    word: "session",
+    journal: b"",
+    calls: &[],
+    input: b"",
+    reads: &[],
+    writes: &[],
+};
+
+/// Lines over a journal without a command.
+const APPLY: Given<'static> = Given {
+    word: "apply",
+    journal: NEW_JOURNAL,
+    ..SESSION
+};
+
+/// Runs `j` and the word over memory, with room for all that is written.
+fn run_over<L: Ledger>(alloc: Global, blank: Blank, given: &Given) -> Result<Ending, Fail>
     requires name { blank.name ≡ L.name }
     requires parts { blank.parts ≡ L.parts }
     requires some { 0 < L.parts }
 {
-    let word = if known { "session" } else { "frob" };
-    let mut src = MemSource::new(input, reads);
-    let mut snk = MemSink::new(Vec::new(alloc), writes);
-    if snk.reserve(8, 4096).is_err() {
-        return Err(AllocError);
-    }
+    let mut src = MemSource::new(given.input.to_vec(alloc)?, given.reads.to_vec(alloc)?);
+    let mut snk = MemSink::new(Vec::new(alloc), given.writes.to_vec(alloc)?);
+    snk.reserve(8, 4096)?;
+    let mut disk = MemDisk::new(given.journal.to_vec(alloc)?, given.calls.to_vec(alloc)?)?;
+    disk.reserve(64, 4096)?;
     let mut steps = Steps::<L>::new(blank);
-    let status = run(alloc, &["j", word], &mut src, &mut snk, &mut steps);
+    let status = run(
+        alloc,
+        &["j", given.word],
+        &mut src,
+        &mut snk,
+        &mut disk,
+        &mut steps,
+    );
     let mut room = [0; 32];
     let count = src.read(&mut room).unwrap_or(0);
     Ok(Ending {
         status,
         output: Vec::from_slice(alloc, snk.content())?,
         left: Vec::from_slice(alloc, &room[..count])?,
+        journal: Vec::from_slice(alloc, disk.content())?,
     })
 }
 
-/// Runs the words `j session`, or `j frob`, with steps that are counted from 0.
-fn run_either(
-    alloc: Global,
-    known: bool,
-    input: Vec<u8>,
-    reads: Vec<u32>,
-    writes: Vec<u32>,
-) -> Result<Ending, AllocError> {
-    run_over::<Brand>(alloc, Blank::new(1), known, input, reads, writes)
-}
-
-/// Runs the words `j session`.
-fn run_known(
-    alloc: Global,
-    input: Vec<u8>,
-    reads: Vec<u32>,
-    writes: Vec<u32>,
-) -> Result<Ending, AllocError> {
-    run_either(alloc, true, input, reads, writes)
+/// The same with steps that are counted from 0.
+fn run_given(alloc: Global, given: &Given) -> Result<Ending, Fail> {
+    run_over::<Brand>(alloc, Blank::new(1), given)
 }
 
 /// A run with its expected status, output and rest.
 #[derive(Clone, Copy)]
 struct Case<'a> {
-    known: bool,
-    input: &'a [u8],
-    reads: &'a [u32],
-    writes: &'a [u32],
+    given: Given<'a>,
     status: Status,
     output: &'a [u8],
     left: &'a [u8],
 }
 
-const DAY: Case<'static> = Case {
-    known: true,
-    input: b"k1 day 2024-02-01\n",
-    reads: &[],
-    writes: &[],
-    status: Status::Done,
-    output: b"ok 1\n",
-    left: b"",
-};
-
-#[test]
-fn each_status_has_its_output_and_rest(rt: HostRuntime) -> Result<(), Fail> {
-    let cases = [
-        DAY,
-        // No input.
-        Case {
-            input: b"",
-            output: b"",
-            ..DAY
-        },
-        // A last line without a line feed.
-        Case {
-            input: b"k1 day 2024-02-01",
-            ..DAY
-        },
-        // Another word.
-        Case {
-            known: false,
-            status: Status::Usage,
-            output: b"",
-            left: b"k1 day 2024-02-01\n",
-            ..DAY
-        },
-        // A second read that fails.
-        Case {
-            reads: &[2],
-            status: Status::ReadFault,
-            ..DAY
-        },
-        // A first read that fails.
-        Case {
-            reads: &[1],
-            status: Status::ReadFault,
-            output: b"",
-            left: b"k1 day 2024-02-01\n",
-            ..DAY
-        },
-        // A sink that fails at once.
-        Case {
-            writes: &[1],
-            status: Status::WriteFault,
-            output: b"",
-            ..DAY
-        },
-    ];
+/// Runs each case, and compares what it came to.
+fn check_cases(rt: &(impl Abort + AllocGlobal), cases: &[Case]) -> Result<(), Fail> {
     for (i, case) in cases.iter().enumerate() {
-        let input = Vec::from_slice(rt.alloc(), case.input)?;
-        let reads = Vec::from_slice(rt.alloc(), case.reads)?;
-        let writes = Vec::from_slice(rt.alloc(), case.writes)?;
-        let end = run_either(rt.alloc(), case.known, input, reads, writes)?;
+        let end = run_given(rt.alloc(), &case.given)?;
         assert_eq!(rt; end.status, case.status, "case {i}");
         assert_eq!(rt; end.output.as_slice(), case.output, "case {i}");
         assert_eq!(rt; end.left.as_slice(), case.left, "case {i}");
     }
+    Ok(())
+}
+
+const LINE: &[u8] = b"k1 day 2024-02-01\n";
+
+/// What comes of a line by the words, where the runs of both ways end alike.
+fn cases_of(word: Given<'static>) -> [Case<'static>; 6] {
+    let day = Case {
+        given: Given {
+            input: LINE,
+            ..word
+        },
+        status: Status::Done,
+        output: b"ok 1\n",
+        left: b"",
+    };
+    [
+        day,
+        // No input.
+        Case {
+            given: Given { input: b"", ..word },
+            output: b"",
+            ..day
+        },
+        // A last line without a line feed.
+        Case {
+            given: Given {
+                input: b"k1 day 2024-02-01",
+                ..word
+            },
+            ..day
+        },
+        // A second read that fails.
+        Case {
+            given: Given {
+                input: LINE,
+                reads: &[2],
+                ..word
+            },
+            status: Status::ReadFault,
+            ..day
+        },
+        // A first read that fails.
+        Case {
+            given: Given {
+                input: LINE,
+                reads: &[1],
+                ..word
+            },
+            status: Status::ReadFault,
+            output: b"",
+            left: LINE,
+        },
+        // A sink that fails at once.
+        Case {
+            given: Given {
+                input: LINE,
+                writes: &[1],
+                ..word
+            },
+            status: Status::WriteFault,
+            output: b"",
+            ..day
+        },
+    ]
+}
+
+#[test]
+fn each_status_has_its_output_and_rest(rt: HostRuntime) -> Result<(), Fail> {
+    check_cases(&rt, &cases_of(SESSION))?;
+    check_cases(&rt, &cases_of(APPLY))
+}
+
+#[test]
+fn other_words_are_refused(rt: HostRuntime) -> Result<(), Fail> {
+    let given = Given {
+        word: "frob",
+        input: LINE,
+        ..APPLY
+    };
+    let end = run_given(rt.alloc(), &given)?;
+    assert_eq!(rt; end.status, Status::Usage);
+    assert_eq!(rt; end.output.len(), 0);
+    assert_eq!(rt; end.left.as_slice(), LINE);
+    assert_eq!(rt; end.journal.as_slice(), NEW_JOURNAL);
     Ok(())
 }
 
@@ -314,14 +359,19 @@ impl Talk {
         self.add(&line, &reply)
     }
 
-    /// Runs the lines, and compares the output with the replies.
+    /// Runs the lines in memory and over a journal, and compares the output with the replies.
     fn check(self, rt: &(impl Abort + AllocGlobal)) -> Result<(), Fail> {
-        let none = Vec::new(rt.alloc());
-        let end = run_known(rt.alloc(), self.input, none, Vec::new(rt.alloc()))?;
-        assert_eq!(rt; end.status, Status::Done);
-        let output = String::from_utf8_lossy(rt.alloc(), &end.output)?;
-        let expected = String::from_utf8_lossy(rt.alloc(), &self.replies)?;
-        assert_eq!(rt; output.as_str(), expected.as_str());
+        for given in [SESSION, APPLY] {
+            let given = Given {
+                input: &self.input,
+                ..given
+            };
+            let end = run_given(rt.alloc(), &given)?;
+            assert_eq!(rt; end.status, Status::Done, "{}", given.word);
+            let output = String::from_utf8_lossy(rt.alloc(), &end.output)?;
+            let expected = String::from_utf8_lossy(rt.alloc(), &self.replies)?;
+            assert_eq!(rt; output.as_str(), expected.as_str(), "{}", given.word);
+        }
         Ok(())
     }
 }
@@ -427,8 +477,8 @@ fn five_thousand_lines_are_answered(rt: HostRuntime) -> Result<(), Fail> {
     talk.check(&rt)
 }
 
-/// Runs `j session` over a source and a sink that share a cell, and says how many bytes were written.
-fn bytes_written<L: Ledger>(alloc: Global, blank: Blank) -> usize
+/// Runs `j` and the word over a source and a sink that share a cell, and says how many bytes were written.
+fn bytes_written<L: Ledger>(alloc: Global, blank: Blank, word: &str) -> Result<usize, Fail>
     requires name { blank.name ≡ L.name }
     requires parts { blank.parts ≡ L.parts }
     requires some { 0 < L.parts }
@@ -436,17 +486,27 @@ fn bytes_written<L: Ledger>(alloc: Global, blank: Blank) -> usize
     let written = Cell::new(0);
     let mut src = Waiting::new(&written);
     let mut snk = Telling::new(&written);
+    let mut disk = MemDisk::new(NEW_JOURNAL.to_vec(alloc)?, Vec::new(alloc))?;
     let mut steps = Steps::<L>::new(blank);
-    match run(alloc, &["j", "session"], &mut src, &mut snk, &mut steps) {
-        Status::Done => written.get(),
-        _ => 0,
+    match run(
+        alloc,
+        &["j", word],
+        &mut src,
+        &mut snk,
+        &mut disk,
+        &mut steps,
+    ) {
+        Status::Done => Ok(written.get()),
+        _ => Ok(0),
     }
 }
 
 #[test]
 fn a_reply_is_written_before_the_next_read(rt: HostRuntime) -> Result<(), Fail> {
-    let written = bytes_written::<Brand>(rt.alloc(), Blank::new(1));
-    assert_eq!(rt; written, b"ok 1\nok 2\n".len());
+    for word in ["session", "apply"] {
+        let written = bytes_written::<Brand>(rt.alloc(), Blank::new(1), word)?;
+        assert_eq!(rt; written, b"ok 1\nok 2\n".len());
+    }
     Ok(())
 }
 
@@ -454,8 +514,11 @@ fn a_reply_is_written_before_the_next_read(rt: HostRuntime) -> Result<(), Fail> 
 fn a_line_of_513_bytes_is_too_long(rt: HostRuntime) -> Result<(), Fail> {
     let mut input = vec![in rt.alloc(); b'x'; 6000]?;
     input.extend_from_slice(b"\nk1 day 2024-02-01\n")?;
-    let none = Vec::new(rt.alloc());
-    let end = run_known(rt.alloc(), input, none, Vec::new(rt.alloc()))?;
+    let given = Given {
+        input: &input,
+        ..SESSION
+    };
+    let end = run_given(rt.alloc(), &given)?;
     assert_eq!(rt; end.status, Status::Done);
     assert_eq!(rt; end.output.as_slice(), b"bad 512\nok 1\n".as_slice());
     Ok(())
@@ -465,8 +528,11 @@ fn a_line_of_513_bytes_is_too_long(rt: HostRuntime) -> Result<(), Fail> {
 fn too_much_input_ends_without_output(rt: HostRuntime) -> Result<(), Fail> {
     let mut input = vec![in rt.alloc(); b'x'; INPUT_LIMIT as usize]?;
     input.push(b'y')?;
-    let none = Vec::new(rt.alloc());
-    let end = run_known(rt.alloc(), input, none, Vec::new(rt.alloc()))?;
+    let given = Given {
+        input: &input,
+        ..SESSION
+    };
+    let end = run_given(rt.alloc(), &given)?;
     assert_eq!(rt; end.status, Status::TooMuch(INPUT_LIMIT));
     assert_eq!(rt; end.output.len(), 0);
     assert_eq!(rt; end.left.as_slice(), b"y".as_slice());
@@ -480,8 +546,13 @@ fn a_status_is_shown_by_number_and_name(rt: HostRuntime) -> Result<(), Fail> {
         (Status::Usage, "2 Usage"),
         (Status::ReadFault, "3 ReadFault"),
         (Status::WriteFault, "4 WriteFault"),
+        (Status::DiskFault, "5 DiskFault"),
+        (Status::NotJournal, "6 NotJournal"),
+        (Status::AlreadyThere, "7 AlreadyThere"),
+        (Status::Damaged(8), "8 Damaged 8"),
         (Status::TooMuch(67_108_864), "11 TooMuch 67108864"),
         (Status::OutOfMemory, "12 OutOfMemory"),
+        (Status::JournalFull(29), "13 JournalFull 29"),
     ] {
         let text = status.to_string(rt.alloc())?;
         assert_eq!(rt; text.as_str(), shown);

@@ -1,26 +1,38 @@
-use Rattle.std.proofs.Common.{rules, ◌≡◌, []}
-use Rattle.std.proofs.lemmas.Result.{err_from_is_err_and}
-use Rattle.serv_top.proofs.ServedLemmas.{served_no_more, served_last, cut_last, short_last}
+use Rattle.std.proofs.Common.{rules, ◌≡◌, [], refl, arith, length, subst}
+use Rattle.serv_machine.proofs.OnDiskLemmas.{disk_none}
+use Rattle.serv_top.proofs.ServedLemmas.{served_no_more, served_last, cut_last, halted_last, few_none}
 use Rattle.serv_top.proofs.serving.Serving.finish.Goals as goal
 
 pub returns-then-is_empty-clause-served : goal.returns-then-is_empty-clause-served
 returns-then-is_empty-clause-served g c = λ bytes s held run.
     let none : c.args.self.now.line.items ≡ [] = search rules in
-    served_no_more bytes run c.requires none
+    served_no_more _ bytes run (few_none _ _ c.requires.empty) c.requires.empty none
 
-pub returns-in_err-answer-clause-stopped : goal.returns-in_err-answer-clause-stopped
-returns-in_err-answer-clause-stopped g c = λ bytes s held run.
-    let some : c.args.self.now.line.items ≡ [] → ⊥ = search rules in
-    let p = err_from_is_err_and c.from_residual.result c.from_residual.ensures.1 in
-    rw (p.1, p.2) (short_last bytes run _ some c.in_err-answer.ensures.tried)
+pub returns-then-is_empty-clause-disk : goal.returns-then-is_empty-clause-disk
+returns-then-is_empty-clause-disk g c =
+    disk_none g.D.Disk.images g.D.Disk.moment g.D.Disk.images_since c.args.disk.now _ _ refl
+    (g.met.M.Machine.keeps c.args.machine.now c.args.disk.now c.requires.ready) (g.met.D.Disk.only_now c.args.disk.now)
 
-pub returns-in_err-flush-clause-stopped : goal.returns-in_err-flush-clause-stopped
-returns-in_err-flush-clause-stopped g c = λ bytes s held run.
+pub returns-in-Ok-flush-clause-served : goal.returns-in-Ok-flush-clause-served
+returns-in-Ok-flush-clause-served g c = λ bytes s held run.
     let some : c.args.self.now.line.items ≡ [] → ⊥ = search rules in
-    let p = err_from_is_err_and c.from_residual-in_err-flush.result c.from_residual-in_err-flush.ensures.1 in
-    rw (p.1, p.2) (cut_last bytes run _ _ _ some c.in_ok-answer.ensures.replied c.in_err-flush.ensures.part)
+    served_last _ bytes run (few_none _ _ c.requires.empty) _ _ _ some c.in-Ok.ensures.replied c.in-Ok-flush.ensures.written
 
-pub returns-clause-served : goal.returns-clause-served
-returns-clause-served g c = λ bytes s held run.
+pub returns-in-Err-flush-clause-stopped : goal.returns-in-Err-flush-clause-stopped
+returns-in-Err-flush-clause-stopped g c = λ bytes s held run.
     let some : c.args.self.now.line.items ≡ [] → ⊥ = search rules in
-    served_last bytes run _ _ _ some c.in_ok-answer.ensures.replied c.in_ok-flush.ensures.written
+    record {
+      pending = [];
+      stopped = cut_last _ bytes run (few_none _ _ c.requires.empty) _ _ _ some c.in-Ok.ensures.replied c.in-Err-flush.ensures.part;
+      disk = c.in-Ok.ensures.disk;
+    }
+
+pub returns-in-Err-clause-stopped : goal.returns-in-Err-clause-stopped
+returns-in-Err-clause-stopped g c = λ bytes s held run.
+    let some : c.args.self.now.line.items ≡ [] → ⊥ = search rules in
+    let h = c.in-Err.ensures.halts in
+    rw c.stop_at.ensures (record {
+      pending = h.pending;
+      stopped = halted_last _ bytes run (few_none _ _ c.requires.empty) c.in-Err.halt _ h.pending some h.halted;
+      disk = h.disk;
+    })

@@ -1,0 +1,62 @@
+-- What a call leaves on the disk.
+use Rattle.std.proofs.Common.{◌≡◌, ℕ, ◌≤◌, List, [], ◌∷◌, ◌++◌, inl, subst, sym, ap, ◌∙◌}
+use Rattle.serv_disk.specs.Disks.{Each, LeavesOnly}
+use Rattle.serv_disk.proofs.Moments.{started}
+use Rattle.serv_journal.specs.Format.{Form}
+use Rattle.serv_journal.specs.States.{JournalState, StandsFor}
+use Rattle.serv_journal.specs.Disks.{IsWholeIn, IsGoodIn}
+use Rattle.svc_world.specs.World.{Accepted}
+use Rattle.serv_engine.specs.Histories.{line_of_command, lines_of_history, IsWholeFor, IsGoodFor}
+use Rattle.serv_engine.specs.Engines.{EngineState, IsDurableIn, IsDurable}
+use Rattle.serv_engine.proofs.HistoryLines.{push_line}
+
+-- no call: the history is whole at this moment
+pub no_call : {D : Type 0} (moment : D → ℕ) (images : D → List ℕ → Type 0) (images_since : D → ℕ → List ℕ → Type 0) (disk : D) (form : Form) (h : List Accepted) (a : Accepted)
+    → ((c : List ℕ) → images_since disk (moment disk) c → images disk c) → Each (images disk) (IsWholeFor form h) → LeavesOnly moment images_since disk disk (IsGoodFor form h a)
+no_call moment images images_since disk form h a only each = started moment images_since disk (IsGoodFor form h a) (λ c left. inl (each c (only c left)))
+
+-- a line's clauses are those of its command
+pub good_moments : {D : Type 0} (moment : D → ℕ) (images_since : D → ℕ → List ℕ → Type 0) (old new : D) (form : Form) (h : List Accepted) (a : Accepted) (line : List ℕ) → line ≡ line_of_command a
+    → LeavesOnly moment images_since old new (IsGoodIn form (lines_of_history h) line) → LeavesOnly moment images_since old new (IsGoodFor form h a)
+good_moments moment images_since old new form h a line is run = subst (λ l. LeavesOnly moment images_since old new (IsGoodIn form (lines_of_history h) l)) is run
+
+pub stands_with : (form : Form) (h : List Accepted) (a : Accepted) (line : List ℕ) (journal : JournalState) → line ≡ line_of_command a
+    → StandsFor form (lines_of_history h ++ line ∷ []) journal → StandsFor form (lines_of_history (h ++ a ∷ [])) journal
+stands_with form h a line journal is stands = subst (λ l. StandsFor form l journal) (push_line h a line is) stands
+
+pub whole_with : (images : List ℕ → Type 0) (form : Form) (h : List Accepted) (a : Accepted) (line : List ℕ) → line ≡ line_of_command a
+    → Each images (IsWholeIn form (lines_of_history h ++ line ∷ [])) → Each images (IsWholeFor form (h ++ a ∷ []))
+whole_with images form h a line is each = subst (λ l. Each images (IsWholeIn form l)) (push_line h a line is) each
+
+-- in some form, and in this one
+pub durable_in : (form : Form) (images : List ℕ → Type 0) (e : EngineState) → IsDurableIn form images e → IsDurable images e
+durable_in form images e d = record { form = form; stands = d.stands; each = d.each }
+
+pub form_of : (images : List ℕ → Type 0) (e : EngineState) → (d : IsDurable images e) → IsDurableIn d.form images e
+form_of images e d = record { stands = d.stands; each = d.each }
+
+-- ---- an engine after a call
+
+pub durable_more : (form : Form) (images : List ℕ → Type 0) (h : List Accepted) (new : EngineState) (a : Accepted) → new.history ≡ h ++ a ∷ []
+    → StandsFor form (lines_of_history (h ++ a ∷ [])) new.journal → Each images (IsWholeFor form (h ++ a ∷ [])) → IsDurableIn form images new
+durable_more form images h new a more stands each = record {
+  stands = subst (λ x. StandsFor form (lines_of_history x) new.journal) (sym more) stands;
+  each = subst (λ x. Each images (IsWholeFor form x)) (sym more) each;
+}
+
+pub durable_same : (form : Form) (images : List ℕ → Type 0) (old new : EngineState) → new.history ≡ old.history → new.journal ≡ old.journal → IsDurableIn form images old → IsDurableIn form images new
+durable_same form images old new history journal d = record {
+  stands = subst (λ j. StandsFor form (lines_of_history new.history) j) (sym journal) (subst (λ h. StandsFor form (lines_of_history h) old.journal) (sym history) d.stands);
+  each = subst (λ h. Each images (IsWholeFor form h)) (sym history) d.each;
+}
+
+-- the same engine by its parts
+pub same_engine : (h : List Accepted) (journal : JournalState) (old new : EngineState) → new.history ≡ h → new.journal ≡ journal → old.history ≡ h → old.journal ≡ journal → new ≡ old
+same_engine h journal old new nh nj oh oj =
+    let make : List Accepted → JournalState → EngineState = λ x j. record { history = x; journal = j } in
+    ap (λ x. make x new.journal) (nh ∙ sym oh) ∙ ap (λ j. make old.history j) (nj ∙ sym oj)
+
+-- what is good at each moment is so at the end
+pub good_now : {D : Type 0} (moment : D → ℕ) (images : D → List ℕ → Type 0) (images_since : D → ℕ → List ℕ → Type 0) (old new : D) (P : List ℕ → Type 0)
+    → ((d : D) (t : ℕ) (c : List ℕ) → t ≤ moment d → images d c → images_since d t c) → LeavesOnly moment images_since old new P → Each (images new) P
+good_now moment images images_since old new P counts run c image = run.each c (counts new (moment old) c run.later image)

@@ -1,0 +1,10 @@
+pub mod HistoryLines
+pub mod UnfitLemmas
+pub mod FileLemmas
+pub mod DurableLemmas
+pub mod ReplayLemmas
+pub mod FaultLemmas
+pub mod OpenLemmas
+pub mod LengthLemmas
+pub mod UpgradedLemmas
+pub mod SubmitLemmas

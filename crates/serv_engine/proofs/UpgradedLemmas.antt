@@ -1,0 +1,40 @@
+-- A journal of version 1 that is written anew, and one of version 2 that is left.
+use Rattle.std.proofs.Common.{◌≡◌, ℕ, ◌<◌, ◌≤◌, List, Bool, true, false, refl, ⊎_elim}
+use Rattle.std.specs.Prelude.{Result, Ok, Err}
+use Rattle.std.proofs.lemmas.Bool.{cases_lt}
+use Rattle.serv_disk.specs.Disks.{Each, LeavesOnly}
+use Rattle.serv_disk.proofs.Moments.{started}
+use Rattle.serv_journal.specs.declared.format.Version.TheVariants.{One, Two}
+use Rattle.serv_journal.specs.declared.faults.JournalFault.{JournalFault}
+use Rattle.serv_journal.specs.Format.{Form, upgraded_form}
+use Rattle.serv_journal.specs.States.{JournalState, StandsFor}
+use Rattle.serv_journal.specs.Disks.{IsWholeIn, IsWhole, IsDurableFor}
+
+-- nothing is called: the lines are whole at this moment
+pub whole_now : {D : Type 0} (moment : D → ℕ) (images : D → List ℕ → Type 0) (images_since : D → ℕ → List ℕ → Type 0) (disk : D) (j : JournalState) (lines : List (List ℕ))
+    → ((c : List ℕ) → images_since disk (moment disk) c → images disk c) → IsDurableFor (images disk) j lines → LeavesOnly moment images_since disk disk (IsWhole lines)
+whole_now moment images images_since disk j lines only durable =
+    started moment images_since disk (IsWhole lines) (λ c left. record { form = durable.form; is_form = durable.stands.is_form; whole = durable.each c (only c left) })
+
+-- the disk keeps the lines in the form of the upgrade
+pub upgraded_durable : (form : Form) (images : List ℕ → Type 0) (j : JournalState) (lines : List (List ℕ)) → StandsFor (upgraded_form form lines) lines j
+    → Each images (IsWholeIn (upgraded_form form lines) lines) → IsDurableFor images j lines
+upgraded_durable form images j lines stands each = record { form = upgraded_form form lines; stands = stands; each = each }
+
+ok_no_err : {T E : Type 0} (x : T) (e : E) → ◌≡◌ {A = Result T E} (Ok x) (Err e) → ⊥
+ok_no_err x e is = let no_way : ⊥ = cc in no_way
+
+not_true : (b : Bool) → (b ≡ true → ⊥) → b ≡ false
+not_true true no_way = absurd (no_way refl)
+not_true false no_way = refl
+
+-- after Ok it is not spent, and it was not too long
+pub ok_unspent : {T : Type 0} (x : T) (e : JournalFault) (spent : Bool) → (spent ≡ true → ◌≡◌ {A = Result T JournalFault} (Ok x) (Err e)) → spent ≡ false
+ok_unspent x e spent is = not_true spent (λ t. ok_no_err x e (is t))
+
+pub ok_fits : {T : Type 0} (x : T) (e : JournalFault) (limit long : ℕ) → (limit < long → ◌≡◌ {A = Result T JournalFault} (Ok x) (Err e)) → long ≤ limit
+ok_fits x e limit long is = ⊎_elim (λ less. absurd (ok_no_err x e (is less))) (λ fits. fits) (cases_lt limit long)
+
+-- no version is both
+pub two_not_one : (j : JournalState) → j.version ≡ Two → j.version ≡ One → ⊥
+two_not_one j two one = let no_way : ⊥ = cc in no_way

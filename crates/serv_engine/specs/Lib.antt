@@ -1,0 +1,4 @@
+pub mod Histories
+pub mod Engines
+pub mod Submitting
+pub mod Opening

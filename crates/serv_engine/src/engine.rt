@@ -1,0 +1,220 @@
+//! The engine: it submits commands and answers queries, and keeps the history on a disk.
+
+ghost use Rattle.std.specs.Prelude.{◌≡◌, ◌⊎◌, ◌↔◌, ◌+◌, ◌^◌, ◌≤◌, ◌∷◌, ◌++◌, ℕ, List, [], length, true, false, None, Some, IfOk, IfErr, OnOk, OnErr, IsErrOf};
+ghost use Rattle.svc_types.specs.Requests.{IsCommand, IsQuery};
+ghost use Rattle.svc_spec.specs.Accounts.{Account};
+ghost use Rattle.svc_spec.specs.Months.{cost_of_month};
+ghost use Rattle.svc_world.specs.World.{Accepted, accepted, world};
+ghost use Rattle.svc_world.specs.Judging.{Judgement, judged, history_after, IsHistory};
+ghost use Rattle.svc_world.specs.Refusals.{query_refusal};
+ghost use Rattle.svc_world.specs.Answers.{answer_to};
+ghost use Rattle.svc_world.specs.Custody.{rows_in};
+ghost use Rattle.svc_core.specs.Bound.{step_bound, query_bound};
+ghost use Rattle.svc_core.specs.Core.{IsReplyTo};
+ghost use Rattle.serv_disk.specs.Disks.{Each, LeavesOnly};
+ghost use Rattle.serv_journal.specs.Format.{Form};
+ghost use Rattle.serv_journal.specs.Reading.{IsNoJournal};
+ghost use Rattle.serv_engine.specs.Histories.{lengths_of, IsGoodFor, IsGoodFound};
+ghost use Rattle.serv_engine.specs.Engines.{IsDurableIn, IsDurable};
+ghost use Rattle.serv_engine.specs.Submitting.{HasRoom, IsSubmitFault, IsAskFault};
+ghost use Rattle.serv_engine.specs.Opening.{IsDamagedAt, IsTooLong, IsFound, IsClosed, IsOnlyFault, IsOpenFault, IsOpenCause, IsFileWithin, history_bound};
+
+use crate::adding::append_command;
+use crate::fault::{EngineFault, of_core, of_journal};
+use crate::opening::take_over;
+use serv_disk::Disk;
+use serv_journal::{Journal, Version};
+use std::alloc::Global;
+use std::marker::Model;
+use std::sync::ledger::Ledger;
+use svc_base::Steps;
+use svc_core::{Core, Verdict};
+use svc_replay::LoanBooks;
+use svc_types::{Command, Key, Query, Reply};
+use svc_world::Answer;
+
+/// The books of a servicer over a journal. It stands for the accepted commands with their keys; the disk
+/// is handed to each call that uses it.
+#[derive(Drop)]
+pub struct Engine<B: LoanBooks> {
+    alloc: Global,
+    core: Core<B>,
+    journal: Journal,
+}
+
+impl<B: LoanBooks> Model for Engine<B> {
+    ghost use Rattle.std.specs.Prelude.{◌≡◌};
+    ghost use Rattle.serv_journal.specs.declared.format.Version.TheVariants.{Two};
+    ghost use Rattle.serv_engine.specs.Engines.{EngineState};
+
+    ghost Value = { EngineState };
+
+    ghost view = { λ e. record { history = e.core.history; journal = e.journal } };
+
+    ghost invariant = { λ e. e.journal.version ≡ Two };
+}
+
+impl<B: LoanBooks> Engine<B> {
+    /// Opens the journal of a disk: each of its commands is accepted, one after another. A commit byte
+    /// after them that is not 0 is set to 0, and then a journal of version 1 is written anew in version 2.
+    pub fn open<D: Disk, L: Ledger>(
+        alloc: Global,
+        disk: &mut D,
+        limit: u64,
+        steps: &mut Steps<L>,
+    ) -> Result<Engine<B>, EngineFault>
+        requires { limit ≤ 2 ^ 32 }
+        // The history is that of the file, with its journal's length, and each image of the disk has it.
+        ensures found { IfOk result (λ e. (s : List ℕ) → D.seen disk.old ≡ Some s
+            → IsFound limit e.journal.size e.history s) }
+        ensures history { IfOk result (λ e. IsHistory e.history) }
+        ensures durable { IfOk result (λ e. IsDurable (D.images disk.new) e) }
+        ensures fresh { IfOk result (λ e. (e.journal.limit ≡ limit) × (e.journal.spent ≡ false)) }
+        ensures version { IfOk result (λ e. e.journal.version ≡ Version.Two) }
+        // A crash at any moment leaves a disk that was good for a history and a command as good, and the
+        // engine has that history, or that and the command.
+        ensures moments { (s : List ℕ) → D.seen disk.old ≡ Some s → (h : List Accepted) (a : Accepted)
+            → IsHistory (h ++ a ∷ []) → Each (D.images disk.old) (IsGoodFound h a)
+            → LeavesOnly D.moment D.images_since disk.old disk.new (IsGoodFound h a) }
+        ensures either { (s : List ℕ) → D.seen disk.old ≡ Some s → (h : List Accepted) (a : Accepted)
+            → IsHistory (h ++ a ∷ []) → Each (D.images disk.old) (IsGoodFound h a)
+            → IfOk result (λ e. (e.history ≡ h) ⊎ (e.history ≡ h ++ a ∷ [])) }
+        // Each fault comes exactly by its cause.
+        ensures fault { IfErr result (λ f. (s : List ℕ) → D.seen disk.old ≡ Some s
+            → IsOpenFault limit s (D.faults disk.old) (D.faults disk.new) f) }
+        ensures cause { IfErr result (IsOpenCause (D.faults disk.old) (D.faults disk.new)) }
+        ensures exactly_not_journal { (s : List ℕ) → D.seen disk.old ≡ Some s → IsNoJournal s
+            → IsOnlyFault EngineFault.NotJournal (D.faults disk.old) (D.faults disk.new) result }
+        ensures exactly_damaged { (s : List ℕ) (place : ℕ) → D.seen disk.old ≡ Some s → IsDamagedAt place s
+            → IsOnlyFault (EngineFault.Damaged place) (D.faults disk.old) (D.faults disk.new) result }
+        ensures exactly_full { (s : List ℕ) (bytes : ℕ) → D.seen disk.old ≡ Some s → IsTooLong limit bytes s
+            → IsOnlyFault (EngineFault.JournalFull bytes) (D.faults disk.old) (D.faults disk.new) result }
+        // Another fault than the disk's leaves what reads give, but for the closed commit byte.
+        ensures kept { IfErr result (λ f. (f ≡ EngineFault.DiskFault) ⊎ ((D.seen disk.new ≡ D.seen disk.old)
+            ⊎ ((s : List ℕ) → D.seen disk.old ≡ Some s → IsClosed s (D.seen disk.new)))) }
+        ensures faults { D.faults disk.old ≤ D.faults disk.new }
+        ensures bound { ((a : Account) (m : ℕ) → B.cost a m ≡ cost_of_month a m)
+            → ((a : Account) (m : ℕ) → B.month_cost a m ≡ 0)
+            → IfOk result (λ e. steps.new ≤ steps.old + history_bound [] e.history) }
+        // At a fault there was no step, or those of the commands before it and of the one that it comes with.
+        ensures bound_err { ((a : Account) (m : ℕ) → B.cost a m ≡ cost_of_month a m)
+            → ((a : Account) (m : ℕ) → B.month_cost a m ≡ 0)
+            → OnErr result ((steps.new ≡ steps.old)
+            ⊎ ((s : List ℕ) → D.seen disk.old ≡ Some s → IsFileWithin s steps.old steps.new)) }
+    {
+        match Journal::open(alloc, disk, limit) {
+            Ok((mut journal, frames)) => match take_over(
+                alloc,
+                &mut journal,
+                disk,
+                &frames,
+                steps,
+            ) {
+                Ok(core) => Ok(Engine {
+                    alloc,
+                    core,
+                    journal,
+                }),
+                Err(fault) => Err(fault),
+            },
+            Err(fault) => Err(of_journal(fault)),
+        }
+    }
+
+    /// Answers a command: the reply that was kept for its key, the first rule that refuses it, or, where it
+    /// is fresh and the journal has room for it, the reply to it as the next command of the history, once it
+    /// is in the journal. All memory is taken before the first write.
+    pub fn submit<D: Disk, L: Ledger>(
+        &mut self,
+        disk: &mut D,
+        key: &Key,
+        command: &Command,
+        steps: &mut Steps<L>,
+    ) -> Result<Reply, EngineFault>
+        requires command { IsCommand command.now }
+        requires unspent { self.old.journal.spent ≡ false }
+        requires durable { IsDurable (D.images disk.old) self.old }
+        ensures reply { IfOk result
+            (IsReplyTo self.old.history command.now (judged self.old.history key.now command.now)) }
+        ensures history { OnOk result (self.new.history ≡ history_after self.old.history key.now command.now
+            (judged self.old.history key.now command.now)) }
+        // A kept reply changes nothing; after another one each image of the disk has the command.
+        ensures repeated { OnOk result ((reply : Reply) → judged self.old.history key.now command.now
+            ≡ Judgement.Kept reply → (self.new ≡ self.old) × (disk.new ≡ disk.old)) }
+        ensures durable { OnOk result (IsDurable (D.images disk.new) self.new) }
+        ensures durable_in { (form : Form) → IsDurableIn form (D.images disk.old) self.old
+            → OnOk result (IsDurableIn form (D.images disk.new) self.new) }
+        // A crash at any moment leaves the history, with the command or without, or torn with it.
+        ensures moments { (form : Form) → IsDurableIn form (D.images disk.old) self.old
+            → LeavesOnly D.moment D.images_since disk.old disk.new
+            (IsGoodFor form self.old.history (accepted key.now command.now)) }
+        ensures good { (form : Form) → IsDurableIn form (D.images disk.old) self.old
+            → Each (D.images disk.new) (IsGoodFor form self.old.history (accepted key.now command.now)) }
+        // `Refused` comes exactly where a rule refuses, `JournalFull` where a fresh command has no room.
+        ensures fault { IfErr result (IsSubmitFault (judged self.old.history key.now command.now)
+            self.old.journal (accepted key.now command.now) (D.faults disk.old) (D.faults disk.new)) }
+        ensures room { OnOk result (judged self.old.history key.now command.now ≡ Judgement.Fresh
+            → HasRoom self.old.journal (accepted key.now command.now)) }
+        // Another fault than the disk's changes nothing; after the disk's the history is as it was.
+        ensures kept { IfErr result (λ f. (f ≡ EngineFault.DiskFault)
+            ⊎ ((self.new ≡ self.old) × (disk.new ≡ disk.old))) }
+        ensures err { OnErr result (self.new.history ≡ self.old.history) }
+        ensures spent { IsErrOf result EngineFault.DiskFault ↔ (self.new.journal.spent ≡ true) }
+        ensures faults { D.faults disk.old ≤ D.faults disk.new }
+        ensures size { OnErr result (self.new.journal.size ≡ self.old.journal.size) }
+        ensures limit { self.new.journal.limit ≡ self.old.journal.limit }
+        ensures version { self.new.journal.version ≡ Version.Two }
+        // A command more takes its line's bytes and seven.
+        ensures length { (base : ℕ) → self.old.journal.size ≡ base + lengths_of self.old.history
+            → OnOk result (self.new.journal.size ≡ base + lengths_of self.new.history) }
+        ensures bound { ((a : Account) (m : ℕ) → B.cost a m ≡ cost_of_month a m)
+            → ((a : Account) (m : ℕ) → B.month_cost a m ≡ 0)
+            → steps.new ≤ steps.old + step_bound self.old.history key.now command.now }
+    {
+        self.core.history_holds();
+        match self.core.judge(key, command, steps) {
+            Ok(verdict) => match verdict {
+                Verdict::Repeat(reply) => Ok(reply),
+                Verdict::Fresh => {
+                    match append_command(self.alloc, &mut self.journal, disk, key, command) {
+                        Ok(()) => Ok(self.core.accept(key, command, steps)),
+                        Err(fault) => Err(fault),
+                    }
+                }
+            },
+            Err(fault) => Err(of_core(fault)),
+        }
+    }
+
+    /// Answers a query over the history, or with the first rule that refuses it.
+    pub fn ask<L: Ledger>(&self, query: &Query, steps: &mut Steps<L>) -> Result<Answer, EngineFault>
+        requires { IsQuery query.now }
+        ensures asked { OnOk result
+            (query_refusal (length self.now.history) (world self.now.history) query.now ≡ None) }
+        ensures answer { IfOk result (λ a.
+            answer_to (world self.now.history) (rows_in self.now.history) query.now ≡ Some a) }
+        ensures fault { IfErr result (IsAskFault
+            (query_refusal (length self.now.history) (world self.now.history) query.now)) }
+        ensures bound { ((a : Account) (m : ℕ) → B.cost a m ≡ cost_of_month a m)
+            → steps.new ≤ steps.old + query_bound (world self.now.history) query.now }
+    {
+        match self.core.ask(query, steps) {
+            Ok(answer) => Ok(answer),
+            Err(why) => Err(of_core(why)),
+        }
+    }
+
+    /// The books.
+    pub fn core(&self) -> &Core<B>
+        ensures { result.now.history ≡ self.now.history }
+    {
+        &self.core
+    }
+
+    /// Whether a call of the disk failed in a submit. Then the engine is used no more.
+    pub fn is_spent(&self) -> bool
+        ensures { result ≡ self.now.journal.spent }
+    {
+        self.journal.is_spent()
+    }
+}

@@ -1,0 +1,15 @@
+//! The engine: the books of a servicer over a journal. A command is in the journal before it is answered.
+#![tactic(auto)]
+
+mod adding;
+mod engine;
+mod fault;
+mod old_version;
+mod opening;
+mod replaying;
+
+pub use engine::Engine;
+pub use fault::EngineFault;
+
+#[cfg(test)]
+mod tests;

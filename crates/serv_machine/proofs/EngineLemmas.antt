@@ -1,0 +1,175 @@
+-- What an engine answers, as a machine's answer.
+use Rattle.std.proofs.Common.{◌≡◌, ◌≢◌, ◌⊎◌, ℕ, ◌+◌, ◌-◌, ◌<◌, ◌≤◌, List, [], ◌∷◌, ◌++◌, length, refl, sym, ap, subst, ◌∙◌, inl, inr, ⊎_elim, arith}
+use Rattle.std.proofs.lemmas.Bool.Decides.{nat_tests}
+use Rattle.svc_types.specs.declared.requests.Command.{Command}
+use Rattle.svc_types.specs.declared.replies.Reply.{Reply}
+use Rattle.svc_types.specs.declared.replies.Refusal.{Refusal}
+use Rattle.svc_core.specs.Core.{IsReplyTo}
+use Rattle.svc_world.specs.World.{Accepted, accepted}
+use Rattle.svc_world.specs.Judging as judging
+use Rattle.svc_world.specs.Judging.{Judgement, judged}
+use Rattle.serv_disk.specs.Faults.{HasRisen}
+use Rattle.serv_journal.specs.States.{JournalState}
+use Rattle.serv_engine.specs.declared.fault.EngineFault.{EngineFault}
+use Rattle.serv_engine.specs.declared.fault.EngineFault.TheVariants as engine
+use Rattle.serv_engine.specs.Engines.{EngineState, IsDurableIn, IsDurable}
+use Rattle.serv_engine.specs.Histories.{line_of_command, record_length, lengths_of}
+use Rattle.serv_engine.specs.Submitting.{HasRoom, IsFull, IsSubmitFault}
+use Rattle.serv_machine.specs.declared.faults.ActFault.{ActFault}
+use Rattle.serv_machine.specs.declared.faults.ActFault.TheVariants as fault
+use Rattle.serv_machine.specs.History.{History, Journal, Decision, Kept, Refused, Full, Fresh, in_journal, by_room, by_judgement, decided, after_decision}
+use Rattle.serv_machine.specs.Replies.{IsReplyBy, IsFaultBy, pending_at}
+use Rattle.std.specs.Prelude.{Result, Err}
+use Rattle.serv_disk.specs.Disks.{Each, LeavesOnly}
+use Rattle.serv_disk.proofs.Moments.{weaker}
+use Rattle.serv_journal.specs.Format.{Form, IsForm}
+use Rattle.serv_engine.specs.Histories.{IsGoodFor, IsGoodFound}
+use Rattle.serv_machine.specs.EngineLaws.{durable_whole}
+use Rattle.serv_machine.specs.OnDisk.{OnDisk}
+use Rattle.serv_machine.proofs.OnDiskLemmas.{disk_same, disk_appended, disk_stopped}
+use Rattle.serv_machine.specs.Engines.{history_of, fault_of}
+
+with_room : (base limit : ℕ) (h : List Accepted) (a : Accepted) → base + lengths_of h + record_length a ≤ limit → by_room (Journal base limit) h a ≡ Fresh
+with_room base limit h a fits = grind (arith, nat_tests)
+
+without_room : (base limit : ℕ) (h : List Accepted) (a : Accepted) → limit < base + lengths_of h + record_length a → by_room (Journal base limit) h a ≡ Full (base + lengths_of h)
+without_room base limit h a past = grind (arith, nat_tests)
+
+-- the journal's length is that without a command, and the records
+back : (size n : ℕ) → n ≤ size → (size - n) + n ≡ size
+back size n le = omega arith
+
+room_of : (size n long limit line : ℕ) → long ≡ 7 + line → n ≤ size → size + 7 + line ≤ limit → (size - n) + n + long ≤ limit
+room_of size n long limit line is le fits = omega arith
+
+past_of : (size n long limit line : ℕ) → long ≡ 7 + line → n ≤ size → limit < size + 7 + line → limit < (size - n) + n + long
+past_of size n long limit line is le past = omega arith
+
+module _ (e : EngineState) (a : Accepted) (fits : lengths_of e.history ≤ e.journal.size) where
+  abbrev base : ℕ
+  base = e.journal.size - lengths_of e.history
+
+  fresh_room : HasRoom e.journal a → by_room (Journal base e.journal.limit) e.history a ≡ Fresh
+  fresh_room room = with_room base e.journal.limit e.history a (room_of e.journal.size (lengths_of e.history) (record_length a) e.journal.limit (length (line_of_command a)) refl fits room)
+
+  full_room : IsFull e.journal a → by_room (Journal base e.journal.limit) e.history a ≡ Full e.journal.size
+  full_room past = without_room base e.journal.limit e.history a (past_of e.journal.size (lengths_of e.history) (record_length a) e.journal.limit (length (line_of_command a)) refl fits past)
+      ∙ ap Full (back e.journal.size (lengths_of e.history) fits)
+
+  abbrev told : Judgement → Decision
+  told said = by_judgement (Journal base e.journal.limit) e.history a said
+
+  fresh_told : (said : Judgement) → said ≡ judging.Fresh → HasRoom e.journal a → told said ≡ Fresh
+  fresh_told said fresh room = ap told fresh ∙ fresh_room room
+
+  full_told : (said : Judgement) (bytes : ℕ) → said ≡ judging.Fresh → bytes ≡ e.journal.size → IsFull e.journal a → told said ≡ Full bytes
+  full_told said bytes fresh size past = ap told fresh ∙ (full_room past ∙ ap Full (sym size))
+
+  reply_told : (said : Judgement) (reply : Reply) → IsReplyTo e.history a.command said reply → (said ≡ judging.Fresh → HasRoom e.journal a) → IsReplyBy (history_of e) a.command (told said) reply
+  reply_told (judging.Kept kept) reply is room = is
+  reply_told (judging.Refused why) reply is room = absurd is
+  reply_told judging.Fresh reply is room = subst (λ d. IsReplyBy (history_of e) a.command d reply) (sym (fresh_room (room refl))) is
+
+  fault_told : (said : Judgement) (old new : ℕ) (f : EngineFault) → IsSubmitFault said e.journal a old new f → IsFaultBy (told said) old new (fault_of f)
+  fault_told said old new (engine.Refused why) is = ap told is
+  fault_told said old new (engine.JournalFull bytes) is = full_told said bytes is.0 is.1 is.2
+  fault_told said old new engine.DiskFault is = (fresh_told said is.0 is.1, is.2)
+  fault_told said old new engine.OutOfMemory is = tt
+  fault_told said old new engine.NotJournal is = absurd is
+  fault_told said old new (engine.Damaged place) is = absurd is
+
+-- the engine after it
+same_in : (b b' l l' : ℕ) (h h' : List Accepted) → b ≡ b' → l ≡ l' → h ≡ h' → in_journal b l h ≡ in_journal b' l' h'
+same_in b b' l l' h h' bs ls hs = ap (λ x. in_journal x l h) bs ∙ (ap (λ x. in_journal b' x h) ls ∙ ap (λ x. in_journal b' l' x) hs)
+
+base_on : (size n size' n' base : ℕ) → size ≡ base + n → size' ≡ base + n' → size' - n' ≡ size - n
+base_on size n size' n' base is is' = omega arith
+
+pub history_same : (old new : EngineState) → new.history ≡ old.history → new.journal.size ≡ old.journal.size → new.journal.limit ≡ old.journal.limit → history_of new ≡ history_of old
+history_same old new h size limit =
+    same_in (new.journal.size - lengths_of new.history) (old.journal.size - lengths_of old.history) new.journal.limit old.journal.limit new.history old.history
+    (ap (λ n. n - lengths_of new.history) size ∙ ap (λ x. old.journal.size - lengths_of x) h) limit h
+
+pub history_told : (old new : EngineState) (a : Accepted) (said : Judgement) (base : ℕ) (reply : Reply) → IsReplyTo old.history a.command said reply → old.journal.size ≡ base + lengths_of old.history
+    → new.history ≡ judging.history_after old.history a.key a.command said → new.journal.limit ≡ old.journal.limit → new.journal.size ≡ base + lengths_of new.history
+    → (said ≡ judging.Fresh → HasRoom old.journal a) → history_of new ≡ after_decision (history_of old) a (by_judgement (history_of old).store old.history a said)
+history_told old new a (judging.Kept kept) base reply is size h limit size' room =
+    same_in _ _ new.journal.limit old.journal.limit new.history old.history (base_on old.journal.size (lengths_of old.history) new.journal.size (lengths_of new.history) base size size') limit h
+history_told old new a (judging.Refused why) base reply is size h limit size' room = absurd is
+history_told old new a judging.Fresh base reply is size h limit size' room =
+    let fits : lengths_of old.history ≤ old.journal.size = omega (arith, size) in
+    same_in _ _ new.journal.limit old.journal.limit new.history (old.history ++ a ∷ []) (base_on old.journal.size (lengths_of old.history) new.journal.size (lengths_of new.history) base size size') limit h
+    ∙ ap (after_decision (history_of old) a) (sym (fresh_room old a fits (room refl)))
+
+-- ---- a machine's answers, over what an engine says
+
+pub long_enough : (e : EngineState) (base : ℕ) → e.journal.size ≡ base + lengths_of e.history → lengths_of e.history ≤ e.journal.size
+long_enough e base is = omega (arith, is)
+
+pub act_reply : (e : EngineState) (key : List ℕ) (c : Command) (reply : Reply) → lengths_of e.history ≤ e.journal.size → IsReplyTo e.history c (judged e.history key c) reply
+    → (judged e.history key c ≡ judging.Fresh → HasRoom e.journal (accepted key c)) → IsReplyBy (history_of e) c (decided (history_of e) key c) reply
+unfolding decided
+act_reply e key c reply fits is room = reply_told e (accepted key c) fits (judged e.history key c) reply is room
+
+pub act_fault_is : (e : EngineState) (key : List ℕ) (c : Command) (old new : ℕ) (f : EngineFault) → lengths_of e.history ≤ e.journal.size
+    → IsSubmitFault (judged e.history key c) e.journal (accepted key c) old new f → IsFaultBy (decided (history_of e) key c) old new (fault_of f)
+unfolding decided
+act_fault_is e key c old new f fits is = fault_told e (accepted key c) fits (judged e.history key c) old new f is
+
+pub act_after : (old new : EngineState) (key : List ℕ) (c : Command) (base : ℕ) (reply : Reply) → IsReplyTo old.history c (judged old.history key c) reply → old.journal.size ≡ base + lengths_of old.history
+    → new.history ≡ judging.history_after old.history key c (judged old.history key c) → new.journal.limit ≡ old.journal.limit → new.journal.size ≡ base + lengths_of new.history
+    → (judged old.history key c ≡ judging.Fresh → HasRoom old.journal (accepted key c)) → history_of new ≡ after_decision (history_of old) (accepted key c) (decided (history_of old) key c)
+unfolding decided
+act_after old new key c base reply is size h limit size' room = history_told old new (accepted key c) (judged old.history key c) base reply is size h limit size' room
+
+-- what it leaves on the disk
+good_found : (form : Form) (h : List Accepted) (a : Accepted) (file : List ℕ) → IsForm form → IsGoodFor form h a file → IsGoodFound h a file
+good_found form h a file is_form good = record { form = form; is_form = is_form; good = good }
+
+module _ {D : Type 0} (images : D → List ℕ → Type 0) (moment : D → ℕ) (images_since : D → ℕ → List ℕ → Type 0) (old new : D) (e e' : EngineState) (a : Accepted)
+    (only_now : (c : List ℕ) → images_since old (moment old) c → images old c) (durable : IsDurable (images old) e)
+    (moments : (form : Form) → IsDurableIn form (images old) e → LeavesOnly moment images_since old new (IsGoodFor form e.history a)) where
+  found_moments : LeavesOnly moment images_since old new (IsGoodFound e.history a)
+  found_moments =
+      weaker moment images_since old new (IsGoodFor durable.form e.history a) (IsGoodFound e.history a)
+      (moments durable.form (record { stands = durable.stands; each = durable.each })) (λ c good. good_found durable.form e.history a c durable.stands.is_form good)
+
+  same_disk : (e' ≡ e) × (new ≡ old) → OnDisk images moment images_since old new e.history e'.history []
+  same_disk same = disk_same images moment images_since old new e.history e'.history same.1 (ap (λ (x : EngineState). x.history) same.0) (durable_whole (images old) e durable) only_now
+
+  pub ok_disk : (said : Judgement) (reply : Reply) → IsReplyTo e.history a.command said reply → e'.history ≡ judging.history_after e.history a.key a.command said
+      → ((r : Reply) → said ≡ judging.Kept r → (e' ≡ e) × (new ≡ old)) → IsDurable (images new) e' → OnDisk images moment images_since old new e.history e'.history []
+  ok_disk (judging.Kept kept) reply is h repeated whole = same_disk (repeated kept refl)
+  ok_disk (judging.Refused why) reply is h repeated whole = absurd is
+  ok_disk judging.Fresh reply is h repeated whole =
+      disk_appended images moment images_since old new e.history e'.history a h (durable_whole (images new) e' whole) found_moments
+
+  pub err_disk : (f : EngineFault) → (f ≡ engine.DiskFault) ⊎ ((e' ≡ e) × (new ≡ old)) → e'.history ≡ e.history → ((form : Form) → IsDurableIn form (images old) e → Each (images new) (IsGoodFor form e.history a))
+      → OnDisk images moment images_since old new e.history e'.history (pending_at a (Err (fault_of f)))
+  err_disk engine.DiskFault kept h good =
+      disk_stopped images moment images_since old new e.history e'.history a h
+      (λ c image. good_found durable.form e.history a c durable.stands.is_form (good durable.form (record { stands = durable.stands; each = durable.each }) c image)) found_moments
+  err_disk (engine.Refused why) kept h good = ⊎_elim (λ is. absurd (refused_no why is)) (λ same. same_disk same) kept
+    where
+      refused_no : (why : Refusal) → engine.Refused why ≡ engine.DiskFault → ⊥
+      refused_no why is = cc
+  err_disk (engine.JournalFull bytes) kept h good = ⊎_elim (λ is. absurd (full_no bytes is)) (λ same. same_disk same) kept
+    where
+      full_no : (bytes : ℕ) → engine.JournalFull bytes ≡ engine.DiskFault → ⊥
+      full_no bytes is = cc
+  err_disk engine.OutOfMemory kept h good = ⊎_elim (λ is. absurd (memory_no is)) (λ same. same_disk same) kept
+    where
+      memory_no : engine.OutOfMemory ≡ engine.DiskFault → ⊥
+      memory_no is = cc
+  err_disk engine.NotJournal kept h good = ⊎_elim (λ is. absurd (journal_no is)) (λ same. same_disk same) kept
+    where
+      journal_no : engine.NotJournal ≡ engine.DiskFault → ⊥
+      journal_no is = cc
+  err_disk (engine.Damaged place) kept h good = ⊎_elim (λ is. absurd (damaged_no place is)) (λ same. same_disk same) kept
+    where
+      damaged_no : (place : ℕ) → engine.Damaged place ≡ engine.DiskFault → ⊥
+      damaged_no place is = cc
+
+-- a fault that is not the disk's leaves the engine and the disk
+pub err_same : {D : Type 0} (old new : D) (e e' : EngineState) (f : EngineFault) → (◌≡◌ {A = Result Reply ActFault} (Err (fault_of f)) (Err fault.DiskFault) → ⊥) → (f ≡ engine.DiskFault) ⊎ ((e' ≡ e) × (new ≡ old)) → (e' ≡ e) × (new ≡ old)
+err_same old new e e' f other kept = ⊎_elim (λ is. absurd (other (ap (λ x. Err (fault_of x)) is))) (λ same. same) kept

@@ -1,0 +1,4 @@
+pub mod OnDiskLemmas
+pub mod SpellLemmas
+pub mod MemoryLemmas
+pub mod EngineLemmas

@@ -1,0 +1,61 @@
+-- What a core in memory answers, as a machine's answer.
+use Rattle.std.proofs.Common.{◌≡◌, ℕ, List, [], ◌∷◌, ◌++◌, refl, sym, ap, ◌∙◌, arith, append-nil}
+use Rattle.svc_types.specs.declared.requests.Command.{Command}
+use Rattle.svc_types.specs.declared.replies.Reply.{Reply}
+use Rattle.svc_types.specs.declared.replies.Refusal.{Refusal}
+use Rattle.svc_core.specs.Core.{IsReplyTo}
+use Rattle.svc_world.specs.World.{Accepted, accepted}
+use Rattle.svc_world.specs.Judging as judging
+use Rattle.svc_world.specs.Judging.{Judgement, judged}
+use Rattle.serv_machine.specs.History.{History, Memory, Refused, by_judgement, decided, after_decision}
+use Rattle.serv_machine.specs.Replies.{IsReplyBy}
+use Rattle.serv_machine.specs.OnDisk.{OnDisk}
+
+abbrev pub in_memory : List Accepted → History
+in_memory h = record { commands = h; store = Memory }
+
+reply_by : (h : List Accepted) (c : Command) (a : Accepted) (said : Judgement) (reply : Reply) → IsReplyTo h c said reply → IsReplyBy (in_memory h) c (by_judgement Memory h a said) reply
+reply_by h c a (judging.Kept kept) reply is = is
+reply_by h c a (judging.Refused why) reply is = absurd is
+reply_by h c a judging.Fresh reply is = is
+
+pub memory_reply : (h : List Accepted) (key : List ℕ) (c : Command) (reply : Reply) → IsReplyTo h c (judged h key c) reply → IsReplyBy (in_memory h) c (decided (in_memory h) key c) reply
+unfolding decided
+memory_reply h key c reply is = reply_by h c (accepted key c) (judged h key c) reply is
+
+after_by : (h h' : List Accepted) (key : List ℕ) (c : Command) (said : Judgement) → h' ≡ judging.history_after h key c said
+    → in_memory h' ≡ after_decision (in_memory h) (accepted key c) (by_judgement Memory h (accepted key c) said)
+after_by h h' key c (judging.Kept kept) is = ap in_memory is
+after_by h h' key c (judging.Refused why) is = ap in_memory is
+after_by h h' key c judging.Fresh is = ap in_memory is
+
+pub memory_after : (h h' : List Accepted) (key : List ℕ) (c : Command) → h' ≡ judging.history_after h key c (judged h key c)
+    → in_memory h' ≡ after_decision (in_memory h) (accepted key c) (decided (in_memory h) key c)
+unfolding decided
+memory_after h h' key c is = after_by h h' key c (judged h key c) is
+
+pub memory_refused : (h : List Accepted) (key : List ℕ) (c : Command) (why : Refusal) → judged h key c ≡ judging.Refused why → decided (in_memory h) key c ≡ Refused why
+unfolding decided
+memory_refused h key c why is = ap (by_judgement Memory h (accepted key c)) is
+
+-- no disk is touched
+nowhere : {D : Type 0} (d : D) (h h' list : List Accepted) → h' ≡ h ++ list → OnDisk {D = D} (λ _ _. ⊥) (λ _. 0) (λ _ _ _. ⊥) d d h h' []
+nowhere d h h' list is = record {
+  list = list;
+  accepted = is;
+  left = λ c image. absurd image;
+  moments = record { later = omega arith; each = λ c left. absurd left; before = λ t c le left. absurd left };
+}
+
+after_nowhere : {D : Type 0} (d : D) (h h' : List Accepted) (key : List ℕ) (c : Command) (said : Judgement) → h' ≡ judging.history_after h key c said
+    → OnDisk {D = D} (λ _ _. ⊥) (λ _. 0) (λ _ _ _. ⊥) d d h h' []
+after_nowhere d h h' key c (judging.Kept kept) is = nowhere d h h' [] (is ∙ sym (append-nil h))
+after_nowhere d h h' key c (judging.Refused why) is = nowhere d h h' [] (is ∙ sym (append-nil h))
+after_nowhere d h h' key c judging.Fresh is = nowhere d h h' (accepted key c ∷ []) is
+
+pub memory_disk : {D : Type 0} (d : D) (h h' : List Accepted) (key : List ℕ) (c : Command) → h' ≡ judging.history_after h key c (judged h key c)
+    → OnDisk {D = D} (λ _ _. ⊥) (λ _. 0) (λ _ _ _. ⊥) d d h h' []
+memory_disk d h h' key c is = after_nowhere d h h' key c (judged h key c) is
+
+pub memory_same : {D : Type 0} (d : D) (h h' : List Accepted) → h' ≡ h → OnDisk {D = D} (λ _ _. ⊥) (λ _. 0) (λ _ _ _. ⊥) d d h h' []
+memory_same d h h' is = nowhere d h h' [] (is ∙ sym (append-nil h))

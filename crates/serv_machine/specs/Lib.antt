@@ -1,0 +1,5 @@
+pub mod History
+pub mod Replies
+pub mod OnDisk
+pub mod Engines
+pub mod EngineLaws

@@ -1,0 +1,96 @@
+-- What a machine says to a request, what it holds after it, and how many steps it may take.
+use Rattle.std.specs.Prelude.{◌≡◌, ℕ, List, [], ◌∷◌, length, Option, Some, None, Result, Ok, Err, ⊤}
+use Rattle.svc_types.specs.declared.requests.Command.{Command}
+use Rattle.svc_types.specs.declared.requests.Request.{Request}
+use Rattle.svc_types.specs.declared.requests.Request.TheVariants as request
+use Rattle.svc_types.specs.declared.replies.Reply.{Reply}
+use Rattle.svc_types.specs.declared.replies.Refusal.{Refusal}
+use Rattle.serv_line.specs.Replies.{text_of_reply, text_of_full}
+use Rattle.serv_line.specs.Refusals.{text_of_refusal}
+use Rattle.serv_report.specs.AnswerTexts.{text_of_answer}
+use Rattle.svc_core.specs.Bound.{step_bound, query_bound}
+use Rattle.svc_world.specs.declared.answer.Answer.{Answer}
+use Rattle.svc_world.specs.World.{Accepted, accepted, world}
+use Rattle.svc_world.specs.Judging.{next_reply}
+use Rattle.svc_world.specs.Refusals.{query_refusal}
+use Rattle.svc_world.specs.Answers.{answer_to}
+use Rattle.svc_world.specs.Custody.{rows_in}
+use Rattle.serv_disk.specs.Faults.{HasRisen}
+use Rattle.serv_machine.specs.declared.faults.ActFault.{ActFault}
+use Rattle.serv_machine.specs.declared.faults.ActFault.TheVariants as fault
+use Rattle.serv_machine.specs.declared.faults.Halt.{Halt}
+use Rattle.serv_machine.specs.declared.faults.Halt.TheVariants as halt
+use Rattle.serv_machine.specs.History.{History, Decision, Kept, Refused, Full, Fresh, decided, after_decision}
+
+-- ---- a command
+
+-- the reply by what is decided; one that is not accepted, and was not before, has none
+abbrev pub IsReplyBy : History → Command → Decision → Reply → Type 0
+IsReplyBy h c (Kept reply) r = r ≡ reply
+IsReplyBy h c (Refused why) r = ⊥
+IsReplyBy h c (Full bytes) r = ⊥
+IsReplyBy h c Fresh r = r ≡ next_reply h.commands c
+
+-- a fault by what is decided; of the disk only where its count has risen; want of memory is free
+abbrev pub IsFaultBy : Decision → ℕ → ℕ → ActFault → Type 0
+IsFaultBy d old new (fault.Refused why) = d ≡ Refused why
+IsFaultBy d old new (fault.Full bytes) = d ≡ Full bytes
+IsFaultBy d old new fault.DiskFault = (d ≡ Fresh) × HasRisen old new
+IsFaultBy d old new fault.OutOfMemory = ⊤
+
+-- the command that was being appended: there is one where the disk failed
+abbrev pub pending_at : Accepted → Result Reply ActFault → List Accepted
+pending_at a (Ok reply) = []
+pending_at a (Err (fault.Refused why)) = []
+pending_at a (Err (fault.Full bytes)) = []
+pending_at a (Err fault.DiskFault) = a ∷ []
+pending_at a (Err fault.OutOfMemory) = []
+
+-- ---- the text of the reply
+
+-- to a command: the reply that was given to it, the first rule that refuses it, that the journal is full, or the reply to
+-- the next command
+abbrev pub text_of_decision : History → Command → Decision → List ℕ
+text_of_decision h c (Kept reply) = text_of_reply reply
+text_of_decision h c (Refused why) = text_of_refusal why
+text_of_decision h c (Full bytes) = text_of_full bytes
+text_of_decision h c Fresh = text_of_reply (next_reply h.commands c)
+
+-- to a query: the first rule that refuses it, or its answer; one that is not refused has an answer
+abbrev pub text_of_asked : Option Refusal → Option Answer → List ℕ
+text_of_asked (Some why) answer = text_of_refusal why
+text_of_asked None (Some answer) = text_of_answer answer
+text_of_asked None None = []
+
+unfoldable pub reply_to_request : History → Request → List ℕ
+reply_to_request h (request.Do key c) = text_of_decision h c (decided h key c)
+reply_to_request h (request.Ask q) =
+    text_of_asked (query_refusal (length h.commands) (world h.commands) q)
+    (answer_to (world h.commands) (rows_in h.commands) q)
+
+-- ---- what is held after it
+
+unfoldable pub history_after_request : History → Request → History
+history_after_request h (request.Do key c) = after_decision h (accepted key c) (decided h key c)
+history_after_request h (request.Ask q) = h
+
+-- ---- the steps of it
+
+-- at most those of the month that is asked for, and of those after it
+unfoldable pub bound_of_request : History → Request → ℕ
+bound_of_request h (request.Do key c) = step_bound h.commands key c
+bound_of_request h (request.Ask q) = query_bound (world h.commands) q
+
+-- ---- where it stops
+
+-- the command that was being appended where the disk failed
+abbrev pub pending_of : Request → Result (Unit {0}) Halt → List Accepted
+pending_of r (Ok done) = []
+pending_of r (Err halt.OutOfMemory) = []
+pending_of (request.Do key c) (Err halt.DiskFault) = accepted key c ∷ []
+pending_of (request.Ask q) (Err halt.DiskFault) = []
+
+-- a command is appended to a journal, and a query is not
+abbrev pub IsAppending : Request → Type 0
+IsAppending (request.Do key c) = ⊤
+IsAppending (request.Ask q) = ⊥

@@ -1,0 +1,112 @@
+//! The reply to a request, as text.
+
+ghost use Rattle.std.specs.Prelude.{◌≡◌, ◌≢◌, ◌+◌, ◌≤◌, ◌⊎◌, ◌++◌, Err, OnErr, OnOk, IfErr};
+ghost use Rattle.svc_types.specs.Requests.{IsCommand, IsQuery, IsRequest};
+ghost use Rattle.svc_types.specs.declared.requests.Request.TheVariants as request;
+ghost use Rattle.serv_disk.specs.Faults.{HasRisen};
+ghost use Rattle.serv_machine.specs.Replies.{bound_of_request, history_after_request, pending_of, reply_to_request, IsAppending};
+ghost use Rattle.serv_machine.specs.OnDisk.{OnDisk};
+
+use crate::faults::{ActFault, Halt};
+use crate::machine::Machine;
+use serv_disk::Disk;
+use serv_line::{push_full, push_refusal, push_reply};
+use serv_report::push_answer;
+use std::sync::ledger::Ledger;
+use svc_base::{OutOfMemory, Steps};
+use svc_core::CoreFault;
+use svc_types::{Command, Key, Query, Request};
+
+/// Acts on a request, and appends the text of its reply. Where it halts nothing is appended; for want of
+/// memory a command may then be accepted all the same.
+pub fn answer_request<D: Disk, M: Machine<D>, L: Ledger>(
+    machine: &mut M,
+    disk: &mut D,
+    request: &Request,
+    out: &mut Vec<u8>,
+    steps: &mut Steps<L>,
+) -> Result<(), Halt>
+    requires request { IsRequest request.now }
+    requires ready { M.ready machine.old disk.old }
+    ensures reply { OnOk result
+        (out.new.items ≡ out.old.items ++ reply_to_request (M.history machine.old) request.now) }
+    ensures kept { OnErr result (out.new.items ≡ out.old.items) }
+    ensures history { OnOk result
+        (M.history machine.new ≡ history_after_request (M.history machine.old) request.now) }
+    ensures near { OnErr result ((M.history machine.new ≡ M.history machine.old)
+        ⊎ (M.history machine.new ≡ history_after_request (M.history machine.old) request.now)) }
+    ensures stopped { result ≡ Err Halt.DiskFault → (M.history machine.new ≡ M.history machine.old)
+        × HasRisen (D.faults disk.old) (D.faults disk.new) }
+    ensures appending { result ≡ Err Halt.DiskFault → IsAppending request.now }
+    ensures disk { OnDisk D.images D.moment D.images_since disk.old disk.new
+        (M.history machine.old).commands (M.history machine.new).commands (pending_of request.now result) }
+    ensures ready { result ≢ Err Halt.DiskFault → M.ready machine.new disk.new }
+    ensures faults { D.faults disk.old ≤ D.faults disk.new }
+    ensures steps { steps.new ≤ steps.old + bound_of_request (M.history machine.old) request.now }
+{
+    match request {
+        Request::Do(key, command) => answer_command(machine, disk, key, command, out, steps),
+        Request::Ask(query) => Ok(answer_query(machine, query, out, steps)?),
+    }
+}
+
+/// Acts on a command, and appends its reply.
+#[tactic(auto, unfolding(crate::specs::Replies::reply_to_request, crate::specs::Replies::history_after_request, crate::specs::Replies::bound_of_request))]
+fn answer_command<D: Disk, M: Machine<D>, L: Ledger>(
+    machine: &mut M,
+    disk: &mut D,
+    key: &Key,
+    command: &Command,
+    out: &mut Vec<u8>,
+    steps: &mut Steps<L>,
+) -> Result<(), Halt>
+    requires command { IsCommand command.now }
+    requires ready { M.ready machine.old disk.old }
+    ensures reply { OnOk result (out.new.items
+        ≡ out.old.items ++ reply_to_request (M.history machine.old) (request.Do key.now command.now)) }
+    ensures kept { OnErr result (out.new.items ≡ out.old.items) }
+    ensures history { OnOk result (M.history machine.new
+        ≡ history_after_request (M.history machine.old) (request.Do key.now command.now)) }
+    ensures near { OnErr result ((M.history machine.new ≡ M.history machine.old) ⊎ (M.history machine.new
+        ≡ history_after_request (M.history machine.old) (request.Do key.now command.now))) }
+    ensures stopped { result ≡ Err Halt.DiskFault → (M.history machine.new ≡ M.history machine.old)
+        × HasRisen (D.faults disk.old) (D.faults disk.new) }
+    ensures disk { OnDisk D.images D.moment D.images_since disk.old disk.new
+        (M.history machine.old).commands (M.history machine.new).commands
+        (pending_of (request.Do key.now command.now) result) }
+    ensures ready { result ≢ Err Halt.DiskFault → M.ready machine.new disk.new }
+    ensures faults { D.faults disk.old ≤ D.faults disk.new }
+    ensures steps { steps.new ≤ steps.old
+        + bound_of_request (M.history machine.old) (request.Do key.now command.now) }
+{
+    match machine.act(disk, key, command, steps) {
+        Ok(reply) => Ok(push_reply(out, &reply)?),
+        Err(ActFault::Refused(why)) => Ok(push_refusal(out, &why)?),
+        Err(ActFault::Full(bytes)) => Ok(push_full(out, bytes)?),
+        Err(ActFault::DiskFault) => Err(Halt::DiskFault),
+        Err(ActFault::OutOfMemory) => Err(Halt::OutOfMemory),
+    }
+}
+
+/// Answers a query, and appends the answer.
+#[tactic(auto, unfolding(crate::specs::Replies::reply_to_request, crate::specs::Replies::history_after_request, crate::specs::Replies::bound_of_request))]
+fn answer_query<D: Disk, M: Machine<D>, L: Ledger>(
+    machine: &M,
+    query: &Query,
+    out: &mut Vec<u8>,
+    steps: &mut Steps<L>,
+) -> Result<(), OutOfMemory>
+    requires { IsQuery query.now }
+    ensures reply { OnOk result
+        (out.new.items ≡ out.old.items ++ reply_to_request (M.history machine.now) (request.Ask query.now)) }
+    ensures kept { OnErr result (out.new.items ≡ out.old.items) }
+    ensures history { M.history machine.now ≡ history_after_request (M.history machine.now) (request.Ask query.now) }
+    ensures steps { steps.new ≤ steps.old
+        + bound_of_request (M.history machine.now) (request.Ask query.now) }
+{
+    match machine.answer(query, steps) {
+        Ok(answer) => push_answer(out, &answer),
+        Err(CoreFault::Refused(why)) => push_refusal(out, &why),
+        Err(CoreFault::OutOfMemory) => Err(OutOfMemory),
+    }
+}

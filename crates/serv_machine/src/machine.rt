@@ -1,0 +1,75 @@
+//! The books of a servicer, wherever they are kept.
+
+ghost use Rattle.std.specs.Prelude.{◌≡◌, ◌≢◌, ◌+◌, ◌≤◌, None, Some, Err, length, IfErr, IfOk, OnErr, OnOk};
+ghost use Rattle.svc_types.specs.Requests.{IsCommand, IsQuery};
+ghost use Rattle.svc_world.specs.World.{accepted, world};
+ghost use Rattle.svc_world.specs.Refusals.{query_refusal};
+ghost use Rattle.svc_world.specs.Answers.{answer_to};
+ghost use Rattle.svc_world.specs.Custody.{rows_in};
+ghost use Rattle.svc_core.specs.Bound.{query_bound, step_bound};
+ghost use Rattle.svc_core.specs.Core.{IsQueryFault};
+ghost use Rattle.serv_disk.specs.Disks.{Each};
+ghost use Rattle.serv_report.specs.AnswerTexts.{IsSpellable};
+ghost use Rattle.serv_machine.specs.History.{History, decided, after_decision};
+ghost use Rattle.serv_machine.specs.Replies.{IsReplyBy, IsFaultBy, pending_at};
+ghost use Rattle.serv_machine.specs.OnDisk.{HasHistory, OnDisk};
+
+use crate::faults::ActFault;
+use serv_disk::Disk;
+use std::sync::ledger::Ledger;
+use svc_base::Steps;
+use svc_core::CoreFault;
+use svc_types::{Command, Key, Query, Reply};
+use svc_world::Answer;
+
+/// The books of a servicer: they act on commands, once for each key, and answer queries. The disk that they
+/// are kept on is handed to each call that may use it.
+pub trait Machine<D: Disk> {
+    /// The accepted commands, and where they are kept.
+    ghost history: { Self → History };
+
+    /// The disk has the history, and no call of it has failed.
+    ghost ready: { Self → D → Type 0 };
+
+    /// Acts on a command, and replies to it: with the reply that was kept for its key, or, where it is fresh
+    /// and there is room for it, as the next command of the history. It is on the disk then.
+    fn act<L: Ledger>(
+        &mut self,
+        disk: &mut D,
+        key: &Key,
+        command: &Command,
+        steps: &mut Steps<L>,
+    ) -> Result<Reply, ActFault>
+        requires command { IsCommand command.now }
+        requires ready { ready self.old disk.old }
+        ensures reply { IfOk result (IsReplyBy (history self.old) command.now
+            (decided (history self.old) key.now command.now)) }
+        ensures fault { IfErr result (IsFaultBy (decided (history self.old) key.now command.now)
+            (D.faults disk.old) (D.faults disk.new)) }
+        ensures after { OnOk result (history self.new ≡ after_decision (history self.old)
+            (accepted key.now command.now) (decided (history self.old) key.now command.now)) }
+        ensures kept { OnErr result (history self.new ≡ history self.old) }
+        // What a crash leaves, now and at each moment: after a fault of the disk also the command.
+        ensures disk { OnDisk D.images D.moment D.images_since disk.old disk.new
+            (history self.old).commands (history self.new).commands
+            (pending_at (accepted key.now command.now) result) }
+        ensures ready { result ≢ Err ActFault.DiskFault → ready self.new disk.new }
+        ensures faults { D.faults disk.old ≤ D.faults disk.new }
+        ensures steps { steps.new ≤ steps.old
+            + step_bound (history self.old).commands key.now command.now };
+
+    /// Answers a query.
+    fn answer<L: Ledger>(&self, query: &Query, steps: &mut Steps<L>) -> Result<Answer, CoreFault>
+        requires { IsQuery query.now }
+        ensures asked { OnOk result (query_refusal (length (history self.now).commands)
+            (world (history self.now).commands) query.now ≡ None) }
+        ensures answer { IfOk result (λ a. answer_to (world (history self.now).commands)
+            (rows_in (history self.now).commands) query.now ≡ Some a) }
+        ensures spelled { IfOk result IsSpellable }
+        ensures refused { IfErr result (IsQueryFault (query_refusal (length (history self.now).commands)
+            (world (history self.now).commands) query.now)) }
+        ensures steps { steps.new ≤ steps.old + query_bound (world (history self.now).commands) query.now };
+
+    /// Each image of a disk has the history.
+    ghost keeps: { (m : Self) (d : D) → ready m d → Each (D.images d) (HasHistory (history m).commands) };
+}

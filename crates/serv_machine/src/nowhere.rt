@@ -1,0 +1,50 @@
+//! No disk: what is kept in memory is nowhere else.
+
+use serv_disk::{Disk, Failed};
+
+/// A disk that keeps nothing, tells nothing, and never fails.
+#[derive(Drop)]
+pub struct Nowhere;
+
+impl Disk for Nowhere {
+    ghost use Rattle.std.specs.Prelude.{None};
+    ghost use Rattle.serv_disk.specs.DiskLaws.{untold};
+
+    ghost seen = { λ _. None };
+
+    ghost images = { λ _ _. ⊥ };
+
+    ghost moment = { λ _. 0 };
+
+    ghost images_since = { λ _ _ _. ⊥ };
+
+    ghost faults = { λ _. 0 };
+
+    fn len(&mut self) -> Result<u64, Failed> {
+        Ok(0)
+    }
+
+    fn read(&mut self, _: u64, _: &mut [u8]) -> Result<(), Failed> {
+        Ok(())
+    }
+
+    fn write_at(&mut self, _: u64, _: &[u8]) -> Result<(), Failed> {
+        Ok(())
+    }
+
+    fn cut(&mut self, _: u64) -> Result<(), Failed> {
+        Ok(())
+    }
+
+    fn sync(&mut self) -> Result<(), Failed> {
+        Ok(())
+    }
+
+    ghost counts_now = { λ d t c le image. image };
+
+    ghost only_now = { λ d c since. since };
+
+    ghost reads_image = { λ d s told. untold s told };
+
+    ghost tells = { λ d c image. absurd image };
+}

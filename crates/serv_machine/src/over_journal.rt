@@ -1,0 +1,62 @@
+//! Books over a journal.
+
+ghost use Rattle.std.specs.Prelude.{◌≡◌};
+ghost use Rattle.serv_machine.specs.Engines.{fault_of};
+
+use crate::faults::ActFault;
+use crate::machine::Machine;
+use serv_disk::Disk;
+use serv_engine::{Engine, EngineFault};
+use std::sync::ledger::Ledger;
+use svc_base::Steps;
+use svc_checkpoint::Checked;
+use svc_core::CoreFault;
+use svc_types::{Command, Key, Query, Reply};
+use svc_world::Answer;
+
+/// Why an engine does not accept a command. It is open, so its journal is one and is not damaged.
+fn act_fault(fault: EngineFault) -> ActFault
+    ensures { result ≡ fault_of fault }
+{
+    match fault {
+        EngineFault::Refused(why) => ActFault::Refused(why),
+        EngineFault::JournalFull(bytes) => ActFault::Full(bytes),
+        EngineFault::DiskFault => ActFault::DiskFault,
+        EngineFault::OutOfMemory | EngineFault::NotJournal | EngineFault::Damaged(_) => {
+            ActFault::OutOfMemory
+        }
+    }
+}
+
+impl<D: Disk> Machine<D> for Engine<Checked> {
+    ghost use Rattle.std.specs.Prelude.{◌≡◌, false};
+    ghost use Rattle.serv_journal.specs.declared.format.Version.TheVariants.{Two};
+    ghost use Rattle.serv_engine.specs.Engines.{IsDurable};
+    ghost use Rattle.serv_machine.specs.Engines.{history_of};
+    ghost use Rattle.serv_machine.specs.EngineLaws.{durable_whole};
+
+    ghost history = { history_of };
+
+    ghost ready = { λ e d. (e.journal.spent ≡ false) × (e.journal.version ≡ Two) × IsDurable (D.images d) e };
+
+    fn act<L: Ledger>(
+        &mut self,
+        disk: &mut D,
+        key: &Key,
+        command: &Command,
+        steps: &mut Steps<L>,
+    ) -> Result<Reply, ActFault> {
+        match self.submit(disk, key, command, steps) {
+            Ok(reply) => Ok(reply),
+            Err(fault) => Err(act_fault(fault)),
+        }
+    }
+
+    fn answer<L: Ledger>(&self, query: &Query, steps: &mut Steps<L>) -> Result<Answer, CoreFault> {
+        let core = self.core();
+        core.history_holds();
+        core.ask(query, steps)
+    }
+
+    ghost keeps = { λ e d is. durable_whole (D.images d) e is.2 };
+}

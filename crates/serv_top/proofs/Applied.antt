@@ -1,0 +1,247 @@
+-- A run over a journal: what stands where it was opened, and where it was not.
+use Rattle.std.proofs.Common.{◌≡◌, ◌≢◌, ◌⊎◌, ℕ, ◌+◌, ◌-◌, ◌<◌, ◌≤◌, List, [], ◌∷◌, ◌++◌, length, refl, sym, ap, subst, ◌∙◌, inl, inr, ⊎_elim, arith, append_assoc, length-append}
+use Rattle.std.specs.Prelude.{Option, Some, None, Result, Ok, Err}
+use Rattle.std.specs.Io.KnownBytes.{Appends, Consumes, IsAtEnd}
+use Rattle.svc_types.specs.declared.requests.Request.{Request}
+use Rattle.svc_types.specs.declared.requests.Request.TheVariants as request
+use Rattle.svc_types.specs.declared.replies.Refusal.{Refusal}
+use Rattle.svc_world.specs.World.{Accepted, accepted}
+use Rattle.svc_world.specs.Judging.{IsHistory}
+use Rattle.serv_disk.specs.Disks.{Each}
+use Rattle.serv_disk.specs.Faults.{HasRisen}
+use Rattle.serv_journal.specs.declared.format.Version.{Version}
+use Rattle.serv_journal.specs.declared.format.Version.TheVariants.{One, Two}
+use Rattle.serv_journal.specs.Format.{Form, IsForm, IsLine, AreLines, base, body, header}
+use Rattle.serv_journal.specs.Disks.{IsWholeIn, IsTornIn, IsGood}
+use Rattle.serv_journal.specs.Reading.{IsMark, IsRead, IsNoJournal}
+use Rattle.serv_journal.proofs.UniqueLemmas.{not_header}
+use Rattle.serv_engine.specs.declared.fault.EngineFault.{EngineFault}
+use Rattle.serv_engine.specs.declared.fault.EngineFault.TheVariants as fault
+use Rattle.serv_engine.specs.Histories.{line_of_command, lines_of_history, lengths_of, IsGoodFound}
+use Rattle.serv_engine.specs.Engines.{EngineState, IsDurable}
+use Rattle.serv_engine.specs.Opening.{IsDamagedAt, IsTooLong, IsFound, IsClosed, IsPassing, IsOpenFault, IsOpenCause, history_bound}
+use Rattle.serv_engine.proofs.HistoryLines.{are_lines, command_is_line, lines_push, history_front, history_last}
+use Rattle.serv_engine.proofs.FileLemmas.{read_or_damage, read_or_none}
+use Rattle.serv_engine.proofs.LengthLemmas.{journal_base}
+use Rattle.serv_machine.specs.History.{History, Store, Journal, Decision, Kept, Refused, Full, Fresh, in_journal, after_decision, decided}
+use Rattle.serv_machine.specs.Replies.{history_after_request}
+use Rattle.serv_machine.specs.Engines.{history_of}
+use Rattle.serv_machine.specs.EngineLaws.{durable_whole}
+use Rattle.serv_machine.specs.OnDisk.{HasHistory, OnDisk}
+use Rattle.serv_machine.proofs.EngineLemmas.{long_enough}
+use Rattle.serv_top.specs.declared.status.Status.{Status}
+use Rattle.serv_top.specs.declared.status.Status.TheVariants as status
+use Rattle.serv_top.specs.Machine.{Said, Asks, Faulty, Stand, stand, Stays, IsTried, history_after}
+use Rattle.serv_top.specs.Replies.{MovesAll, IsTriedNext, history_after_all}
+use Rattle.serv_top.specs.Outcome.{Ended, Ends, IsOutput, input_limit}
+use Rattle.serv_top.specs.Stop.{status_of_fault}
+use Rattle.serv_top.specs.Journal.{KeepsGood, IsCause, IsOnly, IsUnopened, IsApplied, journal_limit}
+
+-- ---- where commands are kept stays the same
+
+store_decided : (h : History) (a : Accepted) (d : Decision) → (after_decision h a d).store ≡ h.store
+store_decided h a (Kept reply) = refl
+store_decided h a (Refused why) = refl
+store_decided h a (Full bytes) = refl
+store_decided h a Fresh = refl
+
+store_request : (h : History) (r : Request) → (history_after_request h r).store ≡ h.store
+unfolding history_after_request
+store_request h (request.Do key c) = store_decided h (accepted key c) (decided h key c)
+store_request h (request.Ask q) = refl
+
+store_after : (h : History) (said : Said) → (history_after h said).store ≡ h.store
+store_after h (Asks r) = store_request h r
+store_after h (Faulty place) = refl
+
+store_all : (h : History) (saids : List Said) → (history_after_all h saids).store ≡ h.store
+store_all h [] = refl
+store_all h (said ∷ saids) = store_all (history_after h said) saids ∙ store_after h said
+
+abbrev store_of : History → Store
+store_of h = h.store
+
+store_moves : (saids : List Said) (s s' : Stand) → MovesAll saids s s' → s'.history.store ≡ s.history.store
+store_moves saids s s' moved = ap store_of moved.0 ∙ store_all s.history saids
+
+store_tried : (line : List ℕ) (s s' : Stand) → IsTried line s s' → s'.history.store ≡ s.history.store
+store_tried line s s' tried = ⊎_elim (λ same. ap store_of same) (λ moved. ap store_of moved ∙ store_after s.history tried.said) tried.near
+
+store_next : (lines : List (List ℕ)) (s s' : Stand) → IsTriedNext lines s s' → s'.history.store ≡ s.history.store
+store_next [] s s' is = absurd is
+store_next (line ∷ lines) s s' is = store_tried line s s' is
+
+store_near : (lines : List (List ℕ)) (s s' : Stand) → Stays s s' ⊎ IsTriedNext lines s s' → s'.history.store ≡ s.history.store
+store_near lines s s' near = ⊎_elim (λ same. ap store_of same.0) (λ next. store_next lines s s' next) near
+
+store_ended : (waiting : ℕ) (st : Status) (s s' : Stand) (pending : List Accepted) (taken : List ℕ) (left : Option (List ℕ)) (written : List ℕ) → IsOutput waiting st s s' pending taken left written
+    → s'.history.store ≡ s.history.store
+store_ended waiting status.Done s s' pending taken left written is = store_moves is.3.said s s' is.3.moved
+store_ended waiting status.ReadFault s s' pending taken left written is = store_moves is.2.said s s' is.2.moved
+store_ended waiting status.WriteFault s s' pending taken left written is = ⊎_elim (λ cut. store_moves cut.said s s' cut.moved) (λ cut. store_moves cut.1.said s s' cut.1.moved) is.2
+store_ended waiting status.DiskFault s s' pending taken left written is =
+    ⊎_elim (λ held. ap store_of held.stuck.same ∙ store_moves held.said s held.before held.moved) (λ held. ap store_of held.1.stuck.same ∙ store_moves held.1.said s held.1.before held.1.moved) is.1
+store_ended waiting (status.TooMuch n) s s' pending taken left written is = store_moves is.3.said s s' is.3.moved
+store_ended waiting status.OutOfMemory s s' pending taken left written is =
+    ⊎_elim (λ begun. store_near begun.others begun.before s' begun.after ∙ store_moves begun.said s begun.before begun.moved)
+    (λ begun. store_near begun.1.others begun.1.before s' begun.1.after ∙ store_moves begun.1.said s begun.1.before begun.1.moved) is.2
+store_ended waiting status.Usage s s' pending taken left written is = absurd is
+store_ended waiting status.NotJournal s s' pending taken left written is = absurd is
+store_ended waiting status.AlreadyThere s s' pending taken left written is = absurd is
+store_ended waiting (status.Damaged place) s s' pending taken left written is = absurd is
+store_ended waiting (status.JournalFull bytes) s s' pending taken left written is = absurd is
+
+-- ---- a journal was opened
+
+same_store : (e e' : EngineState) → (history_of e').store ≡ (history_of e).store → history_of e' ≡ in_journal (e.journal.size - lengths_of e.history) e.journal.limit e'.history
+same_store e e' same = let make : Store → History = λ store. record { commands = e'.history; store = store } in ap make same
+
+pub applied : {D : Type 0} (seen : D → Option (List ℕ)) (images : D → List ℕ → Type 0) (moment : D → ℕ) (images_since : D → ℕ → List ℕ → Type 0) (old mid new : D) (st : Status) (e e' : EngineState)
+    (steps begun steps' : ℕ) (left left' held held' : Option (List ℕ)) → IsHistory e.history → ((s : List ℕ) → seen old ≡ Some s → IsFound journal_limit e.journal.size e.history s)
+    → KeepsGood seen images moment images_since old mid
+    → ((s : List ℕ) → seen old ≡ Some s → (h : List Accepted) (a : Accepted) → IsHistory (h ++ a ∷ []) → Each (images old) (IsGoodFound h a) → (e.history ≡ h) ⊎ (e.history ≡ h ++ a ∷ []))
+    → IsDurable (images mid) e → e.journal.version ≡ Two → e.journal.limit ≡ journal_limit → begun ≤ steps + history_bound [] e.history
+    → Ends images moment images_since mid new 0 st (stand (history_of e) begun) (stand (history_of e') steps') left left' held held'
+    → IsApplied seen images moment images_since old new st steps steps' left left' held held'
+applied {D} seen images moment images_since old mid new st e e' steps begun steps' left left' held held' is_history found good either durable version limit cost ends =
+    let b = journal_base (images mid) e durable version in
+    let back : e.journal.size ≡ (e.journal.size - lengths_of e.history) + lengths_of e.history = omega (arith, long_enough e b.0 b.1) in
+    let place : ℕ = e.journal.size - lengths_of e.history in
+    let kept = same_store e e' (store_ended 0 st (stand (history_of e) begun) (stand (history_of e') steps') ends.pending ends.ended.taken left' ends.ended.written ends.ended.says) in
+    let now : Ended 0 st (stand (in_journal place e.journal.limit e.history) begun) (stand (in_journal place e.journal.limit e'.history) steps') ends.pending left left' held held' =
+    subst (λ h. Ended 0 st (stand (in_journal place e.journal.limit e.history) begun) (stand h steps') ends.pending left left' held held') kept ends.ended in
+    record {
+      commands = e.history;
+      base = place;
+      opened = mid;
+      is_history = is_history;
+      found = λ s told. subst (λ n. IsFound journal_limit n e.history s) back (found s told);
+      good = good;
+      either = either;
+      whole = durable_whole (images mid) e durable;
+      begun = begun;
+      opening_steps = cost;
+      after = e'.history;
+      pending = ends.pending;
+      ended = subst (λ n. Ended 0 st (stand (in_journal place n e.history) begun) (stand (in_journal place n e'.history) steps') ends.pending left left' held held') limit now;
+      disk = ends.disk;
+    }
+
+-- ---- none was opened
+
+pub cause_of : (told : Option (List ℕ)) (old new : ℕ) (f : EngineFault) → ((s : List ℕ) → told ≡ Some s → IsOpenFault journal_limit s old new f) → IsOpenCause old new f → IsCause (status_of_fault f) told old new
+cause_of told old new fault.NotJournal is cause = is
+cause_of told old new (fault.Damaged place) is cause = is
+cause_of told old new (fault.JournalFull bytes) is cause = is
+cause_of told old new fault.DiskFault is cause = cause
+cause_of told old new fault.OutOfMemory is cause = tt
+cause_of told old new (fault.Refused why) is cause = absurd cause
+
+pub only_of : (only f : EngineFault) (old new : ℕ) → (f ≡ only) ⊎ IsPassing old new f → IsOnly (status_of_fault only) (status_of_fault f)
+only_of only f old new which =
+    ⊎_elim (λ same. inl (ap status_of_fault same)) (λ passing. inr (⊎_elim (λ memory. inl (ap status_of_fault memory)) (λ disk. inr (ap status_of_fault disk.0)) passing)) which
+
+-- ---- completeness
+
+-- a good disk is read
+whole_read : (form : Form) (lines : List (List ℕ)) (file : List ℕ) → IsForm form → AreLines lines → (w : IsWholeIn form lines file) → IsRead form lines 0 w.tail file
+whole_read form lines file is_form fit w = record {
+  is_form = is_form;
+  fit = fit;
+  closed = λ e. omega (arith, e);
+  unmarked = λ one mark. mark.0 refl;
+  is = w.is ∙ append_assoc (base form lines) (0 ∷ []) w.tail;
+}
+
+torn_unmarked : (version : Version) (number commit : ℕ) (line tail : List ℕ) → IsLine line → version ≡ One → IsMark commit ((body version number line ++ 0 ∷ []) ++ tail) → ⊥
+torn_unmarked One number commit line tail is_line one mark =
+    not_header number line (0 ∷ tail) mark.1.tail is_line (sym (append_assoc (body One number line) (0 ∷ []) tail) ∙ mark.1.is)
+torn_unmarked Two number commit line tail is_line one mark = let no_way : ⊥ = cc in no_way
+
+torn_read : (form : Form) (lines : List (List ℕ)) (line file : List ℕ) → IsForm form → AreLines lines → IsLine line → (t : IsTornIn form lines line file)
+    → IsRead form lines t.commit ((body form.version (length lines + 1) line ++ 0 ∷ []) ++ t.starts.tail) file
+torn_read form lines line file is_form fit is_line t = record {
+  is_form = is_form;
+  fit = fit;
+  closed = t.not_open;
+  unmarked = λ one mark. torn_unmarked form.version (length lines + 1) t.commit line t.starts.tail is_line one mark;
+  is = t.starts.is ∙ append_assoc (base form lines) (t.commit ∷ (body form.version (length lines + 1) line ++ 0 ∷ [])) t.starts.tail;
+}
+
+-- so it is a journal, and is not damaged
+record IsReadAs (file : List ℕ) : Type 0 where
+  form : Form
+  history : List Accepted
+  commit : ℕ
+  rest : List ℕ
+  is_history : IsHistory history
+  read : IsRead form (lines_of_history history) commit rest file
+
+good_read : (h : List Accepted) (a : Accepted) (file : List ℕ) → IsHistory (h ++ a ∷ []) → IsGoodFound h a file → IsReadAs file
+good_read h a file is good =
+    let front = history_front h a is in
+    let last = history_last h a is in
+    ⊎_elim
+    (λ whole. record { form = good.form; history = h; commit = 0; rest = whole.tail; is_history = front; read = whole_read good.form (lines_of_history h) file good.is_form (are_lines h front.formed) whole })
+    (λ more. ⊎_elim
+    (λ torn. record {
+      form = good.form;
+      history = h;
+      commit = torn.commit;
+      rest = (body good.form.version (length (lines_of_history h) + 1) (line_of_command a) ++ 0 ∷ []) ++ torn.starts.tail;
+      is_history = front;
+      read = torn_read good.form (lines_of_history h) (line_of_command a) file good.is_form (are_lines h front.formed) (command_is_line a last.0 last.1) torn;
+    })
+    (λ whole.
+    let both = subst (λ l. IsWholeIn good.form l file) (sym (lines_push h a)) whole in
+    record { form = good.form; history = h ++ a ∷ []; commit = 0; rest = both.tail; is_history = is; read = whole_read good.form (lines_of_history (h ++ a ∷ [])) file good.is_form (are_lines (h ++ a ∷ []) is.formed) both })
+    more)
+    good.good
+
+abbrev Completes : Status → Type 0
+Completes st = (st ≡ status.Done) ⊎ ((st ≡ status.OutOfMemory) ⊎ ((bytes : ℕ) × (st ≡ status.JournalFull bytes)))
+
+unopened_ends : (st : Status) (s : List ℕ) (faults faults' : ℕ) (told : Option (List ℕ)) → told ≡ Some s → IsReadAs s → IsCause st told faults faults' → (HasRisen faults faults' → ⊥) → Completes st
+unopened_ends status.NotJournal s faults faults' told is read cause calm = absurd (read_or_none read.form (lines_of_history read.history) read.commit read.rest s read.read (cause s is))
+unopened_ends (status.Damaged place) s faults faults' told is read cause calm = absurd (read_or_damage read.form read.history read.commit read.rest s place read.is_history read.read (cause s is))
+unopened_ends (status.JournalFull bytes) s faults faults' told is read cause calm = inr (inr (bytes, refl))
+unopened_ends status.DiskFault s faults faults' told is read cause calm = absurd (calm cause)
+unopened_ends status.OutOfMemory s faults faults' told is read cause calm = inr (inl refl)
+unopened_ends status.Done s faults faults' told is read cause calm = absurd cause
+unopened_ends status.Usage s faults faults' told is read cause calm = absurd cause
+unopened_ends status.ReadFault s faults faults' told is read cause calm = absurd cause
+unopened_ends status.WriteFault s faults faults' told is read cause calm = absurd cause
+unopened_ends status.AlreadyThere s faults faults' told is read cause calm = absurd cause
+unopened_ends (status.TooMuch bytes) s faults faults' told is read cause calm = absurd cause
+
+few_taken : (left left' : Option (List ℕ)) (input taken : List ℕ) → left ≡ Some input → Consumes left left' taken → length taken ≤ length input
+few_taken None left' input taken is took = absurd (cc)
+few_taken (Some xs) None input taken is took = absurd took
+few_taken (Some xs) (Some ys) input taken is took =
+    let same : xs ≡ input = cc in
+    omega (arith, ap length (sym same ∙ took), length-append taken ys)
+
+applied_ends : (waiting : ℕ) (st : Status) (s s' : Stand) (pending : List Accepted) (left left' held held' : Option (List ℕ)) (input : List ℕ) → left ≡ Some input → length input < input_limit
+    → (st ≡ status.ReadFault → ⊥) → (st ≡ status.WriteFault → ⊥) → (st ≡ status.DiskFault → ⊥) → Ended waiting st s s' pending left left' held held' → Completes st
+applied_ends waiting status.Done s s' pending left left' held held' input is short reads writes disks e = inl refl
+applied_ends waiting status.ReadFault s s' pending left left' held held' input is short reads writes disks e = absurd (reads refl)
+applied_ends waiting status.WriteFault s s' pending left left' held held' input is short reads writes disks e = absurd (writes refl)
+applied_ends waiting status.DiskFault s s' pending left left' held held' input is short reads writes disks e = absurd (disks refl)
+applied_ends waiting (status.TooMuch n) s s' pending left left' held held' input is short reads writes disks e =
+    absurd (omega (arith, few_taken left left' input e.taken is e.took, short, e.says.1, e.says.2))
+applied_ends waiting status.OutOfMemory s s' pending left left' held held' input is short reads writes disks e = inr (inl refl)
+applied_ends waiting status.Usage s s' pending left left' held held' input is short reads writes disks e = absurd e.says
+applied_ends waiting status.NotJournal s s' pending left left' held held' input is short reads writes disks e = absurd e.says
+applied_ends waiting status.AlreadyThere s s' pending left left' held held' input is short reads writes disks e = absurd e.says
+applied_ends waiting (status.Damaged place) s s' pending left left' held held' input is short reads writes disks e = absurd e.says
+applied_ends waiting (status.JournalFull bytes) s s' pending left left' held held' input is short reads writes disks e = absurd e.says
+
+pub complete_run : {D A B : Type 0} (seen : D → Option (List ℕ)) (images : D → List ℕ → Type 0) (moment : D → ℕ) (images_since : D → ℕ → List ℕ → Type 0) (faults : D → ℕ) (old new : D) (st : Status) (steps steps' : ℕ)
+    (left left' held held' : Option (List ℕ)) (input s : List ℕ) (h : List Accepted) (a : Accepted) → left ≡ Some input → length input < input_limit → seen old ≡ Some s → IsHistory (h ++ a ∷ [])
+    → IsGoodFound h a s → (st ≡ status.ReadFault → ⊥) → (st ≡ status.WriteFault → ⊥) → (st ≡ status.DiskFault → ⊥) → (HasRisen (faults old) (faults new) → ⊥)
+    → (IsUnopened seen images moment images_since faults old new st steps steps' × A × B) ⊎ IsApplied seen images moment images_since old new st steps steps' left left' held held' → Completes st
+complete_run {D} seen images moment images_since faults old new st steps steps' left left' held held' input s h a is short told is_history good reads writes disks calm which =
+    ⊎_elim
+    (λ closed. unopened_ends st s (faults old) (faults new) (seen old) told (good_read h a s is_history good) closed.0.cause calm)
+    (λ open_. applied_ends 0 st _ _ open_.pending left left' held held' input is short reads writes disks open_.ended)
+    which

@@ -1,0 +1,68 @@
+use Rattle.std.proofs.Common.{◌≡◌, ◌+◌, ◌<◌, ◌≤◌, length, take, refl, arith}
+use Rattle.serv_machine.proofs.OnDiskLemmas.{disk_none, disk_more}
+use Rattle.serv_top.specs.Outcome.{input_limit}
+use Rattle.serv_top.proofs.Running.{running_none, running_more, ends_at_bytes, ends_done, ends_at_end}
+use Rattle.serv_top.proofs.stream.serve.Goals as goal
+
+pub loop-taken-init : goal.loop-taken-init
+loop-taken-init g c = record {
+  running = running_none _ _ _ _ _ _ _ c.new-serving.ensures.line c.new-serving.ensures.replies refl (omega arith);
+  disk = disk_none g.D.Disk.images g.D.Disk.moment g.D.Disk.images_since c.args.disk.now _ _ refl
+      (g.met.M.Machine.keeps c.args.machine.now c.args.disk.now c.requires) (g.met.D.Disk.only_now c.args.disk.now);
+  ready = c.requires;
+  waiting = c.new-serving.ensures.waiting;
+  empty = c.new-serving.ensures.replies;
+  within = omega arith;
+  read_later = omega arith;
+  write_later = omega arith;
+  disk_later = omega arith;
+}
+
+pub returns-in-Ok-finish-clause-ends : goal.returns-in-Ok-finish-clause-ends
+returns-in-Ok-finish-clause-ends g c =
+    let run = c.loop-taken.invariant.running in
+    let below : c.loop-taken.taken < input_limit = c.loop-taken-test.true in
+    let none : c.in-Ok-eq0.field-0 ≡ 0 = omega (arith, c.in-Ok-eq0.field-0-test) in
+    let served = rw c.loop-taken.invariant.waiting at c.in-Ok-finish.ensures.served in
+    ends_done g.D.Disk.images g.D.Disk.moment g.D.Disk.images_since c.args.disk.now c.loop-taken.disk c.finish.new.disk _ _ _ _ _ _ _ _ _ _ _ _ _ run below
+    (rw none at c.in-Ok-eq0.ensures.taken) (c.in-Ok-eq0.ensures.end none) c.loop-taken.invariant.disk c.in-Ok-finish.ensures.disk (served run.taken _ _ run.served)
+
+pub returns-in-Err-finish-clause-ends : goal.returns-in-Err-finish-clause-ends
+returns-in-Err-finish-clause-ends g c =
+    let run = c.loop-taken.invariant.running in
+    let below : c.loop-taken.taken < input_limit = c.loop-taken-test.true in
+    let none : c.in-Ok-eq0.field-0 ≡ 0 = omega (arith, c.in-Ok-eq0.field-0-test) in
+    let stopped = rw c.loop-taken.invariant.waiting at c.in-Err-finish.ensures.stopped in
+    rw c.status.ensures
+    (ends_at_end g.D.Disk.images g.D.Disk.moment g.D.Disk.images_since c.args.disk.now c.loop-taken.disk c.finish.new.disk _ _ _ _ _ _ _ _ _ _ _ _ _ run below
+    (rw none at c.in-Ok-eq0.ensures.taken) (c.in-Ok-eq0.ensures.end none) c.loop-taken.invariant.disk c.in-Err-finish.stop (stopped run.taken _ _ run.served))
+
+pub returns-in-Err-feed_all-clause-ends : goal.returns-in-Err-feed_all-clause-ends
+returns-in-Err-feed_all-clause-ends g c =
+    let run = c.loop-taken.invariant.running in
+    let n = c.in-Ok.n in
+    let within : c.loop-taken.taken + n ≤ input_limit = omega (arith, c.loop-taken-test.true, c.in-Ok.ensures.bound, c.min-most.ensures) in
+    let long : length (take n c.read_some.new.room) ≡ n = c.in-Ok.ensures.count in
+    let stopped = rw c.loop-taken.invariant.waiting at c.in-Err-feed_all.ensures.stopped in
+    rw c.status-in-Err-feed_all.ensures
+    (ends_at_bytes g.D.Disk.images g.D.Disk.moment g.D.Disk.images_since c.args.disk.now c.loop-taken.disk c.feed_all.new.disk _ _ _ _ _ _ _ _ _ _ _ _ _ run
+    (take n c.read_some.new.room) n long within c.in-Ok.ensures.taken c.loop-taken.invariant.disk c.in-Err-feed_all.stop (stopped run.taken _ _ run.served))
+
+pub loop-taken-preserved : goal.loop-taken-preserved
+loop-taken-preserved g c =
+    let run = c.loop-taken.invariant.running in
+    let n = c.in-Ok.n in
+    let within : c.loop-taken.taken + n ≤ input_limit = omega (arith, c.loop-taken-test.true, c.in-Ok.ensures.bound, c.min-most.ensures) in
+    let long : length (take n c.read_some.new.room) ≡ n = c.in-Ok.ensures.count in
+    let fed = rw c.loop-taken.invariant.waiting at c.in-Ok-feed_all.ensures.fed in
+    record {
+      running = running_more run (take n c.read_some.new.room) n _ _ _ _ _ long c.in-Ok.ensures.taken (fed run.taken _ _ run.served);
+      disk = disk_more g.D.Disk.images g.D.Disk.moment g.D.Disk.images_since _ _ _ _ _ _ _ c.loop-taken.invariant.disk c.in-Ok-feed_all.ensures.disk;
+      ready = c.in-Ok-feed_all.ensures.ready;
+      waiting = rw c.feed_all.ensures.waiting c.loop-taken.invariant.waiting;
+      empty = c.in-Ok-feed_all.ensures.empty;
+      within = within;
+      read_later = omega (arith, c.loop-taken.invariant.read_later, c.read_some.ensures.cause.later);
+      write_later = omega (arith, c.loop-taken.invariant.write_later, c.feed_all.ensures.later);
+      disk_later = omega (arith, c.loop-taken.invariant.disk_later, c.feed_all.ensures.disk_later);
+    }

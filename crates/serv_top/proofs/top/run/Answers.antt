@@ -1,0 +1,14 @@
+use Rattle.serv_top.proofs.Applied.{complete_run}
+use Rattle.serv_top.proofs.top.run.Goals as goal
+
+pub returns-in-Some-Apply-clause-damaged : goal.returns-in-Some-Apply-clause-damaged
+returns-in-Some-Apply-clause-damaged g c = λ s place told is task. c.apply.ensures.damaged s place told is
+
+pub returns-in-Some-Apply-clause-full : goal.returns-in-Some-Apply-clause-full
+returns-in-Some-Apply-clause-full g c = λ s bytes told is task. c.apply.ensures.full s bytes told is
+
+pub returns-in-Some-Apply-clause-complete_apply : goal.returns-in-Some-Apply-clause-complete_apply
+returns-in-Some-Apply-clause-complete_apply g c = λ input s h a left short told is_history good reads writes disks task.
+    complete_run g.D.Disk.seen g.D.Disk.images g.D.Disk.moment g.D.Disk.images_since g.D.Disk.faults c.args.disk.now c.apply.new.disk c.apply.result c.args.steps.now c.apply.new.steps
+    _ _ _ _ input s h a left short told is_history (good s (g.met.D.Disk.reads_image c.args.disk.now s told)) (λ is. reads (c.apply.ensures.read is)) (λ is. writes (c.apply.ensures.write is))
+    (λ is. disks (c.apply.ensures.disk is)) disks c.apply.ensures.applied

@@ -1,0 +1,86 @@
+//! A journal that is made, and lines that are answered over one.
+
+ghost use Rattle.std.specs.Prelude.{◌≡◌, ◌≢◌, ◌⊎◌, ℕ, ◌<◌, ◌≤◌, List, length, Some};
+ghost use Rattle.serv_disk.specs.Disks.{Each, LeavesOnly};
+ghost use Rattle.serv_disk.specs.Faults.{HasRisen};
+ghost use Rattle.serv_journal.specs.Reading.{IsNoJournal};
+ghost use Rattle.serv_engine.specs.Opening.{IsDamagedAt, IsTooLong};
+ghost use Rattle.serv_top.specs.Stop.{status_of_fault};
+ghost use Rattle.serv_top.specs.Journal.{IsInit, IsOnly, IsUnopened, IsApplied, journal_limit};
+
+use crate::status::Status;
+use crate::stream::serve;
+use serv_disk::{Disk, Sink, Source};
+use serv_engine::{Engine, EngineFault};
+use serv_journal::{JournalFault, init};
+use std::alloc::Global;
+use std::sync::ledger::Ledger;
+use svc_base::Steps;
+use svc_checkpoint::Checked;
+
+/// The limit on a journal that is opened: 268,435,456 bytes.
+const JOURNAL_LIMIT: u64 = 1 << 28;
+
+/// Makes an empty journal. It takes no memory.
+pub(crate) fn make_journal<D: Disk>(disk: &mut D) -> Status
+    ensures made { IsInit result (D.seen disk.old) (D.seen disk.new) (D.images disk.new)
+        (D.faults disk.old) (D.faults disk.new) }
+    // At each moment a file of at most 9 bytes has at most 9 bytes.
+    ensures moments { Each (D.images disk.old) (λ c. length c ≤ 9)
+        → LeavesOnly D.moment D.images_since disk.old disk.new (λ c. length c ≤ 9) }
+    ensures longer { (s : List ℕ) → D.seen disk.old ≡ Some s → 9 < length s
+        → (result ≡ Status.AlreadyThere) ⊎ (result ≡ Status.DiskFault) }
+    ensures faults { D.faults disk.old ≤ D.faults disk.new }
+{
+    match init(disk) {
+        Ok(()) => Status::Done,
+        Err(JournalFault::AlreadyThere) => Status::AlreadyThere,
+        Err(_) => Status::DiskFault,
+    }
+}
+
+/// The status of a run that opened no journal.
+fn unopened(fault: EngineFault) -> Status
+    ensures { result ≡ status_of_fault fault }
+{
+    match fault {
+        EngineFault::NotJournal => Status::NotJournal,
+        EngineFault::Damaged(place) => Status::Damaged(place),
+        EngineFault::DiskFault => Status::DiskFault,
+        EngineFault::JournalFull(bytes) => Status::JournalFull(bytes),
+        EngineFault::OutOfMemory | EngineFault::Refused(_) => Status::OutOfMemory,
+    }
+}
+
+/// Opens the journal of the disk, and answers lines to the end of the source over it. Each reply is written
+/// before the next line is acted on.
+pub(crate) fn apply<S: Source, K: Sink, D: Disk, L: Ledger>(
+    alloc: Global,
+    src: &mut S,
+    snk: &mut K,
+    disk: &mut D,
+    steps: &mut Steps<L>,
+) -> Status
+    ensures applied { (IsUnopened D.seen D.images D.moment D.images_since D.faults disk.old disk.new result
+        steps.old steps.new × (src.new ≡ src.old) × (snk.new ≡ snk.old))
+        ⊎ IsApplied D.seen D.images D.moment D.images_since disk.old disk.new result steps.old steps.new
+        (S.left src.old) (S.left src.new) (K.held snk.old) (K.held snk.new) }
+    // The faults of the file come exactly by their causes.
+    ensures not_journal { (s : List ℕ) → D.seen disk.old ≡ Some s → IsNoJournal s
+        → IsOnly Status.NotJournal result }
+    ensures damaged { (s : List ℕ) (place : ℕ) → D.seen disk.old ≡ Some s → IsDamagedAt place s
+        → IsOnly (Status.Damaged place) result }
+    ensures full { (s : List ℕ) (bytes : ℕ) → D.seen disk.old ≡ Some s → IsTooLong journal_limit bytes s
+        → IsOnly (Status.JournalFull bytes) result }
+    ensures read { result ≡ Status.ReadFault → HasRisen (S.faults src.old) (S.faults src.new) }
+    ensures write { result ≡ Status.WriteFault → HasRisen (K.faults snk.old) (K.faults snk.new) }
+    ensures disk { result ≡ Status.DiskFault → HasRisen (D.faults disk.old) (D.faults disk.new) }
+    ensures read_later { S.faults src.old ≤ S.faults src.new }
+    ensures write_later { K.faults snk.old ≤ K.faults snk.new }
+    ensures disk_later { D.faults disk.old ≤ D.faults disk.new }
+{
+    match Engine::<Checked>::open(alloc, disk, JOURNAL_LIMIT, steps) {
+        Ok(mut engine) => serve(alloc, 0, &mut engine, disk, src, snk, steps),
+        Err(fault) => unopened(fault),
+    }
+}

@@ -1,0 +1,62 @@
+//! A stream of lines, answered to its end.
+
+ghost use Rattle.std.specs.Prelude.{◌≡◌, ◌≤◌};
+ghost use Rattle.serv_disk.specs.Faults.{HasRisen};
+ghost use Rattle.serv_top.specs.Machine.{stand};
+ghost use Rattle.serv_top.specs.Outcome.{Ends};
+
+use crate::serving::Serving;
+use crate::status::Status;
+use serv_disk::{Disk, Sink, Source, read_some};
+use serv_machine::Machine;
+use std::alloc::Global;
+use std::sync::ledger::Ledger;
+use svc_base::Steps;
+
+/// A run that has taken this many bytes takes no more: 67,108,864.
+pub const INPUT_LIMIT: u64 = 1 << 26;
+
+/// How many bytes are asked for at a time.
+const ROOM: usize = 1 << 16;
+
+/// Answers lines to the end of the source, by the machine. After a line at most `waiting` bytes of replies
+/// are not written yet, and none before the source is read again.
+pub(crate) fn serve<D: Disk, M: Machine<D>, S: Source, K: Sink, L: Ledger>(
+    alloc: Global,
+    waiting: usize,
+    machine: &mut M,
+    disk: &mut D,
+    src: &mut S,
+    snk: &mut K,
+    steps: &mut Steps<L>,
+) -> Status
+    requires { M.ready machine.old disk.old }
+    ensures ends { Ends D.images D.moment D.images_since disk.old disk.new waiting result
+        (stand (M.history machine.old) steps.old) (stand (M.history machine.new) steps.new)
+        (S.left src.old) (S.left src.new) (K.held snk.old) (K.held snk.new) }
+    ensures read { result ≡ Status.ReadFault → HasRisen (S.faults src.old) (S.faults src.new) }
+    ensures write { result ≡ Status.WriteFault → HasRisen (K.faults snk.old) (K.faults snk.new) }
+    ensures disk { result ≡ Status.DiskFault → HasRisen (D.faults disk.old) (D.faults disk.new) }
+    ensures read_later { S.faults src.old ≤ S.faults src.new }
+    ensures write_later { K.faults snk.old ≤ K.faults snk.new }
+    ensures disk_later { D.faults disk.old ≤ D.faults disk.new }
+{
+    let mut serving = Serving::new(alloc, waiting);
+    let mut room = [0; ROOM];
+    let mut taken = 0;
+    while taken < INPUT_LIMIT {
+        let most = (INPUT_LIMIT - taken).min(ROOM as u64) as usize;
+        match read_some(src, &mut room, most) {
+            Ok(0) => match serving.finish(machine, disk, snk, steps) {
+                Ok(()) => return Status::Done,
+                Err(stop) => return stop.status(),
+            },
+            Ok(n) => match serving.feed_all(&room[..n], machine, disk, snk, steps) {
+                Ok(()) => taken += n as u64,
+                Err(stop) => return stop.status(),
+            },
+            Err(_) => return Status::ReadFault,
+        }
+    }
+    Status::TooMuch(taken)
+}

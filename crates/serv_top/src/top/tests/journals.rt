@@ -1,0 +1,135 @@
+//! Journals that are made, opened, refused, and come to again.
+
+use super::{APPLY, Case, Given, LINE, NEW_JOURNAL, SESSION, check_cases, run_given};
+use crate::Status;
+use std::alloc::{AllocError, Global};
+use std::test::Fail;
+
+/// The journal of the line `k1 day 2024-02-01`, 33 bytes.
+pub(super) const ONE_LINE: &[u8] = b"MSRVJ002\x01\x00\x00\x00\x01\x00\x11k1 day 2024-02-01\x00";
+
+/// The same in version 1, 29 bytes.
+const OLD_LINE: &[u8] = b"MSRVJ001\x01\x00\x11k1 day 2024-02-01\x00";
+
+/// Makes a journal.
+const INIT: Given<'static> = Given {
+    word: "init",
+    ..SESSION
+};
+
+/// The content with one byte in place of another.
+fn changed(alloc: Global, content: &[u8], at: usize, value: u8) -> Result<Vec<u8>, AllocError> {
+    let mut bytes = content.to_vec(alloc)?;
+    if let Some(byte) = bytes.get_mut(at) {
+        *byte = value;
+    }
+    Ok(bytes)
+}
+
+#[test]
+fn a_journal_is_made_of_nine_bytes_at_most(rt: HostRuntime) -> Result<(), Fail> {
+    for bytes in 0..33 {
+        let journal = &ONE_LINE[..bytes];
+        let end = run_given(rt.alloc(), &Given { journal, ..INIT })?;
+        let (status, left) = if bytes > 9 {
+            (Status::AlreadyThere, journal)
+        } else {
+            (Status::Done, NEW_JOURNAL)
+        };
+        assert_eq!(rt; end.status, status, "{bytes} bytes");
+        assert_eq!(rt; end.journal.as_slice(), left, "{bytes} bytes");
+    }
+    Ok(())
+}
+
+#[test]
+fn each_cut_of_a_journal_has_its_status(rt: HostRuntime) -> Result<(), Fail> {
+    for bytes in 0..34 {
+        let journal = &ONE_LINE[..bytes];
+        let end = run_given(rt.alloc(), &Given { journal, ..APPLY })?;
+        let status = match bytes {
+            0..=7 => Status::NotJournal,
+            8..=31 => Status::Damaged(8),
+            32 => Status::Damaged(32),
+            _ => Status::Done,
+        };
+        assert_eq!(rt; end.status, status, "{bytes} bytes");
+        assert_eq!(rt; end.journal.as_slice(), journal, "{bytes} bytes");
+    }
+    Ok(())
+}
+
+#[test]
+fn a_closed_commit_byte_is_made_0(rt: HostRuntime) -> Result<(), Fail> {
+    let alloc = rt.alloc();
+    let closed = changed(alloc, ONE_LINE, 8, 0)?;
+    for value in [0, 7] {
+        let journal = changed(alloc, ONE_LINE, 8, value)?;
+        let given = Given {
+            journal: &journal,
+            ..APPLY
+        };
+        let end = run_given(alloc, &given)?;
+        assert_eq!(rt; end.status, Status::Done);
+        assert_eq!(rt; end.journal.as_slice(), closed.as_slice());
+    }
+    Ok(())
+}
+
+#[test]
+fn a_line_is_in_the_journal_and_acts_once(rt: HostRuntime) -> Result<(), Fail> {
+    let alloc = rt.alloc();
+    let given = Given {
+        input: LINE,
+        ..APPLY
+    };
+    // The sink fails: there is no reply, and the journal has the command.
+    let unheard = Given {
+        writes: &[1],
+        ..given
+    };
+    let end = run_given(alloc, &unheard)?;
+    assert_eq!(rt; end.status, Status::WriteFault);
+    assert_eq!(rt; end.output.len(), 0);
+    assert_eq!(rt; end.journal.as_slice(), ONE_LINE);
+    // It is sent again, over either version.
+    let mut old = changed(alloc, OLD_LINE, 28, 2)?;
+    old.extend_from_slice(ONE_LINE)?;
+    for (journal, left) in [(ONE_LINE, ONE_LINE), (OLD_LINE, old.as_slice())] {
+        let end = run_given(alloc, &Given { journal, ..given })?;
+        assert_eq!(rt; end.status, Status::Done);
+        assert_eq!(rt; end.output.as_slice(), b"ok 1\n".as_slice());
+        assert_eq!(rt; end.journal.as_slice(), left);
+    }
+    Ok(())
+}
+
+#[test]
+fn a_disk_that_fails_ends_the_run(rt: HostRuntime) -> Result<(), Fail> {
+    for call in 1..12 {
+        let calls = &[call];
+        let given = Given {
+            input: LINE,
+            calls,
+            ..APPLY
+        };
+        let end = run_given(rt.alloc(), &given)?;
+        let (status, output): (Status, &[u8]) = match end.status {
+            Status::Done => (Status::Done, b"ok 1\n"),
+            _ => (Status::DiskFault, b""),
+        };
+        assert_eq!(rt; end.status, status, "call {call}");
+        assert_eq!(rt; end.output.as_slice(), output, "call {call}");
+    }
+    let first = Case {
+        given: Given {
+            input: LINE,
+            calls: &[1],
+            ..APPLY
+        },
+        status: Status::DiskFault,
+        output: b"",
+        left: LINE,
+    };
+    check_cases(&rt, &[first])
+}

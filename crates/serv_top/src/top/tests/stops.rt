@@ -1,0 +1,156 @@
+//! A disk that stops after each of its calls, and one of whose calls fails, each in turn.
+
+ghost use Rattle.std.specs.Prelude.{◌≡◌, ◌<◌};
+
+use super::{Exchange, NEW_JOURNAL, run};
+use crate::Status;
+use crate::top::tests::tables::{CLOSED, FIRST_PAYMENT, TAKEN_ON};
+use serv_disk::{MemDisk, MemSink, MemSource, Torn};
+use std::alloc::Global;
+use std::marker::Brand;
+use std::process::Abort;
+use std::sync::ledger::{Blank, Ledger};
+use std::test::Fail;
+use svc_base::Steps;
+
+/// The twelve commands, and the replies to them.
+#[derive(Drop)]
+struct Course {
+    input: Vec<u8>,
+    replies: Vec<u8>,
+}
+
+impl Course {
+    fn new(alloc: Global) -> Result<Course, Fail> {
+        let mut course = Course {
+            input: Vec::new(alloc),
+            replies: Vec::new(alloc),
+        };
+        for table in [&TAKEN_ON[..], &FIRST_PAYMENT, &CLOSED] {
+            course.add(table)?;
+        }
+        Ok(course)
+    }
+
+    fn add(&mut self, table: &[Exchange]) -> Result<(), Fail> {
+        for (line, reply) in table {
+            self.input.extend_from_slice(line.as_bytes())?;
+            self.input.push(b'\n')?;
+            self.replies.extend_from_slice(reply.as_bytes())?;
+            self.replies.push(b'\n')?;
+        }
+        Ok(())
+    }
+}
+
+/// Applies the lines, and gives the status and what was written.
+fn apply_over<L: Ledger>(
+    alloc: Global,
+    blank: Blank,
+    input: &[u8],
+    disk: &mut MemDisk,
+) -> Result<(Status, Vec<u8>), Fail>
+    requires name { blank.name ≡ L.name }
+    requires parts { blank.parts ≡ L.parts }
+    requires some { 0 < L.parts }
+{
+    let mut src = MemSource::new(input.to_vec(alloc)?, Vec::new(alloc));
+    let mut snk = MemSink::new(Vec::new(alloc), Vec::new(alloc));
+    snk.reserve(64, 4096)?;
+    disk.reserve(256, 8192)?;
+    let mut steps = Steps::<L>::new(blank);
+    let status = run(alloc, &["j", "apply"], &mut src, &mut snk, disk, &mut steps);
+    Ok((status, Vec::from_slice(alloc, snk.content())?))
+}
+
+fn apply(alloc: Global, input: &[u8], disk: &mut MemDisk) -> Result<(Status, Vec<u8>), Fail> {
+    apply_over::<Brand>(alloc, Blank::new(1), input, disk)
+}
+
+/// The lines applied to a disk give all replies, and the bytes of a run that nothing disturbs.
+fn ends_well(
+    rt: &(impl Abort + AllocGlobal),
+    course: &Course,
+    disk: &mut MemDisk,
+    content: &[u8],
+    case: u32,
+) -> Result<(), Fail> {
+    let (status, output) = apply(rt.alloc(), &course.input, disk)?;
+    assert_eq!(rt; status, Status::Done, "case {case}");
+    assert_eq!(rt; output.as_slice(), course.replies.as_slice(), "case {case}");
+    assert_eq!(rt; &disk.content()[..content.len()], content, "case {case}");
+    Ok(())
+}
+
+/// A disk with a journal without a command.
+fn new_disk(alloc: Global, fails: &[u32]) -> Result<MemDisk, Fail> {
+    Ok(MemDisk::new(NEW_JOURNAL.to_vec(alloc)?, fails.to_vec(alloc)?)?)
+}
+
+/// What the disk holds after the course.
+fn content_after(alloc: Global, course: &Course) -> Result<Vec<u8>, Fail> {
+    let mut disk = new_disk(alloc, &[])?;
+    let _ = apply(alloc, &course.input, &mut disk)?;
+    Ok(Vec::from_slice(alloc, disk.content())?)
+}
+
+/// Stops after so many calls, crashes so, and applies all lines again. Gives whether a call was refused.
+fn stopped_after(
+    rt: &(impl Abort + AllocGlobal),
+    course: &Course,
+    content: &[u8],
+    calls: u32,
+    torn: Torn,
+    longer: bool,
+) -> Result<bool, Fail> {
+    let mut disk = new_disk(rt.alloc(), &[])?;
+    disk.stop_after(calls);
+    let (status, output) = apply(rt.alloc(), &course.input, &mut disk)?;
+    assert!(rt; course.replies.starts_with(&output), "after {calls}");
+    let refused = status != Status::Done;
+    if refused {
+        assert_eq!(rt; status, Status::DiskFault, "after {calls}");
+    }
+    let mut left = disk.crash(torn, longer)?;
+    ends_well(rt, course, &mut left, content, calls)?;
+    Ok(refused)
+}
+
+#[test]
+fn a_stop_after_any_call_keeps_what_was_answered(rt: HostRuntime) -> Result<(), Fail> {
+    let alloc = rt.alloc();
+    let course = Course::new(alloc)?;
+    let content = content_after(alloc, &course)?;
+    for torn in [Torn::Old, Torn::New, Torn::Zero, Torn::Ones] {
+        for longer in [false, true] {
+            let mut calls = 0;
+            while calls < 100 && stopped_after(&rt, &course, &content, calls, torn, longer)? {
+                calls += 1;
+            }
+            assert!(rt; calls > 48 && calls < 100, "calls {calls}");
+        }
+    }
+    Ok(())
+}
+
+#[test]
+fn any_call_that_fails_ends_the_run_with_the_replies_before_it(
+    rt: HostRuntime,
+) -> Result<(), Fail> {
+    let alloc = rt.alloc();
+    let course = Course::new(alloc)?;
+    let content = content_after(alloc, &course)?;
+    let mut failed = 0;
+    for call in 1..100 {
+        let mut disk = new_disk(alloc, &[call])?;
+        let (status, output) = apply(alloc, &course.input, &mut disk)?;
+        assert!(rt; course.replies.starts_with(&output), "call {call}");
+        if status == Status::DiskFault {
+            failed = call;
+        }
+        let mut left = disk.crash(Torn::New, false)?;
+        ends_well(&rt, &course, &mut left, &content, call)?;
+    }
+    assert!(rt; failed > 48 && failed < 99, "the last call {failed}");
+    Ok(())
+}
