@@ -8,3 +8,4 @@ pub mod OpenLemmas
 pub mod LengthLemmas
 pub mod UpgradedLemmas
 pub mod SubmitLemmas
+pub mod GoodLemmas

@@ -9,19 +9,13 @@ use Rattle.svc_world.specs.World.{Accepted, accepted}
 use Rattle.svc_world.specs.Judging.{IsHistory}
 use Rattle.serv_disk.specs.Disks.{Each}
 use Rattle.serv_disk.specs.Faults.{HasRisen}
-use Rattle.serv_journal.specs.declared.format.Version.{Version}
-use Rattle.serv_journal.specs.declared.format.Version.TheVariants.{One, Two}
-use Rattle.serv_journal.specs.Format.{Form, IsForm, IsLine, AreLines, base, body, header}
-use Rattle.serv_journal.specs.Disks.{IsWholeIn, IsTornIn, IsGood}
-use Rattle.serv_journal.specs.Reading.{IsMark, IsRead, IsNoJournal}
-use Rattle.serv_journal.proofs.UniqueLemmas.{not_header}
+use Rattle.serv_journal.specs.declared.format.Version.TheVariants.{Two}
 use Rattle.serv_engine.specs.declared.fault.EngineFault.{EngineFault}
 use Rattle.serv_engine.specs.declared.fault.EngineFault.TheVariants as fault
 use Rattle.serv_engine.specs.Histories.{line_of_command, lines_of_history, lengths_of, IsGoodFound}
 use Rattle.serv_engine.specs.Engines.{EngineState, IsDurable}
 use Rattle.serv_engine.specs.Opening.{IsDamagedAt, IsTooLong, IsFound, IsClosed, IsPassing, IsOpenFault, IsOpenCause, history_bound}
-use Rattle.serv_engine.proofs.HistoryLines.{are_lines, command_is_line, lines_push, history_front, history_last}
-use Rattle.serv_engine.proofs.FileLemmas.{read_or_damage, read_or_none}
+use Rattle.serv_engine.proofs.GoodLemmas.{good_journal, good_undamaged}
 use Rattle.serv_engine.proofs.LengthLemmas.{journal_base}
 use Rattle.serv_machine.specs.History.{History, Store, Journal, Decision, Kept, Refused, Full, Fresh, in_journal, after_decision, decided}
 use Rattle.serv_machine.specs.Replies.{history_after_request}
@@ -143,76 +137,21 @@ only_of only f old new which =
 
 -- ---- completeness
 
--- a good disk is read
-whole_read : (form : Form) (lines : List (List ℕ)) (file : List ℕ) → IsForm form → AreLines lines → (w : IsWholeIn form lines file) → IsRead form lines 0 w.tail file
-whole_read form lines file is_form fit w = record {
-  is_form = is_form;
-  fit = fit;
-  closed = λ e. omega (arith, e);
-  unmarked = λ one mark. mark.0 refl;
-  is = w.is ∙ append_assoc (base form lines) (0 ∷ []) w.tail;
-}
-
-torn_unmarked : (version : Version) (number commit : ℕ) (line tail : List ℕ) → IsLine line → version ≡ One → IsMark commit ((body version number line ++ 0 ∷ []) ++ tail) → ⊥
-torn_unmarked One number commit line tail is_line one mark =
-    not_header number line (0 ∷ tail) mark.1.tail is_line (sym (append_assoc (body One number line) (0 ∷ []) tail) ∙ mark.1.is)
-torn_unmarked Two number commit line tail is_line one mark = let no_way : ⊥ = cc in no_way
-
-torn_read : (form : Form) (lines : List (List ℕ)) (line file : List ℕ) → IsForm form → AreLines lines → IsLine line → (t : IsTornIn form lines line file)
-    → IsRead form lines t.commit ((body form.version (length lines + 1) line ++ 0 ∷ []) ++ t.starts.tail) file
-torn_read form lines line file is_form fit is_line t = record {
-  is_form = is_form;
-  fit = fit;
-  closed = t.not_open;
-  unmarked = λ one mark. torn_unmarked form.version (length lines + 1) t.commit line t.starts.tail is_line one mark;
-  is = t.starts.is ∙ append_assoc (base form lines) (t.commit ∷ (body form.version (length lines + 1) line ++ 0 ∷ [])) t.starts.tail;
-}
-
--- so it is a journal, and is not damaged
-record IsReadAs (file : List ℕ) : Type 0 where
-  form : Form
-  history : List Accepted
-  commit : ℕ
-  rest : List ℕ
-  is_history : IsHistory history
-  read : IsRead form (lines_of_history history) commit rest file
-
-good_read : (h : List Accepted) (a : Accepted) (file : List ℕ) → IsHistory (h ++ a ∷ []) → IsGoodFound h a file → IsReadAs file
-good_read h a file is good =
-    let front = history_front h a is in
-    let last = history_last h a is in
-    ⊎_elim
-    (λ whole. record { form = good.form; history = h; commit = 0; rest = whole.tail; is_history = front; read = whole_read good.form (lines_of_history h) file good.is_form (are_lines h front.formed) whole })
-    (λ more. ⊎_elim
-    (λ torn. record {
-      form = good.form;
-      history = h;
-      commit = torn.commit;
-      rest = (body good.form.version (length (lines_of_history h) + 1) (line_of_command a) ++ 0 ∷ []) ++ torn.starts.tail;
-      is_history = front;
-      read = torn_read good.form (lines_of_history h) (line_of_command a) file good.is_form (are_lines h front.formed) (command_is_line a last.0 last.1) torn;
-    })
-    (λ whole.
-    let both = subst (λ l. IsWholeIn good.form l file) (sym (lines_push h a)) whole in
-    record { form = good.form; history = h ++ a ∷ []; commit = 0; rest = both.tail; is_history = is; read = whole_read good.form (lines_of_history (h ++ a ∷ [])) file good.is_form (are_lines (h ++ a ∷ []) is.formed) both })
-    more)
-    good.good
-
 abbrev Completes : Status → Type 0
 Completes st = (st ≡ status.Done) ⊎ ((st ≡ status.OutOfMemory) ⊎ ((bytes : ℕ) × (st ≡ status.JournalFull bytes)))
 
-unopened_ends : (st : Status) (s : List ℕ) (faults faults' : ℕ) (told : Option (List ℕ)) → told ≡ Some s → IsReadAs s → IsCause st told faults faults' → (HasRisen faults faults' → ⊥) → Completes st
-unopened_ends status.NotJournal s faults faults' told is read cause calm = absurd (read_or_none read.form (lines_of_history read.history) read.commit read.rest s read.read (cause s is))
-unopened_ends (status.Damaged place) s faults faults' told is read cause calm = absurd (read_or_damage read.form read.history read.commit read.rest s place read.is_history read.read (cause s is))
-unopened_ends (status.JournalFull bytes) s faults faults' told is read cause calm = inr (inr (bytes, refl))
-unopened_ends status.DiskFault s faults faults' told is read cause calm = absurd (calm cause)
-unopened_ends status.OutOfMemory s faults faults' told is read cause calm = inr (inl refl)
-unopened_ends status.Done s faults faults' told is read cause calm = absurd cause
-unopened_ends status.Usage s faults faults' told is read cause calm = absurd cause
-unopened_ends status.ReadFault s faults faults' told is read cause calm = absurd cause
-unopened_ends status.WriteFault s faults faults' told is read cause calm = absurd cause
-unopened_ends status.AlreadyThere s faults faults' told is read cause calm = absurd cause
-unopened_ends (status.TooMuch bytes) s faults faults' told is read cause calm = absurd cause
+unopened_ends : (st : Status) (s : List ℕ) (h : List Accepted) (a : Accepted) (faults faults' : ℕ) (told : Option (List ℕ)) → told ≡ Some s → IsHistory (h ++ a ∷ []) → IsGoodFound h a s → IsCause st told faults faults' → (HasRisen faults faults' → ⊥) → Completes st
+unopened_ends status.NotJournal s h a faults faults' told is hist good cause calm = absurd (good_journal h a s hist good (cause s is))
+unopened_ends (status.Damaged place) s h a faults faults' told is hist good cause calm = absurd (good_undamaged h a s place hist good (cause s is))
+unopened_ends (status.JournalFull bytes) s h a faults faults' told is hist good cause calm = inr (inr (bytes, refl))
+unopened_ends status.DiskFault s h a faults faults' told is hist good cause calm = absurd (calm cause)
+unopened_ends status.OutOfMemory s h a faults faults' told is hist good cause calm = inr (inl refl)
+unopened_ends status.Done s h a faults faults' told is hist good cause calm = absurd cause
+unopened_ends status.Usage s h a faults faults' told is hist good cause calm = absurd cause
+unopened_ends status.ReadFault s h a faults faults' told is hist good cause calm = absurd cause
+unopened_ends status.WriteFault s h a faults faults' told is hist good cause calm = absurd cause
+unopened_ends status.AlreadyThere s h a faults faults' told is hist good cause calm = absurd cause
+unopened_ends (status.TooMuch bytes) s h a faults faults' told is hist good cause calm = absurd cause
 
 few_taken : (left left' : Option (List ℕ)) (input taken : List ℕ) → left ≡ Some input → Consumes left left' taken → length taken ≤ length input
 few_taken None left' input taken is took = absurd (cc)
@@ -242,6 +181,6 @@ pub complete_run : {D A B : Type 0} (seen : D → Option (List ℕ)) (images : D
     → (IsUnopened seen images moment images_since faults old new st steps steps' × A × B) ⊎ IsApplied seen images moment images_since old new st steps steps' left left' held held' → Completes st
 complete_run {D} seen images moment images_since faults old new st steps steps' left left' held held' input s h a is short told is_history good reads writes disks calm which =
     ⊎_elim
-    (λ closed. unopened_ends st s (faults old) (faults new) (seen old) told (good_read h a s is_history good) closed.0.cause calm)
+    (λ closed. unopened_ends st s h a (faults old) (faults new) (seen old) told is_history good closed.0.cause calm)
     (λ open_. applied_ends 0 st _ _ open_.pending left left' held held' input is short reads writes disks open_.ended)
     which
