@@ -1,9 +1,16 @@
 //! Journals that are made, opened, refused, and come to again.
 
-use super::{APPLY, Case, Given, LINE, NEW_JOURNAL, SESSION, check_cases, run_given};
+ghost use Rattle.std.specs.Prelude.{◌≡◌, ◌<◌};
+
+use super::{APPLY, Case, Given, LINE, NEW_JOURNAL, SESSION, check_cases, run, run_given};
 use crate::Status;
+use serv_disk::{Disk, FileDisk, MemDisk, MemSink, MemSource, Torn};
 use std::alloc::{AllocError, Global};
+use std::marker::Brand;
+use std::sync::ledger::{Blank, Ledger};
 use std::test::Fail;
+use std::{env, fs, process};
+use svc_base::Steps;
 
 /// The journal of the line `k1 day 2024-02-01`, 33 bytes.
 pub(super) const ONE_LINE: &[u8] = b"MSRVJ002\x01\x00\x00\x00\x01\x00\x11k1 day 2024-02-01\x00";
@@ -132,4 +139,72 @@ fn a_disk_that_fails_ends_the_run(rt: HostRuntime) -> Result<(), Fail> {
         left: LINE,
     };
     check_cases(&rt, &[first])
+}
+
+/// Runs `j` and the word over a disk, with one line as input.
+fn run_on<D: Disk, L: Ledger>(
+    alloc: Global,
+    blank: Blank,
+    word: &str,
+    disk: &mut D,
+) -> Result<(Status, Vec<u8>), Fail>
+    requires name { blank.name ≡ L.name }
+    requires parts { blank.parts ≡ L.parts }
+    requires some { 0 < L.parts }
+{
+    let mut src = MemSource::new(LINE.to_vec(alloc)?, Vec::new(alloc));
+    let mut snk = MemSink::new(Vec::new(alloc), Vec::new(alloc));
+    let mut steps = Steps::<L>::new(blank);
+    let status = run(alloc, &["j", word], &mut src, &mut snk, disk, &mut steps);
+    Ok((status, Vec::from_slice(alloc, snk.content())?))
+}
+
+fn run_word<D: Disk>(alloc: Global, word: &str, disk: &mut D) -> Result<(Status, Vec<u8>), Fail> {
+    run_on::<D, Brand>(alloc, Blank::new(1), word, disk)
+}
+
+#[test]
+fn a_stop_while_a_journal_is_made_is_made_good(rt: HostRuntime) -> Result<(), Fail> {
+    let alloc = rt.alloc();
+    for (torn, longer) in [
+        (Torn::Old, false),
+        (Torn::New, true),
+        (Torn::Zero, true),
+        (Torn::Ones, true),
+    ] {
+        for calls in 0..3 {
+            let mut disk = MemDisk::new(Vec::new(alloc), Vec::new(alloc))?;
+            disk.stop_after(calls);
+            let (status, _) = run_word(alloc, "init", &mut disk)?;
+            assert_eq!(rt; status, Status::DiskFault, "after {calls}");
+            let mut left = disk.crash(torn, longer)?;
+            let (status, _) = run_word(alloc, "init", &mut left)?;
+            assert_eq!(rt; status, Status::Done, "after {calls}");
+            assert_eq!(rt; left.content(), NEW_JOURNAL, "after {calls}");
+        }
+    }
+    Ok(())
+}
+
+#[test]
+fn a_file_keeps_the_journal(rt: HostRuntime) -> Result<(), Fail> {
+    let alloc = rt.alloc();
+    let name = format!(in alloc; "jaqhendulu-top-{}", process::id(rt.process()))?;
+    let path = env::temp_dir(&rt)?.join(alloc, name.as_str())?;
+    for (word, status, output) in [
+        ("apply", Status::NotJournal, ""),
+        ("init", Status::Done, ""),
+        ("apply", Status::Done, "ok 1\n"),
+        ("apply", Status::Done, "ok 1\n"),
+        ("init", Status::AlreadyThere, ""),
+    ] {
+        let mut disk = FileDisk::new(alloc, rt.clone()?, path.as_str())?;
+        let (ended, written) = run_word(alloc, word, &mut disk)?;
+        assert_eq!(rt; ended, status, "{word}");
+        assert_eq!(rt; written.as_slice(), output.as_bytes(), "{word}");
+    }
+    let mut disk = FileDisk::new(alloc, rt.clone()?, path.as_str())?;
+    assert_eq!(rt; disk.len(), Ok(33));
+    fs::remove_file(&rt, path.as_str())?;
+    Ok(())
 }

@@ -67,18 +67,16 @@ fn apply(alloc: Global, input: &[u8], disk: &mut MemDisk) -> Result<(Status, Vec
     apply_over::<Brand>(alloc, Blank::new(1), input, disk)
 }
 
-/// The lines applied to a disk give all replies, and the bytes of a run that nothing disturbs.
+/// The lines applied to a disk give all replies.
 fn ends_well(
     rt: &(impl Abort + AllocGlobal),
     course: &Course,
     disk: &mut MemDisk,
-    content: &[u8],
     case: u32,
 ) -> Result<(), Fail> {
     let (status, output) = apply(rt.alloc(), &course.input, disk)?;
     assert_eq!(rt; status, Status::Done, "case {case}");
     assert_eq!(rt; output.as_slice(), course.replies.as_slice(), "case {case}");
-    assert_eq!(rt; &disk.content()[..content.len()], content, "case {case}");
     Ok(())
 }
 
@@ -112,23 +110,33 @@ fn stopped_after(
         assert_eq!(rt; status, Status::DiskFault, "after {calls}");
     }
     let mut left = disk.crash(torn, longer)?;
-    ends_well(rt, course, &mut left, content, calls)?;
+    ends_well(rt, course, &mut left, calls)?;
+    assert_eq!(rt; &left.content()[..content.len()], content, "after {calls}");
     Ok(refused)
 }
+
+const EACH_TORN: [(Torn, bool); 8] = [
+    (Torn::Old, false),
+    (Torn::Old, true),
+    (Torn::New, false),
+    (Torn::New, true),
+    (Torn::Zero, false),
+    (Torn::Zero, true),
+    (Torn::Ones, false),
+    (Torn::Ones, true),
+];
 
 #[test]
 fn a_stop_after_any_call_keeps_what_was_answered(rt: HostRuntime) -> Result<(), Fail> {
     let alloc = rt.alloc();
     let course = Course::new(alloc)?;
     let content = content_after(alloc, &course)?;
-    for torn in [Torn::Old, Torn::New, Torn::Zero, Torn::Ones] {
-        for longer in [false, true] {
-            let mut calls = 0;
-            while calls < 100 && stopped_after(&rt, &course, &content, calls, torn, longer)? {
-                calls += 1;
-            }
-            assert!(rt; calls > 48 && calls < 100, "calls {calls}");
+    for (torn, longer) in EACH_TORN {
+        let mut calls = 0;
+        while calls < 100 && stopped_after(&rt, &course, &content, calls, torn, longer)? {
+            calls += 1;
         }
+        assert!(rt; calls > 48 && calls < 100, "calls {calls}");
     }
     Ok(())
 }
@@ -139,7 +147,6 @@ fn any_call_that_fails_ends_the_run_with_the_replies_before_it(
 ) -> Result<(), Fail> {
     let alloc = rt.alloc();
     let course = Course::new(alloc)?;
-    let content = content_after(alloc, &course)?;
     let mut failed = 0;
     for call in 1..100 {
         let mut disk = new_disk(alloc, &[call])?;
@@ -149,8 +156,78 @@ fn any_call_that_fails_ends_the_run_with_the_replies_before_it(
             failed = call;
         }
         let mut left = disk.crash(Torn::New, false)?;
-        ends_well(&rt, &course, &mut left, &content, call)?;
+        ends_well(&rt, &course, &mut left, call)?;
     }
     assert!(rt; failed > 48 && failed < 99, "the last call {failed}");
     Ok(())
+}
+
+/// The course as a journal of version 1.
+fn old_journal(alloc: Global, course: &Course) -> Result<Vec<u8>, Fail> {
+    let mut bytes = b"MSRVJ001".to_vec(alloc)?;
+    for line in course.input.split(|byte| *byte == b'\n') {
+        if !line.is_empty() {
+            bytes.push(1)?;
+            bytes.extend_from_slice(&u16::try_from(line.len()).unwrap_or(0).to_be_bytes())?;
+            bytes.extend_from_slice(line)?;
+        }
+    }
+    bytes.push(0)?;
+    Ok(bytes)
+}
+
+/// Opens a disk with this content, stops after so many calls, crashes so, and applies all lines. Gives whether
+/// a call was refused.
+fn opening_stopped(
+    rt: &(impl Abort + AllocGlobal),
+    course: &Course,
+    content: &[u8],
+    calls: u32,
+    torn: Torn,
+    longer: bool,
+) -> Result<bool, Fail> {
+    let mut disk = MemDisk::new(content.to_vec(rt.alloc())?, Vec::new(rt.alloc()))?;
+    disk.stop_after(calls);
+    let (status, output) = apply(rt.alloc(), b"", &mut disk)?;
+    assert_eq!(rt; output.len(), 0, "after {calls}");
+    let refused = status != Status::Done;
+    if refused {
+        assert_eq!(rt; status, Status::DiskFault, "after {calls}");
+    }
+    let mut left = disk.crash(torn, longer)?;
+    ends_well(rt, course, &mut left, calls)?;
+    Ok(refused)
+}
+
+/// Opens it with each number of calls and each crash.
+fn each_opening_stopped(
+    rt: &(impl Abort + AllocGlobal),
+    course: &Course,
+    content: &[u8],
+) -> Result<(), Fail> {
+    for (torn, longer) in EACH_TORN {
+        let mut calls = 0;
+        while calls < 60 && opening_stopped(rt, course, content, calls, torn, longer)? {
+            calls += 1;
+        }
+        assert!(rt; calls > 3 && calls < 60, "calls {calls}");
+    }
+    Ok(())
+}
+
+#[test]
+fn a_journal_of_version_1_is_kept_while_it_is_written_anew(rt: HostRuntime) -> Result<(), Fail> {
+    let course = Course::new(rt.alloc())?;
+    let content = old_journal(rt.alloc(), &course)?;
+    each_opening_stopped(&rt, &course, &content)
+}
+
+#[test]
+fn a_journal_is_kept_while_its_closed_commit_byte_is_made_0(rt: HostRuntime) -> Result<(), Fail> {
+    let course = Course::new(rt.alloc())?;
+    let mut content = content_after(rt.alloc(), &course)?;
+    if let Some(byte) = content.last_mut() {
+        *byte = 7;
+    }
+    each_opening_stopped(&rt, &course, &content)
 }
