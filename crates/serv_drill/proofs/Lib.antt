@@ -6,3 +6,5 @@ pub mod MonthLemmas
 pub mod DeskLemmas
 pub mod SubmitLemmas
 pub mod SummaryLemmas
+pub mod RepeatLemmas
+pub mod LengthLemmas

@@ -5,6 +5,7 @@ mod desk;
 mod draws;
 mod drilling;
 mod keys;
+mod laws;
 mod months;
 mod payments;
 mod performing;
@@ -13,6 +14,7 @@ mod summary;
 mod worked;
 
 pub use drilling::drill;
+pub use laws::repeats_are_commands;
 pub use worked::{worked_late_payment, worked_year};
 
 #[cfg(test)]

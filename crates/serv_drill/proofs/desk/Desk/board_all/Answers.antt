@@ -42,7 +42,7 @@ pub returns-clause-after : goal.returns-clause-after
 unfolding boardings
 returns-clause-after g c =
     let all : c.loop-i.i ≡ c.args.loans = omega arith in
-    c.loop-i.invariant.after ∙ ap (λ n. after_works (tally c.args.self.now) (each boarding_at n)) all
+    subst (λ (n : ℕ). tally c.loop-i.self ≡ after_works (tally c.args.self.now) (each boarding_at n)) all c.loop-i.invariant.after
 
 pub returns-clause-steps : goal.returns-clause-steps
 unfolding boardings

@@ -44,7 +44,7 @@ pub returns-clause-after : goal.returns-clause-after
 unfolding late_works
 returns-clause-after g c =
     let all : c.loop-i.i ≡ c.args.loans = omega arith in
-    c.loop-i.invariant.after ∙ ap (λ n. after_works (tally c.args.self.now) (each (late_work_at c.args.month (c.args.earlier.state)) n)) all
+    subst (λ (n : ℕ). tally c.loop-i.self ≡ after_works (tally c.args.self.now) (each (late_work_at c.args.month (c.args.earlier.state)) n)) all c.loop-i.invariant.after
 
 pub returns-clause-steps : goal.returns-clause-steps
 unfolding late_works

@@ -48,7 +48,7 @@ loop-j-preserved g c =
 pub returns-clause-after : goal.returns-clause-after
 returns-clause-after g c =
     let all : c.loop-j.j ≡ 12 = omega arith in
-    c.loop-j.invariant.after ∙ ap (λ n. after_works (tally c.args.self.now) (each (month_works c.args.loans c.args.number) n)) all
+    subst (λ (n : ℕ). tally c.loop-j.self ≡ after_works (tally c.args.self.now) (each (month_works c.args.loans c.args.number) n)) all c.loop-j.invariant.after
 
 pub returns-clause-steps : goal.returns-clause-steps
 returns-clause-steps g c = part_cost (month_works c.args.loans c.args.number) (tally c.args.self.now) c.loop-j.j 12 _ _ (omega arith) c.loop-j.invariant.cost

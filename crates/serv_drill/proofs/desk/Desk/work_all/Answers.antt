@@ -44,7 +44,7 @@ pub returns-clause-after : goal.returns-clause-after
 unfolding works
 returns-clause-after g c =
     let all : c.loop-i.i ≡ c.args.loans = omega arith in
-    c.loop-i.invariant.after ∙ ap (λ n. after_works (tally c.args.self.now) (each (work_at c.args.month (c.args.draws.now.state)) n)) all
+    subst (λ (n : ℕ). tally c.loop-i.self ≡ after_works (tally c.args.self.now) (each (work_at c.args.month (c.args.draws.now.state)) n)) all c.loop-i.invariant.after
 
 pub returns-clause-steps : goal.returns-clause-steps
 unfolding works
