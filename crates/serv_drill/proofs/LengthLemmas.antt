@@ -1,9 +1,9 @@
 -- A year of at most 500 loans has few works.
-use Rattle.std.proofs.Common.{◌≡◌, ℕ, zero, suc, ◌+◌, ◌*◌, ◌^◌, ◌<◌, ◌≤◌, List, [], ◌∷◌, ◌++◌, length, arith, refl, length-append, true, false}
+use Rattle.std.proofs.Common.{◌≡◌, ℕ, zero, suc, ◌+◌, ◌*◌, ◌^◌, ◌<◌, ◌≤◌, List, [], ◌∷◌, ◌++◌, length, arith, length-append, true, false}
 use Rattle.std.specs.Prelude.{Bool, ◌==◌, ◌||◌, if◌then◌else◌}
 use Rattle.svc_base.specs.Calendar.{first_day}
 use Rattle.serv_drill.specs.Draws.{draw}
-use Rattle.serv_drill.specs.Works.{Work, Do, TakeBack, each, payment, work_of, late_work_of, work_at, late_work_at, works, late_works, late_before, turn, month_before, month_at, month_from, month_works, all_months, state_at, boarding_at, boardings, december, first_works, year_works}
+use Rattle.serv_drill.specs.Works.{Work, Do, TakeBack, each, payment, work_of, late_work_of, work_at, late_work_at, works, late_works, late_before, turn, month_before, month_at, month_from, month_works, all_months, boarding_at, boardings, december, first_works, year_works}
 
 length_each : (f : ℕ → List Work) (k n : ℕ) → ((i : ℕ) → length (f i) ≤ k) → length (each f n) ≤ n * k
 unfolding each

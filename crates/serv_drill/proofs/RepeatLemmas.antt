@@ -1,6 +1,6 @@
 -- A command that is accepted is answered with the kept reply where it is submitted again, and no other one is: no two
 -- commands have one key.
-use Rattle.std.proofs.Common.{◌≡◌, ℕ, ◌+◌, ◌*◌, ◌^◌, ◌<◌, ◌≤◌, List, [], ◌∷◌, ◌++◌, length, drop, arith, refl, sym, ap, subst, ◌∙◌, true, false, length-append}
+use Rattle.std.proofs.Common.{◌≡◌, ℕ, ◌+◌, ◌^◌, ◌<◌, List, [], ◌∷◌, ◌++◌, length, drop, arith, refl, ap, ◌∙◌, true, false, length-append}
 use Rattle.std.specs.Prelude.{Bool, Option, Some, None, if◌then◌else◌}
 use Rattle.std.proofs.lemmas.Bool.Decides.{Decides-eqb}
 use Rattle.std.proofs.lemmas.Slice.Eq.{slice_eq-Decides}
@@ -13,7 +13,7 @@ use Rattle.svc_types.specs.Same.{is_same}
 use Rattle.svc_types.proofs.SameLemmas.{decides_same}
 use Rattle.svc_world.specs.World.{World, Accepted, accepted, first_world, after, world}
 use Rattle.svc_world.specs.Refusals.{refusal_of}
-use Rattle.svc_world.specs.Judging.{Judgement, Kept, Refused, Fresh, Known, is_key, known_from, known, by_key, by_refusal, judged, history_after, reply_of}
+use Rattle.svc_world.specs.Judging.{Kept, Refused, Fresh, Known, is_key, known_from, known, by_key, by_refusal, judged, history_after, reply_of}
 use Rattle.serv_drill.specs.Works.{Work}
 use Rattle.serv_drill.specs.Machine.{Tally, first_tally, key_of, submitted, is_kept, one_if, command_of, after_command, after_work, after_works}
 

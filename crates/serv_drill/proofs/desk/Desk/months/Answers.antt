@@ -1,4 +1,4 @@
-use Rattle.std.proofs.Common.{◌≡◌, ◌+◌, ◌-◌, ◌*◌, ◌≤◌, arith, refl, sym, ap, subst, ◌∙◌}
+use Rattle.std.proofs.Common.{◌≡◌, ℕ, ◌+◌, ◌-◌, ◌*◌, ◌≤◌, arith, refl, sym, ap, subst, ◌∙◌}
 use Rattle.serv_drill.specs.Draws.{state_after}
 use Rattle.serv_drill.specs.Tallies.{tally}
 use Rattle.serv_drill.specs.Works.{each, month_works, state_at}
