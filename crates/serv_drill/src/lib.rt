@@ -14,7 +14,7 @@ mod summary;
 mod worked;
 
 pub use drilling::drill;
-pub use laws::repeats_are_commands;
+pub use laws::{payments_have_their_number, repeats_are_commands};
 pub use worked::{worked_late_payment, worked_year};
 
 #[cfg(test)]
