@@ -6,7 +6,7 @@ use Rattle.std.proofs.lemmas.Bool.{cases_lt}
 use Rattle.std.specs.Io.KnownBytes.{Appends}
 use Rattle.std.proofs.KnownBytes.{Appends-nil, Appends-trans}
 use Rattle.svc_world.specs.World.{Accepted}
-use Rattle.serv_disk.specs.Faults.{IsProperPrefix, AppendsPart}
+use Rattle.serv_disk.specs.Faults.{AppendsPart}
 use Rattle.serv_machine.specs.declared.faults.Halt.{Halt}
 use Rattle.serv_machine.specs.declared.faults.Halt.TheVariants as halt
 use Rattle.serv_machine.specs.OnDisk.{OnDisk}
@@ -14,9 +14,9 @@ use Rattle.serv_machine.proofs.OnDiskLemmas.{disk_more}
 use Rattle.serv_top.specs.declared.serving.Stop.{Stop}
 use Rattle.serv_top.specs.declared.serving.Stop.TheVariants.{WriteFault, DiskFault, OutOfMemory}
 use Rattle.serv_top.specs.Lines.{lines_of, ended_lines, open_line}
-use Rattle.serv_top.specs.Machine.{Said, Says, reply_to, Stand, Stays, Moves, IsTried, IsStuck}
-use Rattle.serv_top.specs.Replies.{Say, Answers, IsCutIn, IsBegun, IsHeldUp, IsTriedNext, before_last, replies_to, MovesAll}
-use Rattle.serv_top.specs.Serving.{AllServed, AppendsFront, Feeds, FailsAt, Halts, HaltsAt, IsHalted, IsDropped, IsReplied, Served, Stopped, Stops, IsStoppedText}
+use Rattle.serv_top.specs.Machine.{Said, Says, reply_to, Stand, Stays, IsTried, IsStuck}
+use Rattle.serv_top.specs.Replies.{Say, IsCutIn, IsBegun, IsHeldUp, IsTriedNext, before_last, replies_to, MovesAll}
+use Rattle.serv_top.specs.Serving.{AllServed, AppendsFront, Feeds, FailsAt, IsHalted, IsDropped, IsReplied, Served, Stopped, Stops, IsStoppedText}
 use Rattle.serv_top.specs.Stop.{stop_of}
 use Rattle.serv_top.proofs.LineLemmas.{says_whole}
 use Rattle.serv_top.proofs.Cutting.{unended, ended_from, open_from-push, ended_lines-push, ended_lines-append, lines_of-from, say-push, replies_to-push, moves_more}
@@ -145,16 +145,19 @@ pub cut_of : (waiting : ℕ) (lines : List (List ℕ)) (said : List Said) (s s' 
 cut_of waiting lines said s s' held held' held'' written text say moved wrote gathered late part = record {
   written = written ++ part.part;
   wrote = Appends-trans held held' held'' written part.part wrote part.wrote;
-  says = (refl, record {
-    acted = lines;
-    others = [];
-    lines_are = sym (append-nil lines);
-    said = said;
-    say = say;
-    moved = moved;
-    cut = record { rest = part.partial.rest; some = part.partial.some; joined = sym gathered ∙ ap (λ t. written ++ t) part.partial.joined ∙ sym (append_assoc written part.part part.partial.rest) };
-    late = longer (length (replies_to s.history (before_last said))) (length written) (length (written ++ part.part)) (length part.part) waiting (length-append written part.part) late;
-  });
+  says = (
+    refl,
+    record {
+      acted = lines;
+      others = [];
+      lines_are = sym (append-nil lines);
+      said = said;
+      say = say;
+      moved = moved;
+      cut = record { rest = part.partial.rest; some = part.partial.some; joined = sym gathered ∙ ap (λ t. written ++ t) part.partial.joined ∙ sym (append_assoc written part.part part.partial.rest) };
+      late = longer (length (replies_to s.history (before_last said))) (length written) (length (written ++ part.part)) (length part.part) waiting (length-append written part.part) late;
+    },
+  );
 }
   where
     longer : (n a b c w : ℕ) → b ≡ a + c → n ≤ a + w → n ≤ b + w
@@ -247,19 +250,22 @@ module _ (waiting : ℕ) (bytes : List ℕ) {s s' : Stand} {held held' : Option 
   short_of s'' held'' lines others pending none e front near = record {
     written = run.written ++ front.part;
     wrote = Appends-trans held held' held'' run.written front.part run.wrote front.wrote;
-    says = (none, record {
-      acted = ended;
-      others = others;
-      lines_are = e;
-      said = run.said;
-      say = run.say;
-      before = s';
-      moved = run.moved;
-      rest = front.rest;
-      text = sym run.gathered ∙ ap (λ t. run.written ++ t) front.joined ∙ sym (append_assoc run.written front.part front.rest);
-      few = few_of front.part front.rest front.joined;
-      after = near;
-    });
+    says = (
+      none,
+      record {
+        acted = ended;
+        others = others;
+        lines_are = e;
+        said = run.said;
+        say = run.say;
+        before = s';
+        moved = run.moved;
+        rest = front.rest;
+        text = sym run.gathered ∙ ap (λ t. run.written ++ t) front.joined ∙ sym (append_assoc run.written front.part front.rest);
+        few = few_of front.part front.rest front.joined;
+        after = near;
+      },
+    );
   }
 
   -- the disk failed at the next line, and of what was not written yet a front part is written

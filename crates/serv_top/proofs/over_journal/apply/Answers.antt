@@ -1,4 +1,4 @@
-use Rattle.std.proofs.Common.{refl, sym, inl, inr, ⊎_elim, ap}
+use Rattle.std.proofs.Common.{refl, inl, inr, ⊎_elim, ap}
 use Rattle.serv_journal.proofs.ReadingLemmas.{risen_from}
 use Rattle.serv_engine.specs.declared.fault.EngineFault.TheVariants as fault
 use Rattle.serv_top.specs.Stop.{status_of_fault}
@@ -23,12 +23,16 @@ returns-in-Ok-clause-disk g c = λ is.
 
 pub returns-in-Err-clause-applied : goal.returns-in-Err-clause-applied
 returns-in-Err-clause-applied g c =
-    inl (record {
-      cause = rw c.unopened.ensures (cause_of (g.D.Disk.seen c.args.disk.now) (g.D.Disk.faults c.args.disk.now) (g.D.Disk.faults c.open.new.disk) c.in-Err.fault c.in-Err.ensures.fault c.in-Err.ensures.cause);
-      good = c.open.ensures.moments;
-      kept = rw c.unopened.ensures (⊎_elim (λ disk. inl (ap status_of_fault disk)) (λ same. inr same) c.in-Err.ensures.kept);
-      cost = c.in-Err.ensures.bound_err (λ a m. refl) (λ a m. refl);
-    }, refl, refl)
+    inl (
+      record {
+        cause = rw c.unopened.ensures (cause_of (g.D.Disk.seen c.args.disk.now) (g.D.Disk.faults c.args.disk.now) (g.D.Disk.faults c.open.new.disk) c.in-Err.fault c.in-Err.ensures.fault c.in-Err.ensures.cause);
+        good = c.open.ensures.moments;
+        kept = rw c.unopened.ensures (⊎_elim (λ disk. inl (ap status_of_fault disk)) (λ same. inr same) c.in-Err.ensures.kept);
+        cost = c.in-Err.ensures.bound_err (λ a m. refl) (λ a m. refl);
+      },
+      refl,
+      refl,
+    )
 
 pub returns-in-Err-clause-damaged : goal.returns-in-Err-clause-damaged
 returns-in-Err-clause-damaged g c = λ s place told is.
