@@ -1,10 +1,9 @@
 -- A run over a journal: what stands where it was opened, and where it was not.
-use Rattle.std.proofs.Common.{◌≡◌, ◌≢◌, ◌⊎◌, ℕ, ◌+◌, ◌-◌, ◌<◌, ◌≤◌, List, [], ◌∷◌, ◌++◌, length, refl, sym, ap, subst, ◌∙◌, inl, inr, ⊎_elim, arith, append_assoc, length-append}
-use Rattle.std.specs.Prelude.{Option, Some, None, Result, Ok, Err}
-use Rattle.std.specs.Io.KnownBytes.{Appends, Consumes, IsAtEnd}
+use Rattle.std.proofs.Common.{◌≡◌, ◌⊎◌, ℕ, ◌+◌, ◌-◌, ◌<◌, ◌≤◌, List, [], ◌∷◌, ◌++◌, length, refl, sym, ap, subst, ◌∙◌, inl, inr, ⊎_elim, arith, append_assoc, length-append}
+use Rattle.std.specs.Prelude.{Option, Some, None}
+use Rattle.std.specs.Io.KnownBytes.{Consumes}
 use Rattle.svc_types.specs.declared.requests.Request.{Request}
 use Rattle.svc_types.specs.declared.requests.Request.TheVariants as request
-use Rattle.svc_types.specs.declared.replies.Refusal.{Refusal}
 use Rattle.svc_world.specs.World.{Accepted, accepted}
 use Rattle.svc_world.specs.Judging.{IsHistory}
 use Rattle.serv_disk.specs.Disks.{Each}
@@ -14,14 +13,13 @@ use Rattle.serv_engine.specs.declared.fault.EngineFault.{EngineFault}
 use Rattle.serv_engine.specs.declared.fault.EngineFault.TheVariants as fault
 use Rattle.serv_engine.specs.Histories.{line_of_command, lines_of_history, lengths_of, IsGoodFound}
 use Rattle.serv_engine.specs.Engines.{EngineState, IsDurable}
-use Rattle.serv_engine.specs.Opening.{IsDamagedAt, IsTooLong, IsFound, IsClosed, IsPassing, IsOpenFault, IsOpenCause, history_bound}
+use Rattle.serv_engine.specs.Opening.{IsFound, IsPassing, IsOpenFault, IsOpenCause, history_bound}
 use Rattle.serv_engine.proofs.GoodLemmas.{good_journal, good_undamaged}
 use Rattle.serv_engine.proofs.LengthLemmas.{journal_base}
-use Rattle.serv_machine.specs.History.{History, Store, Journal, Decision, Kept, Refused, Full, Fresh, in_journal, after_decision, decided}
+use Rattle.serv_machine.specs.History.{History, Store, Decision, Kept, Refused, Full, Fresh, in_journal, after_decision, decided}
 use Rattle.serv_machine.specs.Replies.{history_after_request}
 use Rattle.serv_machine.specs.Engines.{history_of}
 use Rattle.serv_machine.specs.EngineLaws.{durable_whole}
-use Rattle.serv_machine.specs.OnDisk.{HasHistory, OnDisk}
 use Rattle.serv_machine.proofs.EngineLemmas.{long_enough}
 use Rattle.serv_top.specs.declared.status.Status.{Status}
 use Rattle.serv_top.specs.declared.status.Status.TheVariants as status
@@ -29,7 +27,7 @@ use Rattle.serv_top.specs.Machine.{Said, Asks, Faulty, Stand, stand, Stays, IsTr
 use Rattle.serv_top.specs.Replies.{MovesAll, IsTriedNext, history_after_all}
 use Rattle.serv_top.specs.Outcome.{Ended, Ends, IsOutput, input_limit}
 use Rattle.serv_top.specs.Stop.{status_of_fault}
-use Rattle.serv_top.specs.Journal.{KeepsGood, IsCause, IsOnly, IsUnopened, IsApplied, journal_limit}
+use Rattle.serv_top.specs.Journal.{KeepsGood, IsCause, IsOnly, IsUnopened, IsOpened, IsApplied, journal_limit}
 
 -- ---- where commands are kept stays the same
 
@@ -83,12 +81,31 @@ store_ended waiting status.Usage s s' pending taken left written is = absurd is
 store_ended waiting status.NotJournal s s' pending taken left written is = absurd is
 store_ended waiting status.AlreadyThere s s' pending taken left written is = absurd is
 store_ended waiting (status.Damaged place) s s' pending taken left written is = absurd is
+store_ended waiting (status.NoReport last) s s' pending taken left written is = absurd is
 store_ended waiting (status.JournalFull bytes) s s' pending taken left written is = absurd is
 
 -- ---- a journal was opened
 
 same_store : (e e' : EngineState) → (history_of e').store ≡ (history_of e).store → history_of e' ≡ in_journal (e.journal.size - lengths_of e.history) e.journal.limit e'.history
 same_store e e' same = let make : Store → History = λ store. record { commands = e'.history; store = store } in ap make same
+
+pub opened : {D : Type 0} (seen : D → Option (List ℕ)) (images : D → List ℕ → Type 0) (moment : D → ℕ) (images_since : D → ℕ → List ℕ → Type 0) (old mid : D) (e : EngineState) (steps begun : ℕ)
+    → IsHistory e.history → ((s : List ℕ) → seen old ≡ Some s → IsFound journal_limit e.journal.size e.history s)
+    → KeepsGood seen images moment images_since old mid
+    → ((s : List ℕ) → seen old ≡ Some s → (h : List Accepted) (a : Accepted) → IsHistory (h ++ a ∷ []) → Each (images old) (IsGoodFound h a) → (e.history ≡ h) ⊎ (e.history ≡ h ++ a ∷ []))
+    → IsDurable (images mid) e → e.journal.version ≡ Two → begun ≤ steps + history_bound [] e.history
+    → IsOpened seen images moment images_since old mid steps begun (e.journal.size - lengths_of e.history) e.history
+opened seen images moment images_since old mid e steps begun is_history found good either durable version cost =
+    let b = journal_base (images mid) e durable version in
+    let back : e.journal.size ≡ (e.journal.size - lengths_of e.history) + lengths_of e.history = omega (arith, long_enough e b.0 b.1) in
+    record {
+      is_history = is_history;
+      found = λ s told. subst (λ n. IsFound journal_limit n e.history s) back (found s told);
+      good = good;
+      either = either;
+      whole = durable_whole (images mid) e durable;
+      cost = cost;
+    }
 
 pub applied : {D : Type 0} (seen : D → Option (List ℕ)) (images : D → List ℕ → Type 0) (moment : D → ℕ) (images_since : D → ℕ → List ℕ → Type 0) (old mid new : D) (st : Status) (e e' : EngineState)
     (steps begun steps' : ℕ) (left left' held held' : Option (List ℕ)) → IsHistory e.history → ((s : List ℕ) → seen old ≡ Some s → IsFound journal_limit e.journal.size e.history s)
@@ -98,8 +115,6 @@ pub applied : {D : Type 0} (seen : D → Option (List ℕ)) (images : D → List
     → Ends images moment images_since mid new 0 st (stand (history_of e) begun) (stand (history_of e') steps') left left' held held'
     → IsApplied seen images moment images_since old new st steps steps' left left' held held'
 applied {D} seen images moment images_since old mid new st e e' steps begun steps' left left' held held' is_history found good either durable version limit cost ends =
-    let b = journal_base (images mid) e durable version in
-    let back : e.journal.size ≡ (e.journal.size - lengths_of e.history) + lengths_of e.history = omega (arith, long_enough e b.0 b.1) in
     let place : ℕ = e.journal.size - lengths_of e.history in
     let kept = same_store e e' (store_ended 0 st (stand (history_of e) begun) (stand (history_of e') steps') ends.pending ends.ended.taken left' ends.ended.written ends.ended.says) in
     let now : Ended 0 st (stand (in_journal place e.journal.limit e.history) begun) (stand (in_journal place e.journal.limit e'.history) steps') ends.pending left left' held held' =
@@ -108,13 +123,8 @@ applied {D} seen images moment images_since old mid new st e e' steps begun step
       commands = e.history;
       base = place;
       opened = mid;
-      is_history = is_history;
-      found = λ s told. subst (λ n. IsFound journal_limit n e.history s) back (found s told);
-      good = good;
-      either = either;
-      whole = durable_whole (images mid) e durable;
       begun = begun;
-      opening_steps = cost;
+      opening = opened seen images moment images_since old mid e steps begun is_history found good either durable version cost;
       after = e'.history;
       pending = ends.pending;
       ended = subst (λ n. Ended 0 st (stand (in_journal place n e.history) begun) (stand (in_journal place n e'.history) steps') ends.pending left left' held held') limit now;
@@ -137,10 +147,10 @@ only_of only f old new which =
 
 -- ---- completeness
 
-abbrev Completes : Status → Type 0
+abbrev pub Completes : Status → Type 0
 Completes st = (st ≡ status.Done) ⊎ ((st ≡ status.OutOfMemory) ⊎ ((bytes : ℕ) × (st ≡ status.JournalFull bytes)))
 
-unopened_ends : (st : Status) (s : List ℕ) (h : List Accepted) (a : Accepted) (faults faults' : ℕ) (told : Option (List ℕ)) → told ≡ Some s → IsHistory (h ++ a ∷ []) → IsGoodFound h a s → IsCause st told faults faults' → (HasRisen faults faults' → ⊥) → Completes st
+pub unopened_ends : (st : Status) (s : List ℕ) (h : List Accepted) (a : Accepted) (faults faults' : ℕ) (told : Option (List ℕ)) → told ≡ Some s → IsHistory (h ++ a ∷ []) → IsGoodFound h a s → IsCause st told faults faults' → (HasRisen faults faults' → ⊥) → Completes st
 unopened_ends status.NotJournal s h a faults faults' told is hist good cause calm = absurd (good_journal h a s hist good (cause s is))
 unopened_ends (status.Damaged place) s h a faults faults' told is hist good cause calm = absurd (good_undamaged h a s place hist good (cause s is))
 unopened_ends (status.JournalFull bytes) s h a faults faults' told is hist good cause calm = inr (inr (bytes, refl))
@@ -152,6 +162,7 @@ unopened_ends status.ReadFault s h a faults faults' told is hist good cause calm
 unopened_ends status.WriteFault s h a faults faults' told is hist good cause calm = absurd cause
 unopened_ends status.AlreadyThere s h a faults faults' told is hist good cause calm = absurd cause
 unopened_ends (status.TooMuch bytes) s h a faults faults' told is hist good cause calm = absurd cause
+unopened_ends (status.NoReport last) s h a faults faults' told is hist good cause calm = absurd cause
 
 few_taken : (left left' : Option (List ℕ)) (input taken : List ℕ) → left ≡ Some input → Consumes left left' taken → length taken ≤ length input
 few_taken None left' input taken is took = absurd (cc)
@@ -173,6 +184,7 @@ applied_ends waiting status.Usage s s' pending left left' held held' input is sh
 applied_ends waiting status.NotJournal s s' pending left left' held held' input is short reads writes disks e = absurd e.says
 applied_ends waiting status.AlreadyThere s s' pending left left' held held' input is short reads writes disks e = absurd e.says
 applied_ends waiting (status.Damaged place) s s' pending left left' held held' input is short reads writes disks e = absurd e.says
+applied_ends waiting (status.NoReport last) s s' pending left left' held held' input is short reads writes disks e = absurd e.says
 applied_ends waiting (status.JournalFull bytes) s s' pending left left' held held' input is short reads writes disks e = absurd e.says
 
 pub complete_run : {D A B : Type 0} (seen : D → Option (List ℕ)) (images : D → List ℕ → Type 0) (moment : D → ℕ) (images_since : D → ℕ → List ℕ → Type 0) (faults : D → ℕ) (old new : D) (st : Status) (steps steps' : ℕ)

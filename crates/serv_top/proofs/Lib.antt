@@ -6,3 +6,5 @@ pub mod CutLemmas
 pub mod ServedLemmas
 pub mod Running
 pub mod Applied
+pub mod ShownLemmas
+pub mod WordLemmas

@@ -1,7 +1,7 @@
 -- A run in its course: what it has taken, accepted and written so far, and what that is where it ends.
-use Rattle.std.proofs.Common.{◌≡◌, ◌≢◌, ◌⊎◌, ℕ, ◌+◌, ◌<◌, ◌≤◌, List, [], ◌∷◌, ◌++◌, length, refl, sym, ap, subst, ◌∙◌, arith, inl, inr, append-nil, length-append}
+use Rattle.std.proofs.Common.{◌≡◌, ◌≢◌, ℕ, ◌+◌, ◌<◌, ◌≤◌, List, [], ◌++◌, length, refl, sym, ap, subst, ◌∙◌, arith, inl, inr, append-nil, length-append}
 use Rattle.std.specs.Prelude.{Option}
-use Rattle.std.specs.Io.KnownBytes.{Appends, Consumes, IsAtEnd}
+use Rattle.std.specs.Io.KnownBytes.{Consumes, IsAtEnd}
 use Rattle.std.proofs.KnownBytes.{Consumes-nil, Consumes-trans, Appends-nil}
 use Rattle.svc_world.specs.World.{Accepted}
 use Rattle.serv_machine.specs.History.{History, nothing}
@@ -180,6 +180,7 @@ none_pending waiting status.Usage s s' pending left left' held held' calm e = ab
 none_pending waiting status.NotJournal s s' pending left left' held held' calm e = absurd e.says
 none_pending waiting status.AlreadyThere s s' pending left left' held held' calm e = absurd e.says
 none_pending waiting (status.Damaged place) s s' pending left left' held held' calm e = absurd e.says
+none_pending waiting (status.NoReport last) s s' pending left left' held held' calm e = absurd e.says
 none_pending waiting (status.JournalFull bytes) s s' pending left left' held held' calm e = absurd e.says
 
 pub ran_serving : {D : Type 0} (images : D → List ℕ → Type 0) (moment : D → ℕ) (images_since : D → ℕ → List ℕ → Type 0) (old new : D) (waiting : ℕ) (st : Status) (h h' : History) (steps steps' : ℕ)

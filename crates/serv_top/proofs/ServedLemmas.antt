@@ -6,7 +6,7 @@ use Rattle.std.proofs.lemmas.Bool.{cases_lt}
 use Rattle.std.specs.Io.KnownBytes.{Appends}
 use Rattle.std.proofs.KnownBytes.{Appends-nil, Appends-trans}
 use Rattle.svc_world.specs.World.{Accepted}
-use Rattle.serv_disk.specs.Faults.{IsProperPrefix, AppendsPart}
+use Rattle.serv_disk.specs.Faults.{AppendsPart}
 use Rattle.serv_machine.specs.declared.faults.Halt.{Halt}
 use Rattle.serv_machine.specs.declared.faults.Halt.TheVariants as halt
 use Rattle.serv_machine.specs.OnDisk.{OnDisk}
@@ -14,9 +14,9 @@ use Rattle.serv_machine.proofs.OnDiskLemmas.{disk_more}
 use Rattle.serv_top.specs.declared.serving.Stop.{Stop}
 use Rattle.serv_top.specs.declared.serving.Stop.TheVariants.{WriteFault, DiskFault, OutOfMemory}
 use Rattle.serv_top.specs.Lines.{lines_of, ended_lines, open_line}
-use Rattle.serv_top.specs.Machine.{Said, Says, reply_to, Stand, Stays, Moves, IsTried, IsStuck}
-use Rattle.serv_top.specs.Replies.{Say, Answers, IsCutIn, IsBegun, IsHeldUp, IsTriedNext, before_last, replies_to, MovesAll}
-use Rattle.serv_top.specs.Serving.{AllServed, AppendsFront, Feeds, FailsAt, Halts, HaltsAt, IsHalted, IsDropped, IsReplied, Served, Stopped, Stops, IsStoppedText}
+use Rattle.serv_top.specs.Machine.{Said, Says, reply_to, Stand, Stays, IsTried, IsStuck}
+use Rattle.serv_top.specs.Replies.{Say, IsCutIn, IsBegun, IsHeldUp, IsTriedNext, before_last, replies_to, MovesAll}
+use Rattle.serv_top.specs.Serving.{AllServed, AppendsFront, Feeds, FailsAt, IsHalted, IsDropped, IsReplied, Served, Stopped, Stops, IsStoppedText}
 use Rattle.serv_top.specs.Stop.{stop_of}
 use Rattle.serv_top.proofs.LineLemmas.{says_whole}
 use Rattle.serv_top.proofs.Cutting.{unended, ended_from, open_from-push, ended_lines-push, ended_lines-append, lines_of-from, say-push, replies_to-push, moves_more}

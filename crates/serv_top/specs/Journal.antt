@@ -1,5 +1,5 @@
 -- What a run over a journal does to the disk: an empty journal is made, or one is opened and lines are answered over it.
-use Rattle.std.specs.Prelude.{◌≡◌, ◌≢◌, ◌⊎◌, ℕ, ◌+◌, ◌^◌, ◌<◌, ◌≤◌, List, [], ◌∷◌, ◌++◌, length, Option, Some, ⊤}
+use Rattle.std.specs.Prelude.{◌≡◌, ◌⊎◌, ℕ, ◌+◌, ◌^◌, ◌<◌, ◌≤◌, List, [], ◌∷◌, ◌++◌, length, Option, Some, ⊤}
 use Rattle.svc_world.specs.World.{Accepted}
 use Rattle.svc_world.specs.Judging.{IsHistory}
 use Rattle.serv_disk.specs.Disks.{Each, LeavesOnly}
@@ -10,7 +10,7 @@ use Rattle.serv_engine.specs.Opening.{IsDamagedAt, IsTooLong, IsFound, IsClosed,
 use Rattle.serv_machine.specs.History.{in_journal}
 use Rattle.serv_machine.specs.OnDisk.{HasHistory, OnDisk}
 use Rattle.serv_top.specs.declared.status.Status.{Status}
-use Rattle.serv_top.specs.declared.status.Status.TheVariants.{Done, Usage, ReadFault, WriteFault, DiskFault, NotJournal, AlreadyThere, Damaged, TooMuch, OutOfMemory, JournalFull}
+use Rattle.serv_top.specs.declared.status.Status.TheVariants.{Done, Usage, ReadFault, WriteFault, DiskFault, NotJournal, AlreadyThere, Damaged, NoReport, TooMuch, OutOfMemory, JournalFull}
 use Rattle.serv_top.specs.Machine.{stand}
 use Rattle.serv_top.specs.Outcome.{Ended}
 
@@ -30,6 +30,7 @@ IsInit ReadFault told told' images faults faults' = ⊥
 IsInit WriteFault told told' images faults faults' = ⊥
 IsInit NotJournal told told' images faults faults' = ⊥
 IsInit (Damaged place) told told' images faults faults' = ⊥
+IsInit (NoReport last) told told' images faults faults' = ⊥
 IsInit (TooMuch bytes) told told' images faults faults' = ⊥
 IsInit OutOfMemory told told' images faults faults' = ⊥
 IsInit (JournalFull bytes) told told' images faults faults' = ⊥
@@ -53,11 +54,18 @@ IsCause Usage told faults faults' = ⊥
 IsCause ReadFault told faults faults' = ⊥
 IsCause WriteFault told faults faults' = ⊥
 IsCause AlreadyThere told faults faults' = ⊥
+IsCause (NoReport last) told faults faults' = ⊥
 IsCause (TooMuch bytes) told faults faults' = ⊥
 
 -- this status, want of memory, or a fault of the disk
 abbrev pub IsOnly : Status → Status → Type 0
 IsOnly only status = (status ≡ only) ⊎ ((status ≡ OutOfMemory) ⊎ (status ≡ DiskFault))
+
+-- the faults of the file come exactly by their causes
+pub record HasFileFaults (told : Option (List ℕ)) (status : Status) : Type 0 where
+  pub not_journal : (s : List ℕ) → told ≡ Some s → IsNoJournal s → IsOnly NotJournal status
+  pub damaged : (s : List ℕ) (place : ℕ) → told ≡ Some s → IsDamagedAt place s → IsOnly (Damaged place) status
+  pub full : (s : List ℕ) (bytes : ℕ) → told ≡ Some s → IsTooLong journal_limit bytes s → IsOnly (JournalFull bytes) status
 
 -- none was opened: for its cause; but for a fault of the disk, reads give the same, or the same with the closed commit byte 0
 pub record IsUnopened {D : Type 0} (seen : D → Option (List ℕ)) (images : D → List ℕ → Type 0) (moment : D → ℕ) (images_since : D → ℕ → List ℕ → Type 0) (faults : D → ℕ)
@@ -68,21 +76,25 @@ pub record IsUnopened {D : Type 0} (seen : D → Option (List ℕ)) (images : D 
   -- no step was taken, or those of the commands that were found and of the one that is the fault
   pub cost : (steps' ≡ steps) ⊎ ((s : List ℕ) → seen old ≡ Some s → IsFileWithin s steps steps')
 
--- one was opened, with these commands and this length without a command, after which the disk was this one; and then lines were
--- answered over it
-pub record IsApplied {D : Type 0} (seen : D → Option (List ℕ)) (images : D → List ℕ → Type 0) (moment : D → ℕ) (images_since : D → ℕ → List ℕ → Type 0)
-    (old new : D) (status : Status) (steps steps' : ℕ) (left left' held held' : Option (List ℕ)) : Type 0 where
-  pub commands : List Accepted
-  pub base : ℕ
-  pub opened : D
+-- one was opened, with these commands and this length without a command, by steps up to this number
+pub record IsOpened {D : Type 0} (seen : D → Option (List ℕ)) (images : D → List ℕ → Type 0) (moment : D → ℕ) (images_since : D → ℕ → List ℕ → Type 0)
+    (old opened : D) (steps begun base : ℕ) (commands : List Accepted) : Type 0 where
   pub is_history : IsHistory commands
   pub found : (s : List ℕ) → seen old ≡ Some s → IsFound journal_limit (base + lengths_of commands) commands s
   pub good : KeepsGood seen images moment images_since old opened
   pub either : (s : List ℕ) → seen old ≡ Some s → (h : List Accepted) (a : Accepted) → IsHistory (h ++ a ∷ [])
       → Each (images old) (IsGoodFound h a) → (commands ≡ h) ⊎ (commands ≡ h ++ a ∷ [])
   pub whole : Each (images opened) (HasHistory commands)
+  pub cost : begun ≤ steps + history_bound [] commands
+
+-- one was opened, after which the disk was this one; and then lines were answered over it
+pub record IsApplied {D : Type 0} (seen : D → Option (List ℕ)) (images : D → List ℕ → Type 0) (moment : D → ℕ) (images_since : D → ℕ → List ℕ → Type 0)
+    (old new : D) (status : Status) (steps steps' : ℕ) (left left' held held' : Option (List ℕ)) : Type 0 where
+  pub commands : List Accepted
+  pub base : ℕ
+  pub opened : D
   pub begun : ℕ
-  pub opening_steps : begun ≤ steps + history_bound [] commands
+  pub opening : IsOpened seen images moment images_since old opened steps begun base commands
   -- the commands after it, and the one that was being appended
   pub after : List Accepted
   pub pending : List Accepted

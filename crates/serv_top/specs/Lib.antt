@@ -7,3 +7,4 @@ pub mod Outcome
 pub mod Serving
 pub mod Stop
 pub mod Journal
+pub mod Shown

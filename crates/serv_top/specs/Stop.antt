@@ -1,4 +1,8 @@
 -- Why no further line is answered, and the status of such a run.
+use Rattle.svc_types.specs.declared.replies.Refusal.{Refusal}
+use Rattle.svc_types.specs.declared.replies.Refusal.TheVariants as refusal
+use Rattle.svc_core.specs.declared.fault.CoreFault.{CoreFault}
+use Rattle.svc_core.specs.declared.fault.CoreFault.TheVariants as core
 use Rattle.serv_engine.specs.declared.fault.EngineFault.{EngineFault}
 use Rattle.serv_engine.specs.declared.fault.EngineFault.TheVariants as fault
 use Rattle.serv_machine.specs.declared.faults.Halt.{Halt}
@@ -25,3 +29,13 @@ status_of_fault fault.DiskFault = status.DiskFault
 status_of_fault (fault.JournalFull bytes) = status.JournalFull bytes
 status_of_fault fault.OutOfMemory = status.OutOfMemory
 status_of_fault (fault.Refused why) = status.OutOfMemory
+
+-- the status where a rule refuses a query: no other rule refuses a report, balances or the custodial accounts
+abbrev pub status_of_refusal : Refusal → Status
+status_of_refusal (refusal.NotClosed last) = status.NoReport last
+status_of_refusal other = status.OutOfMemory
+
+-- the status where a query has no answer
+abbrev pub status_of_asking : CoreFault → Status
+status_of_asking (core.Refused why) = status_of_refusal why
+status_of_asking core.OutOfMemory = status.OutOfMemory

@@ -1,16 +1,68 @@
 -- The words of the command line that the program knows.
-use Rattle.std.specs.Prelude.{ℕ, ◌==◌, Bool, false, not, ◌&&◌, List, [], ◌∷◌, length, codes, Option, Some, None, if◌then◌else◌}
+use Rattle.std.specs.Prelude.{ℕ, ◌+◌, ◌-◌, ◌*◌, ◌==◌, nat_le, Bool, ◌&&◌, List, [], ◌∷◌, length, codes, Option, Some, None, if◌then◌else◌}
 use Rattle.std.specs.Str.{bytes_eq}
+use Rattle.svc_base.specs.Calendar.{year_of_month}
+use Rattle.svc_base.specs.Text.{IsReadMonth, text_of_month}
+use Rattle.svc_types.specs.declared.requests.Query.{Query}
+use Rattle.svc_types.specs.declared.requests.Query.TheVariants as query
 use Rattle.serv_top.specs.declared.words.Task.{Task}
-use Rattle.serv_top.specs.declared.words.Task.TheVariants.{Init, Apply, Session}
+use Rattle.serv_top.specs.declared.words.Task.TheVariants.{Init, Apply, Session, Show}
+
+-- two digits as a number
+abbrev pub number_of_pair : ℕ → ℕ → ℕ
+number_of_pair a b = 10 * (a - 48) + (b - 48)
+
+-- the only month that a text may spell
+abbrev pub month_by_digits : List ℕ → ℕ
+month_by_digits (a ∷ b ∷ c ∷ d ∷ dash ∷ e ∷ f ∷ []) =
+    12 * (100 * number_of_pair a b + number_of_pair c d) + (number_of_pair e f - 1)
+month_by_digits text = 0
+
+-- a month of the years 1990 to 2099
+abbrev pub is_read_month : ℕ → Bool
+is_read_month m = nat_le 1990 (year_of_month m) && nat_le (year_of_month m) 2099
+
+-- the month of the years 1990 to 2099 that a text spells
+unfoldable pub month_in : List ℕ → Option ℕ
+month_in text =
+    if is_read_month (month_by_digits text) && bytes_eq text (text_of_month (month_by_digits text)) then
+    Some (month_by_digits text) else None
 
 abbrev pub task_of_word : List ℕ → Option Task
 task_of_word word =
     if bytes_eq word (codes "init") then Some Init
     else (if bytes_eq word (codes "apply") then Some Apply
-    else (if bytes_eq word (codes "session") then Some Session else None))
+    else (if bytes_eq word (codes "session") then Some Session
+    else (if bytes_eq word (codes "custodial") then Some (Show query.Custodial) else None)))
 
--- a journal's name, which is not empty, and what is to be done
+-- what a word asks for about a month
+abbrev pub task_about : List ℕ → Option ℕ → Option Task
+task_about word None = None
+task_about word (Some month) =
+    if bytes_eq word (codes "report") then Some (Show (query.Report month))
+    else (if bytes_eq word (codes "trial") then Some (Show (query.Trial month)) else None)
+
+-- the queries that words ask
+abbrev pub IsShowing : Query → Type 0
+IsShowing (query.Report m) = IsReadMonth m
+IsShowing (query.Trial m) = IsReadMonth m
+IsShowing query.Custodial = Unit {0}
+IsShowing (query.Books l) = ⊥
+IsShowing (query.At l d) = ⊥
+IsShowing (query.Payoff l d) = ⊥
+IsShowing (query.Escrow l) = ⊥
+IsShowing (query.Rows number) = ⊥
+
+-- words ask no other query
+abbrev pub IsTask : Task → Type 0
+IsTask Init = Unit {0}
+IsTask Apply = Unit {0}
+IsTask Session = Unit {0}
+IsTask (Show q) = IsShowing q
+
+-- a journal's name, which is not empty, and what is to be done, for two of these a month
 abbrev pub task_in : List (List ℕ) → Option Task
 task_in (journal ∷ word ∷ []) = if length journal == 0 then None else task_of_word word
+task_in (journal ∷ word ∷ month ∷ []) =
+    if length journal == 0 then None else task_about word (month_in month)
 task_in words = None

@@ -5,6 +5,7 @@ mod answering;
 mod laws;
 mod over_journal;
 mod serving;
+mod showing;
 mod status;
 mod stream;
 mod top;

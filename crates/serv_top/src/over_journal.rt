@@ -19,7 +19,7 @@ use svc_base::Steps;
 use svc_checkpoint::Checked;
 
 /// The limit on a journal that is opened: 268,435,456 bytes.
-const JOURNAL_LIMIT: u64 = 1 << 28;
+pub(crate) const JOURNAL_LIMIT: u64 = 1 << 28;
 
 /// Makes an empty journal. It takes no memory.
 pub(crate) fn make_journal<D: Disk>(disk: &mut D) -> Status
@@ -40,7 +40,7 @@ pub(crate) fn make_journal<D: Disk>(disk: &mut D) -> Status
 }
 
 /// The status of a run that opened no journal.
-fn unopened(fault: EngineFault) -> Status
+pub(crate) fn unopened(fault: EngineFault) -> Status
     ensures { result ≡ status_of_fault fault }
 {
     match fault {

@@ -4,6 +4,7 @@ ghost use Rattle.std.specs.Prelude.{◌≡◌};
 ghost use Rattle.serv_top.specs.Status.{number_of};
 
 use std::fmt;
+use svc_base::Month;
 
 /// How a run ended. The program's exit status is its number.
 #[derive(Clone, Copy, Debug, PartialEq, Eq)]
@@ -24,6 +25,8 @@ pub enum Status {
     AlreadyThere,
     /// The place of the first record that is none, or of whose command the ones before it leave no place.
     Damaged(u64),
+    /// No report of the month is there; the last closed month, where one is closed.
+    NoReport(Option<Month>),
     /// The input is too long: this many bytes were taken.
     TooMuch(u64),
     /// Memory that the run asked for was not to be had.
@@ -46,6 +49,7 @@ impl Status {
             Status::NotJournal => 6,
             Status::AlreadyThere => 7,
             Status::Damaged(_) => 8,
+            Status::NoReport(_) => 10,
             Status::TooMuch(_) => 11,
             Status::OutOfMemory => 12,
             Status::JournalFull(_) => 13,
@@ -66,6 +70,11 @@ impl fmt::Display for Status {
             Status::NotJournal => write!(f, "{number} NotJournal"),
             Status::AlreadyThere => write!(f, "{number} AlreadyThere"),
             Status::Damaged(place) => write!(f, "{number} Damaged {place}"),
+            Status::NoReport(None) => write!(f, "{number} NoReport -"),
+            Status::NoReport(Some(last)) => {
+                let (year, month) = (last.year(), last.month());
+                write!(f, "{number} NoReport {year}-{month:02}")
+            }
             Status::TooMuch(bytes) => write!(f, "{number} TooMuch {bytes}"),
             Status::OutOfMemory => write!(f, "{number} OutOfMemory"),
             Status::JournalFull(bytes) => write!(f, "{number} JournalFull {bytes}"),

@@ -1,6 +1,7 @@
 //! The program's top call.
 
-ghost use Rattle.std.specs.Prelude.{◌≡◌, ◌≢◌, ℕ, ◌+◌, ◌<◌, ◌≤◌, ◌⊎◌, ◌↔◌, ◌∷◌, ◌++◌, List, [], map, length, None, Some};
+ghost use Rattle.std.specs.Prelude.{◌≡◌, ◌≢◌, ℕ, ◌+◌, ◌<◌, ◌≤◌, ◌⊎◌, ◌↔◌, ◌∷◌, ◌++◌, List, [], map, length, Option, None, Some};
+ghost use Rattle.svc_types.specs.declared.requests.Query.{Query};
 ghost use Rattle.svc_world.specs.World.{Accepted};
 ghost use Rattle.svc_world.specs.Judging.{IsHistory};
 ghost use Rattle.serv_disk.specs.Disks.{Each, LeavesOnly};
@@ -9,11 +10,13 @@ ghost use Rattle.serv_journal.specs.Reading.{IsNoJournal};
 ghost use Rattle.serv_engine.specs.Histories.{IsGoodFound};
 ghost use Rattle.serv_engine.specs.Opening.{IsDamagedAt, IsTooLong};
 ghost use Rattle.serv_top.specs.declared.words.Task.TheVariants as task;
-ghost use Rattle.serv_top.specs.Journal.{IsInit, IsOnly, IsUnopened, IsApplied, journal_limit};
+ghost use Rattle.serv_top.specs.Journal.{IsInit, IsOnly, HasFileFaults, IsUnopened, IsApplied, journal_limit};
+ghost use Rattle.serv_top.specs.Shown.{IsShown};
 ghost use Rattle.serv_top.specs.Outcome.{Ran, input_limit};
 ghost use Rattle.serv_top.specs.Words.{task_in};
 
 use crate::over_journal::{apply, make_journal};
+use crate::showing::show;
 use crate::status::Status;
 use crate::stream::serve;
 use crate::words::{Task, read_words};
@@ -52,7 +55,8 @@ fn session<S: Source, K: Sink, L: Ledger>(
 /// Runs what the words ask for, each of which begins with a journal's name, which is not empty. `<journal> init`
 /// makes an empty journal. `<journal> apply` answers the lines of the source, each on the sink, over the
 /// journal of the disk: an accepted command is in it before it is answered. `<journal> session` does so
-/// over books in memory that begin empty. A last piece without a line feed is a line too. All lines that
+/// over books in memory that begin empty. `<journal> report <month>`, `<journal> trial <month>` and `<journal>
+/// custodial` write that text over the journal. A last piece without a line feed is a line too. All lines that
 /// a line feed ended in the bytes taken are answered before the source is read again.
 pub fn run<S: Source, K: Sink, D: Disk, L: Ledger>(
     alloc: Global,
@@ -87,6 +91,17 @@ pub fn run<S: Source, K: Sink, D: Disk, L: Ledger>(
     ensures full { (s : List ℕ) (bytes : ℕ) → D.seen disk.old ≡ Some s → IsTooLong journal_limit bytes s
         → task_in (map (λ w. w.now) words.now) ≡ Some task.Apply → IsOnly (Status.JournalFull bytes) result }
 
+    // The answer to a query over a journal is written: the text of `? report`, `? trial` or `? custodial`.
+    ensures show { (q : Query) → task_in (map (λ w. w.now) words.now) ≡ Some (task.Show q)
+        → (IsUnopened D.seen D.images D.moment D.images_since D.faults disk.old disk.new result
+        steps.old steps.new × (snk.new ≡ snk.old))
+        ⊎ IsShown D.seen D.images D.moment D.images_since disk.old disk.new result q
+        steps.old steps.new (K.held snk.old) (K.held snk.new) }
+    ensures show_source { (q : Query) → task_in (map (λ w. w.now) words.now) ≡ Some (task.Show q)
+        → src.new ≡ src.old }
+    ensures show_file { (q : Query) → task_in (map (λ w. w.now) words.now) ≡ Some (task.Show q)
+        → HasFileFaults (D.seen disk.old) result }
+
     // A journal is made of a file of at most 9 bytes, and nothing else is touched.
     ensures init { task_in (map (λ w. w.now) words.now) ≡ Some task.Init
         → IsInit result (D.seen disk.old) (D.seen disk.new) (D.images disk.new) (D.faults disk.old) (D.faults disk.new)
@@ -120,6 +135,13 @@ pub fn run<S: Source, K: Sink, D: Disk, L: Ledger>(
         → task_in (map (λ w. w.now) words.now) ≡ Some task.Apply
         → (result ≡ Status.Done) ⊎ ((result ≡ Status.OutOfMemory)
         ⊎ ((bytes : ℕ) × (result ≡ Status.JournalFull bytes))) }
+    ensures complete_show { (q : Query) (s : List ℕ) (h : List Accepted) (a : Accepted)
+        → D.seen disk.old ≡ Some s → IsHistory (h ++ a ∷ []) → Each (D.images disk.old) (IsGoodFound h a)
+        → ¬ HasRisen (K.faults snk.old) (K.faults snk.new) → ¬ HasRisen (D.faults disk.old) (D.faults disk.new)
+        → task_in (map (λ w. w.now) words.now) ≡ Some (task.Show q)
+        → ((result ≡ Status.Done) ⊎ ((result ≡ Status.OutOfMemory)
+        ⊎ ((bytes : ℕ) × (result ≡ Status.JournalFull bytes))))
+        ⊎ ((last : Option ℕ) × (result ≡ Status.NoReport last)) }
     ensures complete_init { ¬ HasRisen (D.faults disk.old) (D.faults disk.new)
         → task_in (map (λ w. w.now) words.now) ≡ Some task.Init
         → (result ≡ Status.Done) ⊎ (result ≡ Status.AlreadyThere) }
@@ -128,6 +150,7 @@ pub fn run<S: Source, K: Sink, D: Disk, L: Ledger>(
         None => Status::Usage,
         Some(Task::Init) => make_journal(disk),
         Some(Task::Apply) => apply(alloc, src, snk, disk, steps),
+        Some(Task::Show(query)) => show(alloc, &query, snk, disk, steps),
         Some(Task::Session) => session(alloc, src, snk, steps),
     }
 }

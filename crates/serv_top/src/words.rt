@@ -1,7 +1,11 @@
 //! The words of the command line.
 
-ghost use Rattle.std.specs.Prelude.{◌≡◌, map};
-ghost use Rattle.serv_top.specs.Words.{task_in, task_of_word};
+ghost use Rattle.std.specs.Prelude.{◌≡◌, IfSome, map};
+ghost use Rattle.svc_base.specs.Text.{IsReadMonth};
+ghost use Rattle.serv_top.specs.Words.{IsTask, month_in, task_about, task_in, task_of_word};
+
+use svc_base::{Month, read_month};
+use svc_types::Query;
 
 /// What the program does.
 #[derive(Clone, Copy, Debug, PartialEq, Eq)]
@@ -12,11 +16,15 @@ pub(crate) enum Task {
     Apply,
     /// Answers request lines over books in memory.
     Session,
+    /// Writes the answer to a query over the journal: a month's report, its balances, or the line of the
+    /// custodial accounts.
+    Show(Query),
 }
 
 /// What a word asks for.
 fn task_of(word: &str) -> Option<Task>
-    ensures { result ≡ task_of_word word.now }
+    ensures task { result ≡ task_of_word word.now }
+    ensures well { IfSome result IsTask }
 {
     if word == "init" {
         return Some(Task::Init);
@@ -27,12 +35,43 @@ fn task_of(word: &str) -> Option<Task>
     if word == "session" {
         return Some(Task::Session);
     }
+    if word == "custodial" {
+        return Some(Task::Show(Query::Custodial));
+    }
+    None
+}
+
+/// The month that a text spells.
+#[tactic(auto, using(crate::proofs::WordLemmas::month_read, crate::proofs::WordLemmas::month_none))]
+fn month_of(text: &str) -> Option<Month>
+    ensures month { result ≡ month_in text.now }
+    ensures range { IfSome result IsReadMonth }
+{
+    match read_month(text.as_bytes()) {
+        Ok(month) => Some(month),
+        Err(_) => None,
+    }
+}
+
+/// What a word asks for about a month.
+fn task_of_month(word: &str, text: &str) -> Option<Task>
+    ensures task { result ≡ task_about word.now (month_in text.now) }
+    ensures well { IfSome result IsTask }
+{
+    let month = month_of(text)?;
+    if word == "report" {
+        return Some(Task::Show(Query::Report(month)));
+    }
+    if word == "trial" {
+        return Some(Task::Show(Query::Trial(month)));
+    }
     None
 }
 
 /// What the words ask for, which begin with a journal's name.
 pub(crate) fn read_words(words: &[&str]) -> Option<Task>
-    ensures { result ≡ task_in (map (λ w. w.now) words.now) }
+    ensures task { result ≡ task_in (map (λ w. w.now) words.now) }
+    ensures well { IfSome result IsTask }
 {
     match words {
         [journal, word] => {
@@ -40,6 +79,12 @@ pub(crate) fn read_words(words: &[&str]) -> Option<Task>
                 return None;
             }
             task_of(word)
+        }
+        [journal, word, month] => {
+            if journal.is_empty() {
+                return None;
+            }
+            task_of_month(word, month)
         }
         _ => None,
     }

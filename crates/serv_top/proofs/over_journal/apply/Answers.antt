@@ -1,4 +1,4 @@
-use Rattle.std.proofs.Common.{refl, sym, inl, inr, ⊎_elim, ap}
+use Rattle.std.proofs.Common.{refl, inl, inr, ⊎_elim, ap}
 use Rattle.serv_journal.proofs.ReadingLemmas.{risen_from}
 use Rattle.serv_engine.specs.declared.fault.EngineFault.TheVariants as fault
 use Rattle.serv_top.specs.Stop.{status_of_fault}

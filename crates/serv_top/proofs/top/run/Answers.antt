@@ -1,3 +1,4 @@
+use Rattle.serv_top.proofs.ShownLemmas.{complete_shown}
 use Rattle.serv_top.proofs.Applied.{complete_run}
 use Rattle.serv_top.proofs.top.run.Goals as goal
 
@@ -12,3 +13,8 @@ returns-in-Some-Apply-clause-complete_apply g c = λ input s h a left short told
     complete_run g.D.Disk.seen g.D.Disk.images g.D.Disk.moment g.D.Disk.images_since g.D.Disk.faults c.args.disk.now c.apply.new.disk c.apply.result c.args.steps.now c.apply.new.steps
     _ _ _ _ input s h a left short told is_history (good s (g.met.D.Disk.reads_image c.args.disk.now s told)) (λ is. reads (c.apply.ensures.read is)) (λ is. writes (c.apply.ensures.write is))
     (λ is. disks (c.apply.ensures.disk is)) disks c.apply.ensures.applied
+
+pub returns-in-Some-Show-clause-complete_show : goal.returns-in-Some-Show-clause-complete_show
+returns-in-Some-Show-clause-complete_show g c = λ q s h a told is_history good writes disks task.
+    complete_shown g.D.Disk.seen g.D.Disk.images g.D.Disk.moment g.D.Disk.images_since g.D.Disk.faults c.args.disk.now c.show.new.disk c.show.result _ c.args.steps.now c.show.new.steps
+    _ _ s h a told is_history (good s (g.met.D.Disk.reads_image c.args.disk.now s told)) (λ is. writes (c.show.ensures.write is)) disks c.show.ensures.shown

@@ -1,4 +1,4 @@
-use Rattle.std.proofs.Common.{◌≡◌, refl, ap, arith, ⊎_elim}
+use Rattle.std.proofs.Common.{ap, arith, ⊎_elim}
 use Rattle.serv_machine.proofs.MemoryLemmas.{in_memory}
 use Rattle.serv_top.proofs.Running.{ran_nothing, ran_serving}
 use Rattle.serv_top.proofs.top.session.Goals as goal

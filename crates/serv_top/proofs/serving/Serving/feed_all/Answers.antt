@@ -1,10 +1,8 @@
-use Rattle.std.proofs.Common.{◌≡◌, ◌+◌, ◌≤◌, ◌++◌, [], ◌∷◌, take, drop, get_or, length, refl, sym, ap, arith, subst, append-nil}
+use Rattle.std.proofs.Common.{◌≡◌, ◌+◌, ◌++◌, [], ◌∷◌, take, drop, get_or, length, refl, sym, ap, arith, subst, append-nil}
 use Rattle.std.proofs.lemmas.List.{take_all}
 use Rattle.serv_machine.proofs.OnDiskLemmas.{disk_none, disk_more}
-use Rattle.serv_top.specs.Lines.{ended_lines}
 use Rattle.serv_top.specs.Machine.{stand}
-use Rattle.serv_top.specs.Serving.{Served, Stops}
-use Rattle.serv_top.specs.declared.serving.Stop.TheVariants.{WriteFault}
+use Rattle.serv_top.specs.Serving.{Served}
 use Rattle.serv_top.proofs.ServedLemmas.{served_flushed, stopped_by_fault, stops_more, byte_among, byte_more}
 use Rattle.serv_top.proofs.serving.Serving.feed_all.Goals as goal
 

@@ -1,4 +1,4 @@
-use Rattle.std.proofs.Common.{rules, ◌≡◌, [], refl, arith, length, subst}
+use Rattle.std.proofs.Common.{rules, ◌≡◌, [], refl}
 use Rattle.serv_machine.proofs.OnDiskLemmas.{disk_none}
 use Rattle.serv_top.proofs.ServedLemmas.{served_no_more, served_last, cut_last, halted_last, few_none}
 use Rattle.serv_top.proofs.serving.Serving.finish.Goals as goal

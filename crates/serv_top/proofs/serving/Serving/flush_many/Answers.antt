@@ -1,4 +1,4 @@
-use Rattle.std.proofs.lemmas.Result.{on_ok_weaker, on_err_weaker}
+use Rattle.std.proofs.lemmas.Result.{on_err_weaker}
 use Rattle.serv_top.proofs.ResultLemmas.{both_ok}
 use Rattle.serv_top.proofs.ServedLemmas.{served_flushed, stopped_by_fault}
 use Rattle.serv_top.proofs.serving.Serving.flush_many.Goals as goal

@@ -1,0 +1,95 @@
+-- A query that is answered over a journal.
+use Rattle.std.proofs.Common.{◌≡◌, ◌⊎◌, ℕ, List, [], ◌∷◌, ◌++◌, refl, sym, ap, subst, ◌∙◌, inl, inr, ⊎_elim, Bool, true, false}
+use Rattle.std.specs.Prelude.{Option, Some, not}
+use Rattle.std.proofs.KnownBytes.{Appends-nil}
+use Rattle.svc_types.specs.Requests.{IsQuery}
+use Rattle.svc_types.specs.declared.requests.Query.{Query}
+use Rattle.svc_types.specs.declared.requests.Query.TheVariants as query
+use Rattle.svc_types.specs.declared.replies.Refusal.{Refusal}
+use Rattle.svc_types.specs.declared.replies.Refusal.TheVariants as refusal
+use Rattle.period_adjust.specs.Conditions.{first_month, last_month}
+use Rattle.svc_world.specs.World.{World, Accepted, world}
+use Rattle.svc_world.specs.Judging.{IsHistory}
+use Rattle.svc_world.specs.Refusals.{query_refusal, first_of, case, report_cases, is_closed_by, is_before_first}
+use Rattle.serv_disk.specs.Faults.{HasRisen}
+use Rattle.serv_engine.specs.Histories.{IsGoodFound}
+use Rattle.serv_top.specs.declared.status.Status.{Status}
+use Rattle.serv_top.specs.declared.status.Status.TheVariants as status
+use Rattle.svc_core.specs.declared.fault.CoreFault.{CoreFault}
+use Rattle.svc_core.specs.declared.fault.CoreFault.TheVariants as core
+use Rattle.svc_core.specs.Core.{IsQueryFault}
+use Rattle.serv_top.specs.Stop.{status_of_asking, status_of_refusal}
+use Rattle.serv_top.specs.Journal.{IsUnopened}
+use Rattle.serv_top.specs.Shown.{IsShown, IsShownAs, Shows, refusal_over}
+use Rattle.serv_top.specs.Words.{IsShowing}
+use Rattle.serv_top.proofs.Applied.{Completes, unopened_ends}
+
+pub is_query : (q : Query) → IsShowing q → IsQuery q
+is_query (query.Report m) is = is
+is_query (query.Trial m) is = is
+is_query query.Custodial is = is
+is_query (query.Books l) is = absurd is
+is_query (query.At l d) is = absurd is
+is_query (query.Payoff l d) is = absurd is
+is_query (query.Escrow l) is = absurd is
+is_query (query.Rows number) is = absurd is
+
+-- no other rule refuses them
+only_cause : (b c : Bool) (r why : Refusal) → first_of (case b r ∷ case c r ∷ []) ≡ Some why → r ≡ why
+only_cause true c r why e = cc
+only_cause false true r why e = cc
+only_cause false false r why e = absurd (cc)
+
+report_only : (w : World) (m : ℕ) (why : Refusal) → first_of (report_cases w m) ≡ Some why → refusal.NotClosed (last_month w.seals.reports) ≡ why
+report_only w m why e =
+    only_cause (not (is_closed_by (last_month w.seals.reports) m)) (is_before_first (first_month w.seals.reports) m) (refusal.NotClosed (last_month w.seals.reports)) why e
+
+not_closed_only : (h : List Accepted) (q : Query) (why : Refusal) → IsShowing q → refusal_over h q ≡ Some why → (last : Option ℕ) × (refusal.NotClosed last ≡ why)
+unfolding query_refusal
+not_closed_only h (query.Report m) why is e = (last_month (world h).seals.reports, report_only (world h) m why e)
+not_closed_only h (query.Trial m) why is e = (last_month (world h).seals.reports, report_only (world h) m why e)
+not_closed_only h query.Custodial why is e = absurd (cc)
+not_closed_only h (query.Books l) why is e = absurd is
+not_closed_only h (query.At l d) why is e = absurd is
+not_closed_only h (query.Payoff l d) why is e = absurd is
+not_closed_only h (query.Escrow l) why is e = absurd is
+not_closed_only h (query.Rows number) why is e = absurd is
+
+shows_refused : (h : List Accepted) (q : Query) (why : Refusal) (held : Option (List ℕ)) → IsShowing q → refusal_over h q ≡ Some why → Shows (status_of_refusal why) h q held held
+shows_refused h q why held is e =
+    let only = not_closed_only h q why is e in
+    subst (λ w. Shows (status_of_refusal w) h q held held) only.1
+    (record { written = []; wrote = Appends-nil held; says = (refl, e ∙ ap Some (sym only.1)) })
+
+pub shows_fault : (h : List Accepted) (q : Query) (fault : CoreFault) (held : Option (List ℕ)) → IsShowing q → IsQueryFault (refusal_over h q) fault → Shows (status_of_asking fault) h q held held
+shows_fault h q (core.Refused why) held is e = shows_refused h q why held is e
+shows_fault h q core.OutOfMemory held is e = record { written = []; wrote = Appends-nil held; says = refl }
+
+-- ---- completeness
+
+abbrev pub CompletesShown : Status → Type 0
+CompletesShown st = Completes st ⊎ ((last : Option ℕ) × (st ≡ status.NoReport last))
+
+shown_ends : (st : Status) (h : List Accepted) (q : Query) (written : List ℕ) → (st ≡ status.WriteFault → ⊥) → IsShownAs st h q written → CompletesShown st
+shown_ends status.Done h q written calm is = inl (inl refl)
+shown_ends status.WriteFault h q written calm is = absurd (calm refl)
+shown_ends (status.NoReport last) h q written calm is = inr (last, refl)
+shown_ends status.OutOfMemory h q written calm is = inl (inr (inl refl))
+shown_ends status.Usage h q written calm is = absurd is
+shown_ends status.ReadFault h q written calm is = absurd is
+shown_ends status.DiskFault h q written calm is = absurd is
+shown_ends status.NotJournal h q written calm is = absurd is
+shown_ends status.AlreadyThere h q written calm is = absurd is
+shown_ends (status.Damaged place) h q written calm is = absurd is
+shown_ends (status.TooMuch bytes) h q written calm is = absurd is
+shown_ends (status.JournalFull bytes) h q written calm is = absurd is
+
+pub complete_shown : {D A : Type 0} (seen : D → Option (List ℕ)) (images : D → List ℕ → Type 0) (moment : D → ℕ) (images_since : D → ℕ → List ℕ → Type 0) (faults : D → ℕ) (old new : D) (st : Status) (q : Query)
+    (steps steps' : ℕ) (held held' : Option (List ℕ)) (s : List ℕ) (h : List Accepted) (a : Accepted) → seen old ≡ Some s → IsHistory (h ++ a ∷ []) → IsGoodFound h a s
+    → (st ≡ status.WriteFault → ⊥) → (HasRisen (faults old) (faults new) → ⊥)
+    → (IsUnopened seen images moment images_since faults old new st steps steps' × A) ⊎ IsShown seen images moment images_since old new st q steps steps' held held' → CompletesShown st
+complete_shown {D} seen images moment images_since faults old new st q steps steps' held held' s h a told is_history good writes calm which =
+    ⊎_elim
+    (λ closed. inl (unopened_ends st s h a (faults old) (faults new) (seen old) told is_history good closed.0.cause calm))
+    (λ over. shown_ends st over.commands q over.shown.written writes over.shown.says)
+    which
