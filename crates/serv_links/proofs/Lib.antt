@@ -1,0 +1,4 @@
+pub mod ReplyLemmas
+pub mod AskLemmas
+pub mod RoundLemmas
+pub mod GoingLemmas
