@@ -2,3 +2,4 @@ pub mod ReplyLemmas
 pub mod AskLemmas
 pub mod RoundLemmas
 pub mod GoingLemmas
+pub mod DoorsLemmas

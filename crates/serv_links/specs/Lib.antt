@@ -3,3 +3,4 @@ pub mod Responses
 pub mod Told
 pub mod Outcomes
 pub mod Links
+pub mod Doors

@@ -2,11 +2,15 @@
 #![tactic(auto)]
 
 mod answering;
+mod doors;
 mod link_end;
 mod outcome;
 mod replying;
 mod serving;
+mod summary;
 mod told;
 
+pub use doors::{DoorsEnd, MOST_LINKS, Service, serve_doors};
 pub use link_end::LinkEnd;
 pub use serving::{LINK_LIMIT, serve_link};
+pub use summary::Summary;
