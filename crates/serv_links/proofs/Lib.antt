@@ -3,3 +3,4 @@ pub mod AskLemmas
 pub mod RoundLemmas
 pub mod GoingLemmas
 pub mod DoorsLemmas
+pub mod OneLemmas

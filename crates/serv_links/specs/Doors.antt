@@ -1,8 +1,10 @@
 -- Links that are served one after another, as they come from doors.
-use Rattle.std.specs.Prelude.{◌≡◌, ℕ, ◌+◌, ◌<◌, ◌≤◌, ◌⊎◌, List, [], ◌∷◌, ◌++◌, length, sum_by, Option, Some, None, ⊤}
+use Rattle.std.specs.Prelude.{◌≡◌, ℕ, ◌+◌, ◌<◌, ◌≤◌, ◌⊎◌, List, [], ◌∷◌, ◌++◌, length, sum_by, codes, Option, Some, None, ⊤}
 use Rattle.std.specs.Io.KnownBytes.{Appends}
 use Rattle.svc_world.specs.World.{Accepted}
 use Rattle.serv_disk.specs.Faults.{HasRisen}
+use Rattle.svc_base.specs.Text.{text_of_number}
+use Rattle.serv_line.specs.Replies.{ended, number_field}
 use Rattle.serv_machine.specs.OnDisk.{OnDisk}
 use Rattle.serv_links.specs.declared.doors.DoorsEnd.{DoorsEnd}
 use Rattle.serv_links.specs.declared.doors.DoorsEnd.TheVariants.{Done, DiskFault, NetFault}
@@ -103,6 +105,19 @@ pub record IsSummary (ends : List LinkEnd) (summary : Summary) : Type 0 where
   pub broken : summary.broken ≡ sum_by as_broken ends
   pub cut : summary.cut ≡ sum_by as_cut ends
   pub memory : summary.memory ≡ sum_by as_memory ends
+
+-- how many links were served, and how many requests were answered
+abbrev pub text_of_answered : Summary → List ℕ
+text_of_answered s = codes "served " ++ text_of_number s.served ++ codes " requests " ++ text_of_number s.requests
+
+-- how many links ended by a fault, at the limit, and for want of memory
+abbrev pub text_of_unanswered : Summary → List ℕ
+text_of_unanswered s =
+    number_field (codes "broken") s.broken ++ number_field (codes "cut") s.cut ++ number_field (codes "memory") s.memory
+
+-- the line that says it
+unfoldable pub text_of_summary : Summary → List ℕ
+text_of_summary s = ended (text_of_answered s ++ text_of_unanswered s)
 
 -- with what is left on a disk
 module _ {D : Type 0} (images : D → List ℕ → Type 0) (moment : D → ℕ) (images_since : D → ℕ → List ℕ → Type 0) (old new : D) where

@@ -3,6 +3,7 @@
 
 mod answering;
 mod doors;
+mod laws;
 mod link_end;
 mod outcome;
 mod replying;
@@ -11,6 +12,10 @@ mod summary;
 mod told;
 
 pub use doors::{DoorsEnd, MOST_LINKS, Service, serve_doors};
+pub use laws::any_pieces;
 pub use link_end::LinkEnd;
 pub use serving::{LINK_LIMIT, serve_link};
-pub use summary::Summary;
+pub use summary::{Summary, write_summary};
+
+#[cfg(test)]
+mod tests;

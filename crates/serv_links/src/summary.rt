@@ -1,11 +1,13 @@
 //! What is counted of the links that were served.
 
-ghost use Rattle.std.specs.Prelude.{◌≡◌, ◌+◌, ◌*◌, ◌^◌, ◌<◌, ◌≤◌, ◌++◌, List, [], ◌∷◌, IfOk, OnOk, OnErr};
-ghost use Rattle.serv_links.specs.declared.link_end.LinkEnd as ends;
+ghost use Rattle.std.specs.Prelude.{◌≡◌, ◌+◌, ◌*◌, ◌^◌, ◌<◌, ◌≤◌, ◌++◌, [], IfOk, OnOk};
 ghost use Rattle.serv_links.specs.Links.{number_in, link_limit};
-ghost use Rattle.serv_links.specs.Doors.{IsSummary, as_broken, as_cut, as_memory};
+ghost use Rattle.serv_links.specs.Doors.{IsSummary, as_broken, as_cut, as_memory, text_of_answered, text_of_summary, text_of_unanswered};
 
 use crate::link_end::LinkEnd;
+use serv_line::{push_bytes, push_number, push_number_field, push_wide};
+use std::alloc::Global;
+use svc_base::OutOfMemory;
 
 /// What is counted of the links that were served: how many there were, the requests that were answered, and
 /// how many links ended by a fault of the link, at the limit, and for want of memory.
@@ -64,4 +66,37 @@ impl Summary {
             }
         }
     }
+}
+
+/// Appends how many links were served, and how many requests were answered.
+fn push_answered(out: &mut Vec<u8>, summary: &Summary) -> Result<(), OutOfMemory>
+    ensures { OnOk result (out.new.items ≡ out.old.items ++ text_of_answered summary.now) }
+{
+    push_bytes(out, b"served ")?;
+    push_number(out, summary.served)?;
+    push_bytes(out, b" requests ")?;
+    push_wide(out, summary.requests)?;
+    Ok(())
+}
+
+/// Appends how many links ended otherwise.
+fn push_unanswered(out: &mut Vec<u8>, summary: &Summary) -> Result<(), OutOfMemory>
+    ensures { OnOk result (out.new.items ≡ out.old.items ++ text_of_unanswered summary.now) }
+{
+    push_number_field(out, b"broken", summary.broken)?;
+    push_number_field(out, b"cut", summary.cut)?;
+    push_number_field(out, b"memory", summary.memory)?;
+    Ok(())
+}
+
+/// The line that says what was counted.
+#[tactic(auto, unfolding(crate::specs::Doors::text_of_summary))]
+pub fn write_summary(alloc: Global, summary: &Summary) -> Result<Vec<u8>, OutOfMemory>
+    ensures { IfOk result (λ text. text.items ≡ text_of_summary summary.now) }
+{
+    let mut out = Vec::new(alloc);
+    push_answered(&mut out, summary)?;
+    push_unanswered(&mut out, summary)?;
+    push_bytes(&mut out, b"\n")?;
+    Ok(out)
 }
