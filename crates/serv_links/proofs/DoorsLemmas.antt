@@ -101,6 +101,8 @@ nothing_pending (NoMemory n) reads writes left left' s s' pending added calm is 
 
 -- ---- links so far
 
+-- ---- links so far
+
 -- a link that was served
 pub link_of : {D C : Type 0} (images : D → List ℕ → Type 0) (moment : D → ℕ) (images_since : D → ℕ → List ℕ → Type 0) (left held : C → Option (List ℕ)) (reads writes : C → ℕ) (old new : D)
     (e : LinkEnd) (x y : C) (s s' : Stand)
@@ -143,22 +145,25 @@ module _ {D C : Type 0} (images : D → List ℕ → Type 0) (moment : D → ℕ
       served = served_more P along.ends along.has.came along.has.back s t s' [] pending e x y along.has.served one;
     }
 
-    module _ (new : D) (summary' : Summary) (c2 c3 b2 b3 : Option (List C)) (e : LinkEnd) (x y : C) (s' : Stand) (pending : List Accepted)
-        (next : IsNext c1 c2 (Some x)) (stays : c3 ≡ c2) (kept : b2 ≡ b1) (back : IsBack b2 b3 y) (one : P e x y t s' pending)
-        (disk : OnDisk images moment images_since mid new t.history.commands s'.history.commands pending)
+    module _ (new : D) (summary' : Summary) (c2 c3 b2 b3 : Option (List C)) (e : LinkEnd) (x y : C) (s' : Stand)
+        (next : IsNext c1 c2 (Some x)) (stays : c3 ≡ c2) (kept : b2 ≡ b1) (back : IsBack b2 b3 y)
+        (link : Writes images moment images_since mid new (Serves e (HasRisen (reads x) (reads y)) (HasRisen (writes x) (writes y)) (left x) (left y) t s') t.history.commands s'.history.commands (held x) (held y))
         (counted : IsSummary (along.ends ++ e ∷ []) summary') where
-      disk_on : OnDisk images moment images_since old new s.history.commands s'.history.commands pending
-      disk_on = disk_more images moment images_since old mid new s.history.commands t.history.commands s'.history.commands pending along.disk disk
+      disk_on : OnDisk images moment images_since old new s.history.commands s'.history.commands link.pending
+      disk_on = disk_more images moment images_since old mid new s.history.commands t.history.commands s'.history.commands link.pending along.disk link.disk
+
+      has_on : HasServed P c0 c3 b0 b3 (along.ends ++ e ∷ []) s s' link.pending
+      has_on = has_more c2 c3 b2 b3 e x y s' link.pending next stays kept back (record { added = link.wrote; appends = link.appends; serves = link.says_so })
 
       long : length (along.ends ++ e ∷ []) ≡ n + 1
       long = let joined = length-append along.ends (e ∷ []) in let is = along.count in omega arith
 
       pub along_more : ¬ (IsDiskEnd e) → Along old new summary' (n + 1) c0 c3 b0 b3 s s'
       along_more calm =
-          let none : pending ≡ [] = nothing_pending e _ _ _ _ t s' pending one.added calm one.serves in
+          let none : link.pending ≡ [] = nothing_pending e _ _ _ _ t s' link.pending link.wrote calm link.says_so in
           record {
             ends = along.ends ++ e ∷ [];
-            has = subst (λ p. HasServed P c0 c3 b0 b3 (along.ends ++ e ∷ []) s s' p) none (has_more c2 c3 b2 b3 e x y s' pending next stays kept back one);
+            has = subst (λ p. HasServed P c0 c3 b0 b3 (along.ends ++ e ∷ []) s s' p) none has_on;
             calm = calm_more along.ends e along.calm calm;
             counted = counted;
             count = long;
@@ -168,8 +173,8 @@ module _ {D C : Type 0} (images : D → List ℕ → Type 0) (moment : D → ℕ
       pub along_stops : (most : ℕ) → n < most → IsDiskEnd e → ServesDoors images moment images_since old new P doors_end.DiskFault summary' most c0 c3 b0 b3 s s'
       along_stops most below failed = record {
         ends = along.ends ++ e ∷ [];
-        pending = pending;
-        has = has_more c2 c3 b2 b3 e x y s' pending next stays kept back one;
+        pending = link.pending;
+        has = has_on;
         ended = (record { before = along.ends; last = e; ends_are = refl; others = along.calm; failed = failed }, (let is = long in omega arith));
         counted = counted;
         disk = disk_on;

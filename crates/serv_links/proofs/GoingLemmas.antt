@@ -198,17 +198,20 @@ module _ {D : Type 0} (images : D → List ℕ → Type 0) (moment : D → ℕ) 
       taken = [];
       took = subst (λ l. Consumes left l []) (sym same) (Consumes-nil left);
       within = omega arith;
-      says = inr (refl, record {
-        asks = [];
-        first = record { front = []; more = []; parted = refl; left = Some []; asked = asks_none };
-        mid = s;
-        before = [];
-        answered = answered_none s s refl (omega arith);
-        part = front.part;
-        added_is = refl;
-        front = front.front;
-        stays = (refl, omega arith);
-      });
+      says = inr (
+        refl,
+        record {
+          asks = [];
+          first = record { front = []; more = []; parted = refl; left = Some []; asked = asks_none };
+          mid = s;
+          before = [];
+          answered = answered_none s s refl (omega arith);
+          part = front.part;
+          added_is = refl;
+          front = front.front;
+          stays = (refl, omega arith);
+        },
+      );
     };
     disk = disk;
   }

@@ -1,5 +1,5 @@
 -- Bytes have one answer.
-use Rattle.std.proofs.Common.{◌≡◌, ℕ, Bool, List, [], ◌∷◌, ◌++◌, length, refl, sym, ap, subst, ◌∙◌}
+use Rattle.std.proofs.Common.{◌≡◌, ℕ, ◌<◌, Bool, arith, append_assoc, length-append, List, [], ◌∷◌, ◌++◌, length, refl, sym, ap, subst, ◌∙◌}
 use Rattle.std.specs.Prelude.{Option, Some}
 use Rattle.serde_json.specs.Data.{Data}
 use Rattle.serde_json.specs.Read.{read}
@@ -15,7 +15,12 @@ use Rattle.serv_http.specs.declared.ask.Ask.TheVariants.{Post, Get, Fault}
 use Rattle.serv_http.specs.Streams.{AsksTo}
 use Rattle.serv_http.proofs.StreamLemmas.{asks-unique, asks-first}
 use Rattle.serv_links.specs.Meanings.{Meaning, Asks, Faulty, Means, Mean}
-use Rattle.serv_links.specs.Responses.{Stand, responses_to, after_all}
+use Rattle.serv_links.specs.Responses.{Stand, response_to, responses_to, history_after, after_all}
+use Rattle.serv_links.specs.declared.outcome.Outcome.TheVariants.{Broken}
+use Rattle.serv_links.specs.Outcomes.{IsCutOff}
+use Rattle.serv_links.proofs.RoundLemmas.{responses_append}
+use Rattle.svc_world.specs.World.{Accepted}
+use Rattle.serv_disk.specs.Faults.{IsProperPrefix}
 use Rattle.serv_links.specs.Links.{IsAll, AreFirst}
 
 -- a body asks for one request
@@ -69,3 +74,49 @@ all_one n m taken added more s t u l k p q =
 
 pub first_of_all : (taken : List ℕ) (done asks : List Ask) (l : Option (List ℕ)) → AreFirst taken done → AsksTo taken asks l → (more : List Ask) × (asks ≡ done ++ more)
 first_of_all taken done asks l first asked = asks-first done asks first.front first.more first.left l first.asked (subst (λ (s : List ℕ). AsksTo s asks l) first.parted asked)
+
+-- ---- what is cut off
+
+-- the meanings of requests, parted at one of them
+record Parted (xs : List Ask) (a : Ask) (meant : List Meaning) : Type 0 where
+  ms : List Meaning
+  m : Meaning
+  ks : List Meaning
+  mean : Mean xs ms
+  means : Means a m
+  parted : meant ≡ ms ++ m ∷ ks
+
+parted_at : (xs : List Ask) (a : Ask) (ys : List Ask) (meant : List Meaning) → Mean (xs ++ a ∷ ys) meant → Parted xs a meant
+parted_at [] a ys [] all = absurd all
+parted_at [] a ys (m ∷ ks) all = record { ms = []; m = m; ks = ks; mean = tt; means = all.0; parted = refl }
+parted_at (x ∷ xs) a ys [] all = absurd all
+parted_at (x ∷ xs) a ys (m ∷ meant) all =
+    let p = parted_at xs a ys meant all.1 in
+    record { ms = m ∷ p.ms; m = p.m; ks = p.ks; mean = (all.0, p.mean); means = p.means; parted = ap (λ l. m ∷ l) p.parted }
+
+joined : (w x y more b p r : List ℕ) → w ≡ x ++ (y ++ more) → b ≡ x → y ≡ p ++ r → w ≡ (b ++ p) ++ (r ++ more)
+joined w x y more b p r is before part =
+    is ∙ (ap (λ z. z ++ (y ++ more)) (sym before) ∙ (ap (λ z. b ++ (z ++ more)) part ∙ (ap (λ z. b ++ z) (append_assoc p r more) ∙ sym (append_assoc b p (r ++ more)))))
+
+-- what is written where a write failed is a proper prefix of all responses
+pub cut_of_all : (n m : ℕ) (taken added whole : List ℕ) (s t u : Stand) (pending : List Accepted) (l : Option (List ℕ)) → IsCutOff Broken n taken s t pending added → IsAll m taken whole s u l
+    → IsProperPrefix added whole
+cut_of_all n m taken added whole s t u pending l cut all =
+    let stopped = cut.stopped in
+    let same : cut.asks ≡ all.asks = (asks-unique cut.asks all.asks taken cut.left l cut.asked all.asked).0 in
+    let at = parted_at stopped.done stopped.ask stopped.rest all.answered.meant (subst (λ (z : List Ask). Mean z all.answered.meant) (sym same ∙ stopped.asked) all.answered.mean) in
+    let first : stopped.answered.meant ≡ at.ms = mean_one stopped.done stopped.answered.meant at.ms stopped.answered.mean at.mean in
+    let one = stopped.one.1 in
+    let next : one.meant ≡ at.m = means_one stopped.ask one.meant at.m one.means at.means in
+    let before : stopped.before ≡ responses_to s.history at.ms = stopped.answered.wrote_is ∙ ap (responses_to s.history) first in
+    let mid : stopped.mid.history ≡ after_all s.history at.ms = stopped.answered.moved.0 ∙ ap (after_all s.history) first in
+    let said : response_to (after_all s.history at.ms) at.m ≡ stopped.part ++ one.cut.rest =
+    sym (ap (λ h. response_to h one.meant) mid ∙ ap (response_to (after_all s.history at.ms)) next) ∙ one.cut.joined in
+    let more = responses_to (history_after (after_all s.history at.ms) at.m) at.ks in
+    let whole_is : whole ≡ responses_to s.history at.ms ++ (response_to (after_all s.history at.ms) at.m ++ more) =
+    all.answered.wrote_is ∙ (ap (responses_to s.history) at.parted ∙ responses_append at.ms s.history (at.m ∷ at.ks)) in
+    record {
+      rest = one.cut.rest ++ more;
+      some = (let long = length-append one.cut.rest more in let some = one.cut.some in omega arith);
+      joined = joined whole _ _ more stopped.before stopped.part one.cut.rest whole_is before said ∙ ap (λ z. z ++ (one.cut.rest ++ more)) (sym stopped.wrote_is);
+    }

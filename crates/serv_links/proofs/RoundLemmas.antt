@@ -35,7 +35,7 @@ after_append : (ms : List Meaning) (h : History) (ns : List Meaning) → after_a
 after_append [] h ns = refl
 after_append (m ∷ ms) h ns = after_append ms (history_after h m) ns
 
-responses_append : (ms : List Meaning) (h : History) (ns : List Meaning) → responses_to h (ms ++ ns) ≡ responses_to h ms ++ responses_to (after_all h ms) ns
+pub responses_append : (ms : List Meaning) (h : History) (ns : List Meaning) → responses_to h (ms ++ ns) ≡ responses_to h ms ++ responses_to (after_all h ms) ns
 responses_append [] h ns = refl
 responses_append (m ∷ ms) h ns = ap (λ t. response_to h m ++ t) (responses_append ms (history_after h m) ns) ∙ sym (append_assoc (response_to h m) _ _)
 
@@ -51,10 +51,10 @@ moved_more : (ms ns : List Meaning) (s mid s' : Stand) → MovesAll ms s mid →
 moved_more ms ns s mid s' first second = (
   second.0 ∙ (ap (λ h. after_all h ns) first.0 ∙ sym (after_append ms s.history ns)),
   (let both = bound_append ms s.history ns in
-  let same : bound_of_all mid.history ns ≡ bound_of_all (after_all s.history ms) ns = ap (λ h. bound_of_all h ns) first.0 in
-  let a : mid.steps ≤ s.steps + bound_of_all s.history ms = first.1 in
-  let b : s'.steps ≤ mid.steps + bound_of_all mid.history ns = second.1 in
-  omega arith),
+      let same : bound_of_all mid.history ns ≡ bound_of_all (after_all s.history ms) ns = ap (λ h. bound_of_all h ns) first.0 in
+      let a : mid.steps ≤ s.steps + bound_of_all s.history ms = first.1 in
+      let b : s'.steps ≤ mid.steps + bound_of_all mid.history ns = second.1 in
+      omega arith),
 )
 
 -- ---- requests in order

@@ -66,13 +66,25 @@ pub fn serve_doors<D: Disk, M: Machine<D>, G: Doors, L: Ledger>(
                 doors.back(link);
                 summary.count(end);
                 match end {
-                    LinkEnd::Disk(_) => return Service { summary, end: DoorsEnd::DiskFault },
+                    LinkEnd::Disk(_) => return Service {
+                        summary,
+                        end: DoorsEnd::DiskFault,
+                    },
                     _ => {}
                 }
             }
-            Ok(None) => return Service { summary, end: DoorsEnd::Done },
-            Err(_) => return Service { summary, end: DoorsEnd::NetFault },
+            Ok(None) => return Service {
+                summary,
+                end: DoorsEnd::Done,
+            },
+            Err(_) => return Service {
+                summary,
+                end: DoorsEnd::NetFault,
+            },
         }
     }
-    Service { summary, end: DoorsEnd::Done }
+    Service {
+        summary,
+        end: DoorsEnd::Done,
+    }
 }

@@ -14,6 +14,7 @@ mod told;
 pub use doors::{DoorsEnd, MOST_LINKS, Service, serve_doors};
 pub use laws::any_pieces;
 pub use link_end::LinkEnd;
+pub use outcome::Outcome;
 pub use serving::{LINK_LIMIT, serve_link};
 pub use summary::{Summary, write_summary};
 

@@ -1,8 +1,8 @@
 //! How requests went.
 
-/// How requests went.
+/// How requests went: the word that contracts have for it.
 #[derive(Clone, Copy, Debug, PartialEq, Eq)]
-pub(crate) enum Outcome {
+pub enum Outcome {
     /// Each is acted on, and its response is written.
     Answered,
     /// A write failed.

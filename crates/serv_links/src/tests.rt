@@ -29,7 +29,8 @@ const EXCHANGE: &[u8] = b"POST /v1/commands HTTP/1.1\r\nHost: a\r\nContent-Lengt
     GET /v1/commands HTTP/1.1\r\n\r\n";
 
 /// What is said to it.
-const SAID: &[u8] = b"HTTP/1.1 200 OK\r\nContent-Length: 35\r\nContent-Type: application/json\r\n\r\n\
+const SAID: &[u8] =
+    b"HTTP/1.1 200 OK\r\nContent-Length: 35\r\nContent-Type: application/json\r\n\r\n\
     {\"code\":0,\"number\":1,\"text\":\"ok 1\"}\
     HTTP/1.1 200 OK\r\nContent-Length: 35\r\nContent-Type: application/json\r\n\r\n\
     {\"code\":0,\"number\":1,\"text\":\"ok 1\"}\
@@ -41,6 +42,7 @@ const SAID: &[u8] = b"HTTP/1.1 200 OK\r\nContent-Length: 35\r\nContent-Type: app
 /// A day is asked for, and what is said to it.
 const DAY: &[u8] = b"POST /v1/commands HTTP/1.1\r\nHost: a\r\nContent-Length: 42\r\n\r\n\
     {\"key\":\"k1\",\"do\":\"day\",\"day\":\"2024-02-01\"}";
+
 const DAY_SAID: &[u8] =
     b"HTTP/1.1 200 OK\r\nContent-Length: 35\r\nContent-Type: application/json\r\n\r\n\
     {\"code\":0,\"number\":1,\"text\":\"ok 1\"}";
@@ -86,7 +88,12 @@ fn served_all<G: Doors>(alloc: Global, doors: &mut G) -> Result<Service, OutOfMe
     served_all_over::<Brand, G>(alloc, Blank::new(1), doors)
 }
 
-fn link_of(alloc: Global, bytes: &[u8], reads: &[u32], writes: &[u32]) -> Result<MemLink, OutOfMemory> {
+fn link_of(
+    alloc: Global,
+    bytes: &[u8],
+    reads: &[u32],
+    writes: &[u32],
+) -> Result<MemLink, OutOfMemory> {
     Ok(MemLink::new(
         alloc,
         Vec::from_slice(alloc, bytes)?,
@@ -144,7 +151,10 @@ fn links_are_served_in_order(rt: HostRuntime) -> Result<(), Fail> {
     let mut doors = MemDoors::new(alloc, links, Vec::new(alloc))?;
     let service = served_all(alloc, &mut doors)?;
     let text = write_summary(alloc, &service.summary)?;
-    assert_eq!(rt; text.as_slice(), b"served 2 requests 1 broken 1 cut 0 memory 0\n".as_slice());
+    assert_eq!(rt;
+        text.as_slice(),
+        b"served 2 requests 1 broken 1 cut 0 memory 0\n".as_slice()
+    );
     // The command of the first link was acted on.
     let back = doors.links_back();
     assert_eq!(rt; back.len(), 2);
