@@ -34,8 +34,8 @@ asks_same : (r q : Request) (x y last : Bool) → r ≡ q → x ≡ last → y �
 asks_same r q x y last rs xs ys = ap (λ z. Asks z x) rs ∙ ap (Asks q) (xs ∙ sym ys)
 
 faulty_same : (s s' status : ℕ) (x y last : Bool) (a b allow : Option Allow) → s ≡ status → s' ≡ status → x ≡ last → y ≡ last → a ≡ allow → b ≡ allow → Faulty s x a ≡ Faulty s' y b
-faulty_same s s' status x y last a b allow p q xs ys as bs =
-    ap (λ z. Faulty z x a) (p ∙ sym q) ∙ (ap (λ z. Faulty s' z a) (xs ∙ sym ys) ∙ ap (Faulty s' y) (as ∙ sym bs))
+faulty_same s s' status x y last a b allow p q xs ys al bl =
+    ap (λ z. Faulty z x a) (p ∙ sym q) ∙ (ap (λ z. Faulty s' z a) (xs ∙ sym ys) ∙ ap (Faulty s' y) (al ∙ sym bl))
 
 pub means_one : (a : Ask) (m k : Meaning) → Means a m → Means a k → m ≡ k
 means_one (Post body last) (Asks r x) (Asks q y) p s = asks_same r q x y last (body_one q r body s.0 p.0 s.1 p.1) p.2 s.2

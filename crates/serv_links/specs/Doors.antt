@@ -14,22 +14,30 @@ use Rattle.serv_links.specs.declared.summary.Summary.{Summary}
 use Rattle.serv_links.specs.Responses.{Stand}
 use Rattle.serv_links.specs.Links.{IsDiskEnd, Serves, number_in}
 
+-- what is said of a link: its end, how it came and how it was handed back, where the books stood before and after it,
+-- and the command that was being appended
+abbrev pub OneServed : Type 0 → Type 1
+OneServed C = LinkEnd → C → C → Stand → Stand → List Accepted → Type 0
+
 -- a link came so, was served to this end, and was handed back so
 pub record ServedLink {C : Type 0} (left held : C → Option (List ℕ)) (reads writes : C
     → ℕ) (end : LinkEnd) (came back : C) (s s' : Stand) (pending : List Accepted) : Type 0 where
   pub added : List ℕ
   pub appends : Appends (held came) (held back) added
-  pub serves : Serves end (HasRisen (reads came) (reads back)) (HasRisen (writes came) (writes back)) (left came) (left back) s s' pending added
+  pub serves : Serves end (HasRisen (reads came) (reads back)) (HasRisen (writes came) (writes back))
+      (left came) (left back) s s' pending added
 
 -- each link in its turn, over the history that the one before it left
-abbrev pub AreServed : {C : Type 0} → (LinkEnd → C → C → Stand → Stand → List Accepted → Type 0) → List LinkEnd → List C → List C → Stand → Stand → List Accepted → Type 0
+abbrev pub AreServed : {C : Type 0}
+    → OneServed C → List LinkEnd → List C → List C → Stand → Stand → List Accepted → Type 0
 AreServed P [] [] [] s s' pending = (s' ≡ s) × (pending ≡ [])
 AreServed P [] [] (y ∷ back) s s' pending = ⊥
 AreServed P [] (x ∷ came) back s s' pending = ⊥
 AreServed P (end ∷ ends) [] back s s' pending = ⊥
 AreServed P (end ∷ ends) (x ∷ came) [] s s' pending = ⊥
 AreServed P (end ∷ ends) (x ∷ came) (y ∷ back) s s' pending =
-    (t : Stand) × ((now : List Accepted) × ((later : List Accepted) × P end x y s t now × AreServed P ends came back t s' later × (pending ≡ now ++ later)))
+    (t : Stand) × ((now : List Accepted) × ((later : List Accepted) × P end x y s t now
+    × AreServed P ends came back t s' later × (pending ≡ now ++ later)))
 
 -- these links came, where the doors tell which are to come
 abbrev pub AreTaken : {C : Type 0} → Option (List C) → Option (List C) → List C → Type 0
@@ -49,8 +57,7 @@ AreNone None = ⊤
 AreNone (Some coming) = coming ≡ []
 
 -- the links that came and were handed back, each served to its end
-pub record HasServed {C : Type 0} (P : LinkEnd → C → C → Stand → Stand → List Accepted
-    → Type 0) (coming coming' backed backed' : Option (List C)) (ends : List LinkEnd) (s s' : Stand) (pending : List Accepted) : Type 0 where
+pub record HasServed {C : Type 0} (P : OneServed C) (coming coming' backed backed' : Option (List C)) (ends : List LinkEnd) (s s' : Stand) (pending : List Accepted) : Type 0 where
   pub came : List C
   pub back : List C
   pub taken : AreTaken coming coming' came
@@ -113,7 +120,8 @@ text_of_answered s = codes "served " ++ text_of_number s.served ++ codes " reque
 -- how many links ended by a fault, at the limit, and for want of memory
 abbrev pub text_of_unanswered : Summary → List ℕ
 text_of_unanswered s =
-    number_field (codes "broken") s.broken ++ number_field (codes "cut") s.cut ++ number_field (codes "memory") s.memory
+    number_field (codes "broken") s.broken ++ number_field (codes "cut") s.cut
+    ++ number_field (codes "memory") s.memory
 
 -- the line that says it
 unfoldable pub text_of_summary : Summary → List ℕ
@@ -121,8 +129,7 @@ text_of_summary s = ended (text_of_answered s ++ text_of_unanswered s)
 
 -- with what is left on a disk
 module _ {D : Type 0} (images : D → List ℕ → Type 0) (moment : D → ℕ) (images_since : D → ℕ → List ℕ → Type 0) (old new : D) where
-  pub record ServesDoors {C : Type 0} (P : LinkEnd → C → C → Stand → Stand → List Accepted
-      → Type 0) (end : DoorsEnd) (summary : Summary) (most : ℕ) (coming coming' backed backed' : Option (List C)) (s s' : Stand) : Type 0 where
+  pub record ServesDoors {C : Type 0} (P : OneServed C) (end : DoorsEnd) (summary : Summary) (most : ℕ) (coming coming' backed backed' : Option (List C)) (s s' : Stand) : Type 0 where
     pub ends : List LinkEnd
     pub pending : List Accepted
     pub has : HasServed P coming coming' backed backed' ends s s' pending

@@ -1,4 +1,4 @@
--- How a link was served: what was taken from it, what was written to it, what is held after it, and why it ended.
+-- How a link was served: what was taken from it and written to it, what is held after it, and why it ended.
 use Rattle.std.specs.Prelude.{◌≡◌, ℕ, ◌^◌, ◌<◌, ◌≤◌, ◌⊎◌, List, [], ◌++◌, length, Option, None, ⊤}
 use Rattle.std.specs.Io.KnownBytes.{Appends, Consumes, IsAtEnd}
 use Rattle.svc_world.specs.World.{Accepted}
@@ -61,18 +61,23 @@ pub record IsStarved (n : ℕ) (taken added : List ℕ) (s s' : Stand) : Type 0 
 
 -- the end of a link whose count of read faults, or of write faults, has risen, and of which nothing is left to read:
 -- at Ended and Cut, and where a read failed, all requests are answered
-abbrev pub IsServed : LinkEnd → Type 0 → Type 0 → Type 0 → List ℕ → Stand → Stand → List Accepted → List ℕ → Type 0
+abbrev pub IsServed : LinkEnd
+    → Type 0 → Type 0 → Type 0 → List ℕ → Stand → Stand → List Accepted → List ℕ → Type 0
 IsServed (link_end.Ended n) reads writes at_end taken s s' pending added =
     (pending ≡ []) × (length taken < link_limit)
     × ((left : Option (List ℕ)) × IsAll n taken added s s' left × (at_end ⊎ (left ≡ None)))
 IsServed (link_end.Cut n) reads writes at_end taken s s' pending added =
-    (pending ≡ []) × (length taken ≡ link_limit) × ((left : Option (List ℕ)) × IsAll n taken added s s' left)
+    (pending ≡ []) × (length taken ≡ link_limit)
+    × ((left : Option (List ℕ)) × IsAll n taken added s s' left)
 IsServed (link_end.Broken n) reads writes at_end taken s s' pending added =
-    (reads × (pending ≡ []) × (length taken < link_limit) × ((left : Option (List ℕ)) × IsAll n taken added s s' left))
+    (reads × (pending ≡ []) × (length taken < link_limit)
+    × ((left : Option (List ℕ)) × IsAll n taken added s s' left))
     ⊎ (writes × IsCutOff outcome.Broken n taken s s' pending added)
-IsServed (link_end.Disk n) reads writes at_end taken s s' pending added = IsCutOff outcome.Disk n taken s s' pending added
+IsServed (link_end.Disk n) reads writes at_end taken s s' pending added =
+    IsCutOff outcome.Disk n taken s s' pending added
 IsServed (link_end.NoMemory n) reads writes at_end taken s s' pending added =
-    IsCutOff outcome.NoMemory n taken s s' pending added ⊎ ((pending ≡ []) × IsStarved n taken added s s')
+    IsCutOff outcome.NoMemory n taken s s' pending added
+    ⊎ ((pending ≡ []) × IsStarved n taken added s s')
 
 -- with what is taken, where the link tells what is left
 pub record Serves (end : LinkEnd) (reads writes : Type 0) (left left' : Option (List ℕ)) (s s' : Stand) (pending : List Accepted) (added : List ℕ) : Type 0 where

@@ -18,14 +18,16 @@ pub data Meaning : Type 0 where
 abbrev pub IsNoBody : List ℕ → Type 0
 IsNoBody body = (r : Request) → IsRequest r → ¬ (IsBodyOf r body)
 
--- a command's body means the request that it asks for, or 400 where it asks for none; what the head asks for is meant
+-- a command's body means the request that it asks for, or 400 where it asks for none; all else is meant as it stands
 abbrev pub Means : Ask → Meaning → Type 0
 Means (Post body last) (Asks r ends) = IsRequest r × IsBodyOf r body × (ends ≡ last)
-Means (Post body last) (Faulty status ends allow) = IsNoBody body × (status ≡ 400) × (ends ≡ last) × (allow ≡ None)
+Means (Post body last) (Faulty status ends allow) =
+    IsNoBody body × (status ≡ 400) × (ends ≡ last) × (allow ≡ None)
 Means (Get q last) (Asks r ends) = (r ≡ request.Ask q) × (ends ≡ last)
 Means (Get q last) (Faulty status ends allow) = ⊥
 Means (Fault status last allow) (Asks r ends) = ⊥
-Means (Fault status last allow) (Faulty status' ends allow') = (status' ≡ status) × (ends ≡ last) × (allow' ≡ allow)
+Means (Fault status last allow) (Faulty status' ends allow') =
+    (status' ≡ status) × (ends ≡ last) × (allow' ≡ allow)
 
 -- requests mean these, each in turn
 abbrev pub Mean : List Ask → List Meaning → Type 0

@@ -6,7 +6,8 @@ ghost use Rattle.std.specs.Prelude.{◌≡◌, ◌<◌};
 
 use crate::{LinkEnd, Service, serve_doors, serve_link, write_summary};
 use links::{Pieces, Waiting};
-use serv_disk::{CalmDoors, CalmLink, Doors, Link, MemDoors, MemLink};
+use serv_disk::{CalmDoors, CalmLink, Doors, Link, MemDisk, MemDoors, MemLink};
+use serv_engine::Engine;
 use serv_machine::Nowhere;
 use std::alloc::Global;
 use std::marker::Brand;
@@ -47,6 +48,10 @@ const DAY_SAID: &[u8] =
     b"HTTP/1.1 200 OK\r\nContent-Length: 35\r\nContent-Type: application/json\r\n\r\n\
     {\"code\":0,\"number\":1,\"text\":\"ok 1\"}";
 
+/// What is said where the disk fails.
+const FAILED: &[u8] =
+    b"HTTP/1.1 500 Internal Server Error\r\nConnection: close\r\nContent-Length: 0\r\n\r\n";
+
 /// Serves a link over books in memory that begin with nothing.
 fn served_over<L: Ledger, C: Link>(
     alloc: Global,
@@ -86,6 +91,34 @@ fn served_all<G: Doors>(alloc: Global, doors: &mut G) -> Result<Service, OutOfMe
     requires { G.out doors.old ≡ 0 }
 {
     served_all_over::<Brand, G>(alloc, Blank::new(1), doors)
+}
+
+/// Serves a link over an empty journal on a disk of which the calls with these numbers fail.
+fn served_on_disk<L: Ledger>(
+    alloc: Global,
+    blank: Blank,
+    fails: &[u32],
+    link: &mut MemLink,
+) -> Result<LinkEnd, OutOfMemory>
+    requires name { blank.name ≡ L.name }
+    requires parts { blank.parts ≡ L.parts }
+    requires some { 0 < L.parts }
+{
+    let journal = Vec::from_slice(alloc, b"MSRVJ002\x00")?;
+    let mut disk = MemDisk::new(journal, Vec::from_slice(alloc, fails)?)?;
+    let mut steps = Steps::<L>::new(blank);
+    match Engine::<Checked>::open(alloc, &mut disk, 1_000_000, &mut steps) {
+        Ok(mut engine) => Ok(serve_link(alloc, &mut engine, &mut disk, link, &mut steps)),
+        Err(_) => Err(OutOfMemory),
+    }
+}
+
+fn served_by_engine(
+    alloc: Global,
+    fails: &[u32],
+    link: &mut MemLink,
+) -> Result<LinkEnd, OutOfMemory> {
+    served_on_disk::<Brand>(alloc, Blank::new(1), fails, link)
 }
 
 fn link_of(
@@ -131,6 +164,24 @@ fn a_fault_of_the_link_breaks_it(rt: HostRuntime) -> Result<(), Fail> {
     let mut link = link_of(alloc, DAY, &[], &[1])?;
     assert_eq!(rt; served(alloc, &mut link)?, LinkEnd::Broken(0));
     assert_eq!(rt; link.content(), b"".as_slice());
+    Ok(())
+}
+
+#[test]
+fn a_fault_of_the_disk_is_told(rt: HostRuntime) -> Result<(), Fail> {
+    let alloc = rt.alloc();
+    let mut link = link_of(alloc, DAY, &[], &[])?;
+    assert_eq!(rt; served_by_engine(alloc, &[], &mut link)?, LinkEnd::Ended(1));
+    assert_eq!(rt; link.content(), DAY_SAID);
+    // The first call of an append fails, and the last one.
+    for call in [4, 7] {
+        let mut link = link_of(alloc, DAY, &[], &[])?;
+        assert_eq!(rt;
+            served_by_engine(alloc, &[call], &mut link)?,
+            LinkEnd::Disk(0)
+        );
+        assert_eq!(rt; link.content(), FAILED);
+    }
     Ok(())
 }
 
