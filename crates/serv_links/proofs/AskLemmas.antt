@@ -1,11 +1,8 @@
 -- What connections ask is of the form that can be answered.
-use Rattle.std.proofs.Common.{◌≡◌, ℕ, ◌⊎◌, inl, inr, Bool, true, false, List, [], ◌∷◌, refl, sym, subst, ap}
+use Rattle.std.proofs.Common.{ℕ, inl, inr, Bool, true, false, List, [], ◌∷◌, refl, sym, subst}
 use Rattle.std.specs.Prelude.{Option, Some, None, All, codes, map}
 use Rattle.std.proofs.lemmas.List.Elements.{All-nil, All-cons}
-use Rattle.svc_types.specs.declared.requests.Query.{Query}
 use Rattle.serv_http.specs.declared.ask.Ask.{Ask}
-use Rattle.serv_http.specs.declared.ask.Ask.TheVariants.{Post, Get, Fault}
-use Rattle.serv_http.specs.declared.ask.Due.{Due}
 use Rattle.serv_http.specs.declared.ask.Plan.{Plan}
 use Rattle.serv_http.specs.declared.ask.Plan.TheVariants.{Now, Pass, Keep}
 use Rattle.serv_http.specs.declared.route.ContentLength.{ContentLength}
@@ -16,7 +13,7 @@ use Rattle.serv_http.specs.Fields.{Line, has_line, values_of, content_length}
 use Rattle.serv_http.specs.Routes.{route_of}
 use Rattle.serv_http.specs.Plans.{Step, FirstOf, IsPlan, IsRouted, IsQuestion, is_last, length_steps, route_steps, body_length}
 use Rattle.serv_http.specs.Streams.{ask_of, Completes, IsFirst, AsksTo}
-use Rattle.serv_links.specs.Meanings.{IsAsk, IsFault}
+use Rattle.serv_links.specs.Meanings.{IsAsk}
 
 -- what a plan makes due
 abbrev IsPlanned : Plan → Type 0

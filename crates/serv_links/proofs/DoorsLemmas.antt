@@ -1,6 +1,6 @@
 -- Links that are served one after another.
-use Rattle.std.proofs.Common.{◌≡◌, ℕ, ◌+◌, ◌*◌, ◌^◌, ◌<◌, ◌≤◌, List, [], ◌∷◌, ◌++◌, length, refl, sym, ap, subst, ◌∙◌, inl, inr, arith, append_assoc, append-nil, length-append}
-use Rattle.std.specs.Prelude.{Option, Some, None, sum_by}
+use Rattle.std.proofs.Common.{◌≡◌, ℕ, ◌+◌, ◌<◌, ◌≤◌, List, [], ◌∷◌, ◌++◌, length, refl, sym, ap, subst, ◌∙◌, inl, inr, arith, append_assoc, append-nil, length-append}
+use Rattle.std.specs.Prelude.{Option, Some, None}
 use Rattle.std.proofs.lemmas.List.Sums.{sum_by_push}
 use Rattle.svc_world.specs.World.{Accepted}
 use Rattle.serv_disk.specs.Listening.{IsNext, IsBack}
@@ -13,8 +13,8 @@ use Rattle.serv_links.specs.declared.summary.Summary.{Summary}
 use Rattle.serv_links.specs.Responses.{Stand}
 use Rattle.serv_disk.specs.Faults.{HasRisen}
 use Rattle.serv_links.specs.Outcomes.{Writes}
-use Rattle.serv_links.specs.Links.{IsDiskEnd, Serves, number_in, link_limit}
-use Rattle.serv_links.specs.Doors.{ServedLink, AreServed, AreTaken, AreBack, AreNone, HasServed, NoDisk, EndInDisk, IsSummary, ServesDoors, as_broken, as_cut, as_memory}
+use Rattle.serv_links.specs.Links.{IsDiskEnd, Serves, number_in}
+use Rattle.serv_links.specs.Doors.{ServedLink, AreServed, AreTaken, AreBack, AreNone, HasServed, NoDisk, IsSummary, ServesDoors, as_broken, as_cut, as_memory}
 
 -- ---- links that come and go
 

@@ -1,25 +1,24 @@
 -- A link in its course, and what it is where it ends.
-use Rattle.std.proofs.Common.{◌≡◌, ℕ, ◌+◌, ◌<◌, ◌≤◌, ◌⊎◌, Bool, true, false, List, [], ◌∷◌, ◌++◌, length, refl, sym, ap, subst, ◌∙◌, inl, inr, arith, append_assoc, append-nil, length-append}
+use Rattle.std.proofs.Common.{◌≡◌, ℕ, ◌+◌, ◌<◌, ◌≤◌, false, List, [], ◌++◌, length, refl, sym, ap, subst, ◌∙◌, inl, inr, arith, append-nil, length-append}
 use Rattle.std.specs.Prelude.{Option, Some, None}
-use Rattle.std.specs.Io.KnownBytes.{Appends, Consumes, IsAtEnd}
+use Rattle.std.specs.Io.KnownBytes.{Consumes, IsAtEnd}
 use Rattle.std.proofs.KnownBytes.{Appends-nil, Consumes-nil, Consumes-trans}
 use Rattle.std.proofs.lemmas.Bool.{both_ways}
 use Rattle.svc_world.specs.World.{Accepted}
 use Rattle.serv_disk.specs.Sides.{Side}
 use Rattle.serv_http.specs.declared.ask.Ask.{Ask}
 use Rattle.serv_http.specs.declared.conn.Conn.{Conn}
-use Rattle.serv_http.specs.Conns.{IsFed, StandsFor, StandsForLeft, is_over}
+use Rattle.serv_http.specs.Conns.{StandsFor, StandsForLeft, is_over}
 use Rattle.serv_http.specs.Streams.{AsksTo}
 use Rattle.serv_http.proofs.StepLemmas.{nothing-more, nothing-open}
 use Rattle.serv_http.proofs.StreamLemmas.{asks-grow}
 use Rattle.serv_machine.specs.OnDisk.{OnDisk}
-use Rattle.serv_links.specs.declared.link_end.LinkEnd.{LinkEnd}
 use Rattle.serv_links.specs.declared.link_end.LinkEnd.TheVariants as link_end
 use Rattle.serv_links.specs.declared.outcome.Outcome.{Outcome}
 use Rattle.serv_links.specs.declared.outcome.Outcome.TheVariants as outcome
 use Rattle.serv_links.specs.Responses.{Stand, response_503}
 use Rattle.serv_links.specs.Outcomes.{IsAnswered, IsCutOff, IsUnread, IsPiece, AppendsFront, Writes}
-use Rattle.serv_links.specs.Links.{IsAll, IsStarved, IsServed, Serves, link_limit}
+use Rattle.serv_links.specs.Links.{IsAll, IsStarved, Serves, link_limit}
 use Rattle.serv_links.proofs.RoundLemmas.{answered_none, answered_more, stopped_more, writes_more, writes_as}
 
 -- all requests of the bytes taken are answered, and the connection stands for what is left of them

@@ -1,5 +1,5 @@
 -- What is told is the response.
-use Rattle.std.proofs.Common.{◌≡◌, ℕ, List, Bool, ap, ◌∙◌, None, refl}
+use Rattle.std.proofs.Common.{◌≡◌, ℕ, List, Bool, ap, ◌∙◌, None}
 use Rattle.std.specs.Prelude.{Option}
 use Rattle.svc_types.specs.declared.requests.Request.{Request}
 use Rattle.serv_json.specs.Replies.{reply_text}

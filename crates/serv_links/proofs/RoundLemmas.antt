@@ -1,10 +1,10 @@
 -- Requests in order, one after another.
-use Rattle.std.proofs.Common.{◌≡◌, ℕ, suc, Bool, true, ◌+◌, ◌<◌, ◌≤◌, ◌⊎◌, List, [], ◌∷◌, ◌++◌, length, take, drop, get_or, refl, sym, ap, subst, ◌∙◌, inl, inr, arith, append_assoc, append-nil, length-append, drop-cons, add-one, zero-add}
+use Rattle.std.proofs.Common.{◌≡◌, ℕ, suc, Bool, ◌+◌, ◌<◌, ◌≤◌, List, [], ◌∷◌, ◌++◌, length, take, drop, get_or, refl, sym, ap, subst, ◌∙◌, inl, inr, arith, append_assoc, append-nil, length-append, drop-cons, add-one, zero-add}
 use Rattle.std.specs.Prelude.{Option, None, Result, Ok, Err, OnOk, OnErr}
 use Rattle.std.specs.Io.KnownBytes.{Appends}
 use Rattle.std.proofs.KnownBytes.{Appends-nil, Appends-trans}
 use Rattle.std.proofs.lemmas.Bool.{cases_lt}
-use Rattle.std.proofs.lemmas.List.{take_more, take-append-drop, take_all}
+use Rattle.std.proofs.lemmas.List.{take_more, take-append-drop}
 use Rattle.svc_world.specs.World.{Accepted}
 use Rattle.serv_disk.specs.Faults.{AppendsPart, HasRisen}
 use Rattle.serv_http.specs.declared.ask.Allow.{Allow}
@@ -18,9 +18,9 @@ use Rattle.serv_machine.specs.OnDisk.{OnDisk}
 use Rattle.serv_machine.proofs.OnDiskLemmas.{disk_more}
 use Rattle.serv_links.specs.declared.outcome.Outcome.{Outcome}
 use Rattle.serv_links.specs.declared.outcome.Outcome.TheVariants.{Answered, Broken, Disk, NoMemory}
-use Rattle.serv_links.specs.Meanings.{Meaning, Faulty, Means, Mean, IsNoBody}
-use Rattle.serv_links.specs.Responses.{Stand, Stays, MovesAll, response_to, responses_to, response_500, response_503, after_all, bound_of_all, history_after, bound_of}
-use Rattle.serv_links.specs.Outcomes.{IsReplied, IsOne, IsAnswered, IsStopped, IsRound, IsPiece, IsFront, AppendsFront, Halts, Writes}
+use Rattle.serv_links.specs.Meanings.{Meaning, Faulty, Mean, IsNoBody}
+use Rattle.serv_links.specs.Responses.{Stand, MovesAll, response_to, responses_to, response_503, after_all, bound_of_all, history_after, bound_of}
+use Rattle.serv_links.specs.Outcomes.{IsReplied, IsOne, IsAnswered, IsStopped, IsRound, IsPiece, AppendsFront, Halts, Writes}
 use Rattle.serv_http.specs.Responses.{response}
 
 -- ---- lists of meanings

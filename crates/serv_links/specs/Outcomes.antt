@@ -2,7 +2,6 @@
 use Rattle.std.specs.Prelude.{◌≡◌, ℕ, ◌+◌, ◌≤◌, ◌⊎◌, List, [], ◌∷◌, ◌++◌, length, Bool, Option}
 use Rattle.std.specs.Io.KnownBytes.{Appends}
 use Rattle.svc_types.specs.declared.requests.Command.{Command}
-use Rattle.svc_types.specs.declared.requests.Request.{Request}
 use Rattle.svc_types.specs.declared.requests.Request.TheVariants as request
 use Rattle.svc_world.specs.World.{Accepted, accepted}
 use Rattle.serv_disk.specs.Faults.{IsProperPrefix}

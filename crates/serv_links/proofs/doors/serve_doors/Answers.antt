@@ -1,7 +1,6 @@
-use Rattle.std.proofs.Common.{◌≡◌, ◌≤◌, refl, ◌∙◌, arith}
+use Rattle.std.proofs.Common.{refl, ◌∙◌, arith}
 use Rattle.serv_machine.proofs.OnDiskLemmas.{disk_none}
 use Rattle.serv_links.specs.Responses.{stand}
-use Rattle.serv_links.specs.Doors.{as_broken, as_cut, as_memory}
 use Rattle.serv_links.proofs.DoorsLemmas.{along_none, along_more, along_stops, at_most_one, calm_end, counted_more, disk_end}
 use Rattle.serv_links.proofs.doors.serve_doors.Goals as goal
 

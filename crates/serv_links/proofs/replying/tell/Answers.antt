@@ -1,5 +1,5 @@
-use Rattle.std.proofs.Common.{◌≡◌, ◌+◌, ◌≤◌, [], refl, inl, subst, sym}
-use Rattle.serv_machine.specs.Replies.{bound_of_request, history_after_request}
+use Rattle.std.proofs.Common.{[], refl, inl}
+use Rattle.serv_machine.specs.Replies.{bound_of_request}
 use Rattle.serv_machine.proofs.OnDiskLemmas.{disk_none}
 use Rattle.serv_links.proofs.replying.tell.Goals as goal
 

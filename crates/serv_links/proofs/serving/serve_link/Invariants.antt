@@ -1,5 +1,4 @@
-use Rattle.std.proofs.Common.{◌≡◌, ◌-◌, ◌^◌, ◌<◌, ◌≤◌, false}
-use Rattle.serv_http.specs.Conns.{is_over}
+use Rattle.std.proofs.Common.{◌-◌, ◌^◌, ◌<◌, ◌≤◌}
 use Rattle.serv_links.specs.Responses.{stand}
 use Rattle.serv_links.specs.Outcomes.{Writes}
 use Rattle.serv_links.proofs.GoingLemmas.{Going}
