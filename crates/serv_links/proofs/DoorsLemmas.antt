@@ -1,0 +1,222 @@
+-- Links that are served one after another.
+use Rattle.std.proofs.Common.{◌≡◌, ℕ, ◌+◌, ◌<◌, ◌≤◌, List, [], ◌∷◌, ◌++◌, length, refl, sym, ap, subst, ◌∙◌, inl, inr, arith, append_assoc, append-nil, length-append}
+use Rattle.std.specs.Prelude.{Option, Some, None}
+use Rattle.std.proofs.lemmas.List.Sums.{sum_by_push}
+use Rattle.svc_world.specs.World.{Accepted}
+use Rattle.serv_disk.specs.Listening.{IsNext, IsBack}
+use Rattle.serv_machine.specs.OnDisk.{OnDisk}
+use Rattle.serv_machine.proofs.OnDiskLemmas.{disk_more}
+use Rattle.serv_links.specs.declared.doors.DoorsEnd.TheVariants as doors_end
+use Rattle.serv_links.specs.declared.link_end.LinkEnd.{LinkEnd}
+use Rattle.serv_links.specs.declared.link_end.LinkEnd.TheVariants.{Ended, Broken, Cut, Disk, NoMemory}
+use Rattle.serv_links.specs.declared.summary.Summary.{Summary}
+use Rattle.serv_links.specs.Responses.{Stand}
+use Rattle.serv_disk.specs.Faults.{HasRisen}
+use Rattle.serv_links.specs.Outcomes.{Writes}
+use Rattle.serv_links.specs.Links.{IsDiskEnd, Serves, number_in}
+use Rattle.serv_links.specs.Doors.{ServedLink, AreServed, AreTaken, AreBack, AreNone, HasServed, NoDisk, IsSummary, ServesDoors, as_broken, as_cut, as_memory}
+
+-- ---- links that come and go
+
+taken_none : {C : Type 0} (coming : Option (List C)) → AreTaken coming coming []
+taken_none None = refl
+taken_none (Some old) = refl
+
+back_none : {C : Type 0} (backed : Option (List C)) → AreBack backed backed []
+back_none None = refl
+back_none (Some old) = sym (append-nil old)
+
+taken_more : {C : Type 0} (c0 c1 c2 : Option (List C)) (links : List C) (x : C) → AreTaken c0 c1 links → IsNext c1 c2 (Some x) → AreTaken c0 c2 (links ++ x ∷ [])
+taken_more None c1 c2 links x first next = subst (λ c. IsNext c c2 (Some x)) first next
+taken_more (Some old) None c2 links x first next = absurd first
+taken_more (Some old) (Some mid) None links x first next = absurd next
+taken_more (Some old) (Some mid) (Some new) links x first next = first ∙ (ap (λ l. links ++ l) next ∙ sym (append_assoc links (x ∷ []) new))
+
+back_more : {C : Type 0} (b0 b1 b2 : Option (List C)) (links : List C) (y : C) → AreBack b0 b1 links → IsBack b1 b2 y → AreBack b0 b2 (links ++ y ∷ [])
+back_more None b1 b2 links y first back = subst (λ b. IsBack b b2 y) first back
+back_more (Some old) None b2 links y first back = absurd first
+back_more (Some old) (Some mid) None links y first back = absurd back
+back_more (Some old) (Some mid) (Some new) links y first back = back ∙ (ap (λ l. l ++ y ∷ []) first ∙ append_assoc old links (y ∷ []))
+
+taken_end : {C : Type 0} (c0 c1 c2 : Option (List C)) (links : List C) → AreTaken c0 c1 links → IsNext c1 c2 None → AreTaken c0 c2 links × AreNone c2
+taken_end None c1 c2 links first next =
+    let none : c2 ≡ None = subst (λ c. IsNext c c2 None) first next in
+    (none, subst AreNone (sym none) tt)
+taken_end (Some old) None c2 links first next = absurd first
+taken_end (Some old) (Some mid) None links first next = absurd next
+taken_end (Some old) (Some mid) (Some new) links first next = (first ∙ ap (λ l. links ++ l) (next.0 ∙ sym next.1), next.1)
+
+-- ---- one link more
+
+served_more : {C : Type 0} (P : LinkEnd → C → C → Stand → Stand → List Accepted → Type 0) (ends : List LinkEnd) (came back : List C) (s t s' : Stand) (p q : List Accepted) (e : LinkEnd) (x y : C)
+    → AreServed P ends came back s t p → P e x y t s' q → AreServed P (ends ++ e ∷ []) (came ++ x ∷ []) (back ++ y ∷ []) s s' (p ++ q)
+served_more P [] [] [] s t s' p q e x y all one =
+    (s', (q, ([], subst (λ z. P e x y z s' q) all.0 one, (refl, refl), ap (λ z. z ++ q) all.1 ∙ sym (append-nil q))))
+served_more P [] [] (z ∷ back) s t s' p q e x y all one = absurd all
+served_more P [] (z ∷ came) back s t s' p q e x y all one = absurd all
+served_more P (end ∷ ends) [] back s t s' p q e x y all one = absurd all
+served_more P (end ∷ ends) (z ∷ came) [] s t s' p q e x y all one = absurd all
+served_more P (end ∷ ends) (z ∷ came) (w ∷ back) s t s' p q e x y (u, (now, (later, first, rest, is))) one =
+    (u, (now, (later ++ q, first, served_more P ends came back u t s' later q e x y rest one, ap (λ z. z ++ q) is ∙ append_assoc now later q)))
+
+calm_more : (ends : List LinkEnd) (e : LinkEnd) → NoDisk ends → ¬ (IsDiskEnd e) → NoDisk (ends ++ e ∷ [])
+calm_more [] e calm last = (last, tt)
+calm_more (end ∷ ends) e calm last = (calm.0, calm_more ends e calm.1 last)
+
+pub counted_more : (ends : List LinkEnd) (e : LinkEnd) (s s' : Summary) → IsSummary ends s → s'.served ≡ s.served + 1 → s'.requests ≡ s.requests + number_in e → s'.broken ≡ s.broken + as_broken e
+    → s'.cut ≡ s.cut + as_cut e → s'.memory ≡ s.memory + as_memory e → IsSummary (ends ++ e ∷ []) s'
+counted_more ends e s s' is served requests broken cut memory = record {
+  served = served ∙ (ap (λ n. n + 1) is.served ∙ sym (length-append ends (e ∷ [])));
+  requests = requests ∙ (ap (λ n. n + number_in e) is.requests ∙ sym (sum_by_push number_in ends e));
+  broken = broken ∙ (ap (λ n. n + as_broken e) is.broken ∙ sym (sum_by_push as_broken ends e));
+  cut = cut ∙ (ap (λ n. n + as_cut e) is.cut ∙ sym (sum_by_push as_cut ends e));
+  memory = memory ∙ (ap (λ n. n + as_memory e) is.memory ∙ sym (sum_by_push as_memory ends e));
+}
+
+pub at_most_one : (e : LinkEnd) → (as_broken e ≤ 1) × (as_cut e ≤ 1) × (as_memory e ≤ 1)
+at_most_one (Ended n) = (omega arith, omega arith, omega arith)
+at_most_one (Broken n) = (omega arith, omega arith, omega arith)
+at_most_one (Cut n) = (omega arith, omega arith, omega arith)
+at_most_one (Disk n) = (omega arith, omega arith, omega arith)
+at_most_one (NoMemory n) = (omega arith, omega arith, omega arith)
+
+pub calm_end : (e : LinkEnd) → ((n : ℕ) → e ≡ Disk n → ⊥) → ¬ (IsDiskEnd e)
+calm_end (Ended n) other failed = failed
+calm_end (Broken n) other failed = failed
+calm_end (Cut n) other failed = failed
+calm_end (Disk n) other failed = other n refl
+calm_end (NoMemory n) other failed = failed
+
+pub disk_end : (e : LinkEnd) (n : ℕ) → e ≡ Disk n → IsDiskEnd e
+disk_end e n is = subst IsDiskEnd (sym is) tt
+
+-- where the disk did not fail, no command was being appended
+nothing_pending : (e : LinkEnd) (reads writes : Type 0) (left left' : Option (List ℕ)) (s s' : Stand) (pending : List Accepted) (added : List ℕ) → ¬ (IsDiskEnd e)
+    → Serves e reads writes left left' s s' pending added → pending ≡ []
+nothing_pending (Ended n) reads writes left left' s s' pending added calm is = is.says.0
+nothing_pending (Cut n) reads writes left left' s s' pending added calm is = is.says.0
+nothing_pending (Disk n) reads writes left left' s s' pending added calm is = absurd (calm tt)
+nothing_pending (Broken n) reads writes left left' s s' pending added calm is = elim is.says [ inl read ↦ read.1 | inr write ↦ write.1.stopped.one.0 ]
+nothing_pending (NoMemory n) reads writes left left' s s' pending added calm is = elim is.says [ inl cut ↦ cut.stopped.one.0 | inr starved ↦ starved.0 ]
+
+-- ---- links so far
+
+-- ---- links so far
+
+-- a link that was served
+pub link_of : {D C : Type 0} (images : D → List ℕ → Type 0) (moment : D → ℕ) (images_since : D → ℕ → List ℕ → Type 0) (left held : C → Option (List ℕ)) (reads writes : C → ℕ) (old new : D)
+    (e : LinkEnd) (x y : C) (s s' : Stand)
+    (w : Writes images moment images_since old new (Serves e (HasRisen (reads x) (reads y)) (HasRisen (writes x) (writes y)) (left x) (left y) s s') s.history.commands s'.history.commands (held x) (held y))
+    → ServedLink left held reads writes e x y s s' w.pending
+link_of images moment images_since left held reads writes old new e x y s s' w = record { added = w.wrote; appends = w.appends; serves = w.says_so }
+
+module _ {D C : Type 0} (images : D → List ℕ → Type 0) (moment : D → ℕ) (images_since : D → ℕ → List ℕ → Type 0) (left held : C → Option (List ℕ)) (reads writes : C → ℕ) where
+  abbrev P : LinkEnd → C → C → Stand → Stand → List Accepted → Type 0
+  P = ServedLink left held reads writes
+
+  -- so many links are served, and at none the disk failed
+  pub record Along (old new : D) (summary : Summary) (n : ℕ) (coming coming' backed backed' : Option (List C)) (s s' : Stand) : Type 0 where
+    pub ends : List LinkEnd
+    pub has : HasServed P coming coming' backed backed' ends s s' []
+    pub calm : NoDisk ends
+    pub counted : IsSummary ends summary
+    pub count : length ends ≡ n
+    pub disk : OnDisk images moment images_since old new s.history.commands s'.history.commands []
+
+  pub along_none : (d : D) (summary : Summary) (coming backed : Option (List C)) (s : Stand) → IsSummary [] summary → OnDisk images moment images_since d d s.history.commands s.history.commands []
+      → Along d d summary 0 coming coming backed backed s s
+  along_none d summary coming backed s none disk = record {
+    ends = [];
+    has = record { came = []; back = []; taken = taken_none coming; handed = back_none backed; served = (refl, refl) };
+    calm = tt;
+    counted = none;
+    count = refl;
+    disk = disk;
+  }
+
+  module _ (old mid : D) (summary : Summary) (n : ℕ) (c0 c1 b0 b1 : Option (List C)) (s t : Stand) (along : Along old mid summary n c0 c1 b0 b1 s t) where
+    has_more : (c2 c3 b2 b3 : Option (List C)) (e : LinkEnd) (x y : C) (s' : Stand) (pending : List Accepted) → IsNext c1 c2 (Some x) → c3 ≡ c2 → b2 ≡ b1 → IsBack b2 b3 y → P e x y t s' pending
+        → HasServed P c0 c3 b0 b3 (along.ends ++ e ∷ []) s s' pending
+    has_more c2 c3 b2 b3 e x y s' pending next stays kept back one = record {
+      came = along.has.came ++ x ∷ [];
+      back = along.has.back ++ y ∷ [];
+      taken = subst (λ c. AreTaken c0 c (along.has.came ++ x ∷ [])) (sym stays) (taken_more c0 c1 c2 along.has.came x along.has.taken next);
+      handed = back_more b0 b1 b3 along.has.back y along.has.handed (subst (λ b. IsBack b b3 y) kept back);
+      served = served_more P along.ends along.has.came along.has.back s t s' [] pending e x y along.has.served one;
+    }
+
+    module _ (new : D) (summary' : Summary) (c2 c3 b2 b3 : Option (List C)) (e : LinkEnd) (x y : C) (s' : Stand)
+        (next : IsNext c1 c2 (Some x)) (stays : c3 ≡ c2) (kept : b2 ≡ b1) (back : IsBack b2 b3 y)
+        (link : Writes images moment images_since mid new (Serves e (HasRisen (reads x) (reads y)) (HasRisen (writes x) (writes y)) (left x) (left y) t s') t.history.commands s'.history.commands (held x) (held y))
+        (counted : IsSummary (along.ends ++ e ∷ []) summary') where
+      disk_on : OnDisk images moment images_since old new s.history.commands s'.history.commands link.pending
+      disk_on = disk_more images moment images_since old mid new s.history.commands t.history.commands s'.history.commands link.pending along.disk link.disk
+
+      has_on : HasServed P c0 c3 b0 b3 (along.ends ++ e ∷ []) s s' link.pending
+      has_on = has_more c2 c3 b2 b3 e x y s' link.pending next stays kept back (record { added = link.wrote; appends = link.appends; serves = link.says_so })
+
+      long : length (along.ends ++ e ∷ []) ≡ n + 1
+      long = let joined = length-append along.ends (e ∷ []) in let is = along.count in omega arith
+
+      pub along_more : ¬ (IsDiskEnd e) → Along old new summary' (n + 1) c0 c3 b0 b3 s s'
+      along_more calm =
+          let none : link.pending ≡ [] = nothing_pending e _ _ _ _ t s' link.pending link.wrote calm link.says_so in
+          record {
+            ends = along.ends ++ e ∷ [];
+            has = subst (λ p. HasServed P c0 c3 b0 b3 (along.ends ++ e ∷ []) s s' p) none has_on;
+            calm = calm_more along.ends e along.calm calm;
+            counted = counted;
+            count = long;
+            disk = subst (λ p. OnDisk images moment images_since old new s.history.commands s'.history.commands p) none disk_on;
+          }
+
+      pub along_stops : (most : ℕ) → n < most → IsDiskEnd e → ServesDoors images moment images_since old new P doors_end.DiskFault summary' most c0 c3 b0 b3 s s'
+      along_stops most below failed = record {
+        ends = along.ends ++ e ∷ [];
+        pending = link.pending;
+        has = has_on;
+        ended = (record { before = along.ends; last = e; ends_are = refl; others = along.calm; failed = failed }, (let is = long in omega arith));
+        counted = counted;
+        disk = disk_on;
+      }
+
+    -- no link comes
+    pub along_over : (c2 b2 : Option (List C)) (most : ℕ) → n < most → IsNext c1 c2 None → b2 ≡ b1 → ServesDoors images moment images_since old mid P doors_end.Done summary most c0 c2 b0 b2 s t
+    along_over c2 b2 most below next kept =
+        let end = taken_end c0 c1 c2 along.has.came along.has.taken next in
+        record {
+          ends = along.ends;
+          pending = [];
+          has = record { came = along.has.came; back = along.has.back; taken = end.0; handed = subst (λ b. AreBack b0 b along.has.back) (sym kept) along.has.handed; served = along.has.served };
+          ended = (along.calm, inr ((let is = along.count in omega arith), end.1));
+          counted = along.counted;
+          disk = along.disk;
+        }
+
+    -- the doors fail
+    pub along_fails : (c2 b2 : Option (List C)) (most : ℕ) → n < most → c2 ≡ c1 → b2 ≡ b1 → ServesDoors images moment images_since old mid P doors_end.NetFault summary most c0 c2 b0 b2 s t
+    along_fails c2 b2 most below same kept = record {
+      ends = along.ends;
+      pending = [];
+      has = record {
+        came = along.has.came;
+        back = along.has.back;
+        taken = subst (λ c. AreTaken c0 c along.has.came) (sym same) along.has.taken;
+        handed = subst (λ b. AreBack b0 b along.has.back) (sym kept) along.has.handed;
+        served = along.has.served;
+      };
+      ended = (along.calm, (let is = along.count in omega arith));
+      counted = along.counted;
+      disk = along.disk;
+    }
+
+    -- as many as were asked for
+    pub along_done : (most : ℕ) → n ≡ most → ServesDoors images moment images_since old mid P doors_end.Done summary most c0 c1 b0 b1 s t
+    along_done most all = record {
+      ends = along.ends;
+      pending = [];
+      has = along.has;
+      ended = (along.calm, inl (along.count ∙ all));
+      counted = along.counted;
+      disk = along.disk;
+    }

@@ -1,0 +1,294 @@
+-- A link in its course, and what it is where it ends.
+use Rattle.std.proofs.Common.{◌≡◌, ℕ, ◌+◌, ◌<◌, ◌≤◌, false, List, [], ◌++◌, length, refl, sym, ap, subst, ◌∙◌, inl, inr, arith, append-nil, length-append}
+use Rattle.std.specs.Prelude.{Option, Some, None}
+use Rattle.std.specs.Io.KnownBytes.{Consumes, IsAtEnd}
+use Rattle.std.proofs.KnownBytes.{Appends-nil, Consumes-nil, Consumes-trans}
+use Rattle.std.proofs.lemmas.Bool.{both_ways}
+use Rattle.svc_world.specs.World.{Accepted}
+use Rattle.serv_disk.specs.Sides.{Side}
+use Rattle.serv_http.specs.declared.ask.Ask.{Ask}
+use Rattle.serv_http.specs.declared.conn.Conn.{Conn}
+use Rattle.serv_http.specs.Conns.{StandsFor, StandsForLeft, is_over}
+use Rattle.serv_http.specs.Streams.{AsksTo}
+use Rattle.serv_http.proofs.StepLemmas.{nothing-more, nothing-open}
+use Rattle.serv_http.proofs.StreamLemmas.{asks-grow}
+use Rattle.serv_machine.specs.OnDisk.{OnDisk}
+use Rattle.serv_links.specs.declared.link_end.LinkEnd.TheVariants as link_end
+use Rattle.serv_links.specs.declared.outcome.Outcome.{Outcome}
+use Rattle.serv_links.specs.declared.outcome.Outcome.TheVariants as outcome
+use Rattle.serv_links.specs.Responses.{Stand, response_503}
+use Rattle.serv_links.specs.Outcomes.{IsAnswered, IsCutOff, IsUnread, IsPiece, AppendsFront, Writes}
+use Rattle.serv_links.specs.Links.{IsAll, IsStarved, Serves, link_limit}
+use Rattle.serv_links.proofs.RoundLemmas.{answered_none, answered_more, stopped_more, writes_more, writes_as}
+
+-- all requests of the bytes taken are answered, and the connection stands for what is left of them
+pub record Going (left left' : Option (List ℕ)) (c : Conn) (n taken : ℕ) (s s' : Stand) (pending : List Accepted) (added : List ℕ) : Type 0 where
+  pub nothing : pending ≡ []
+  pub bytes : List ℕ
+  pub took : Consumes left left' bytes
+  pub count : taken ≡ length bytes
+  pub asks : List Ask
+  pub rest : List ℕ
+  pub asked : AsksTo bytes asks (Some rest)
+  pub stands : StandsFor c rest
+  pub answered : IsAnswered n asks s s' added
+
+-- the same where the connection may have ended
+pub record Passed (left left' : Option (List ℕ)) (c : Conn) (n taken : ℕ) (s s' : Stand) (pending : List Accepted) (added : List ℕ) : Type 0 where
+  pub nothing : pending ≡ []
+  pub bytes : List ℕ
+  pub took : Consumes left left' bytes
+  pub count : taken ≡ length bytes
+  pub asks : List Ask
+  pub over : Option (List ℕ)
+  pub asked : AsksTo bytes asks over
+  pub stands : StandsForLeft c over
+  pub answered : IsAnswered n asks s s' added
+
+-- ---- sides of a link
+
+pub same_bytes : (x y : Side) (b b' : Option (List ℕ)) (f f' : ℕ) → x ≡ record { bytes = b; faults = f } → y ≡ record { bytes = b'; faults = f' } → y ≡ x → b' ≡ b
+same_bytes x y b b' f f' xs ys same = ap (λ (z : Side). z.bytes) (sym ys ∙ (same ∙ xs))
+
+pub same_faults : (x y : Side) (b b' : Option (List ℕ)) (f f' : ℕ) → x ≡ record { bytes = b; faults = f } → y ≡ record { bytes = b'; faults = f' } → y ≡ x → f' ≡ f
+same_faults x y b b' f f' xs ys same = ap (λ (z : Side). z.faults) (sym ys ∙ (same ∙ xs))
+
+-- ---- the bytes of two pieces
+
+asks_none : AsksTo [] [] (Some [])
+asks_none = (inl (nothing-more, nothing-open), refl)
+
+bytes_more : (bytes piece : List ℕ) (taken count : ℕ) → taken ≡ length bytes → length piece ≡ count → taken + count ≡ length (bytes ++ piece)
+bytes_more bytes piece taken count is long = let joined = length-append bytes piece in omega arith
+
+took_more : (left left' left'' left''' : Option (List ℕ)) (bytes piece : List ℕ) → Consumes left left' bytes → Consumes left' left'' piece → left''' ≡ left'' → Consumes left left''' (bytes ++ piece)
+took_more left left' left'' left''' bytes piece first second same = subst (λ l. Consumes left l (bytes ++ piece)) (sym same) (Consumes-trans left left' left'' bytes piece first second)
+
+-- ---- what the next piece makes of it
+
+module _ (left left' : Option (List ℕ)) (c : Conn) (n taken : ℕ) (s t : Stand) (pending : List Accepted) (added : List ℕ) (going : Going left left' c n taken s t pending added)
+    (left'' left''' : Option (List ℕ)) (piece : List ℕ) (count : ℕ) (long : length piece ≡ count) (took : Consumes left' left'' piece) (same : left''' ≡ left'') where
+  passed_more : (m : ℕ) (c' : Conn) (t' : Stand) (pending' : List Accepted) (w : List ℕ) → IsPiece outcome.Answered m (going.rest ++ piece) c' t t' pending' w
+      → Passed left left''' c' (n + m) (taken + count) s t' pending' (added ++ w)
+  passed_more m c' t' pending' w more = record {
+    nothing = more.nothing;
+    bytes = going.bytes ++ piece;
+    took = took_more left left' left'' left''' going.bytes piece going.took took same;
+    count = bytes_more going.bytes piece taken count going.count long;
+    asks = going.asks ++ more.asks;
+    over = more.fed.0;
+    asked = asks-grow going.asks more.asks going.bytes going.rest piece more.fed.0 going.asked more.fed.1;
+    stands = more.fed.2;
+    answered = answered_more n m going.asks more.asks s t t' added w going.answered more.answered;
+  }
+
+  cut_off_more : (o : Outcome) (m : ℕ) (t' : Stand) (pending' : List Accepted) (w : List ℕ) → IsCutOff o m (going.rest ++ piece) t t' pending' w
+      → IsCutOff o (n + m) (going.bytes ++ piece) s t' pending' (added ++ w)
+  cut_off_more o m t' pending' w more = record {
+    asks = going.asks ++ more.asks;
+    left = more.left;
+    asked = asks-grow going.asks more.asks going.bytes going.rest piece more.left going.asked more.asked;
+    stopped = stopped_more o n m going.asks more.asks s t t' pending' added w going.answered more.stopped;
+  }
+
+  starved_more : (m : ℕ) (t' : Stand) (pending' : List Accepted) (w : List ℕ) → IsUnread m t t' pending' w → IsStarved (n + m) (going.bytes ++ piece) (added ++ w) s t'
+  starved_more m t' pending' w unread = record {
+    asks = going.asks;
+    first = record { front = going.bytes; more = piece; parted = refl; left = Some going.rest; asked = going.asked };
+    mid = t;
+    before = added;
+    answered = subst (λ k. IsAnswered k going.asks s t added) (let none = unread.none in omega arith) going.answered;
+    part = w;
+    added_is = refl;
+    front = unread.front;
+    stays = unread.stays;
+  }
+
+  -- it ends there
+  module _ (within : taken + count ≤ link_limit) (reads writes : Type 0) (m : ℕ) (c' : Conn) (t' : Stand) (pending' : List Accepted) (w : List ℕ) where
+    small : length (going.bytes ++ piece) ≤ link_limit
+    small = let all = bytes_more going.bytes piece taken count going.count long in omega arith
+
+    broken_more : writes → IsPiece outcome.Broken m (going.rest ++ piece) c' t t' pending' w → Serves (link_end.Broken (n + m)) reads writes left left''' s t' pending' (added ++ w)
+    broken_more risen more = record { taken = going.bytes ++ piece; took = took_more left left' left'' left''' going.bytes piece going.took took same; within = small; says = inr (risen, cut_off_more outcome.Broken m t' pending' w more) }
+
+    disk_more_end : IsPiece outcome.Disk m (going.rest ++ piece) c' t t' pending' w → Serves (link_end.Disk (n + m)) reads writes left left''' s t' pending' (added ++ w)
+    disk_more_end more = record { taken = going.bytes ++ piece; took = took_more left left' left'' left''' going.bytes piece going.took took same; within = small; says = cut_off_more outcome.Disk m t' pending' w more }
+
+    memory_more : IsPiece outcome.NoMemory m (going.rest ++ piece) c' t t' pending' w → Serves (link_end.NoMemory (n + m)) reads writes left left''' s t' pending' (added ++ w)
+    memory_more (inl more) = record { taken = going.bytes ++ piece; took = took_more left left' left'' left''' going.bytes piece going.took took same; within = small; says = inl (cut_off_more outcome.NoMemory m t' pending' w more) }
+    memory_more (inr unread) = record { taken = going.bytes ++ piece; took = took_more left left' left'' left''' going.bytes piece going.took took same; within = small; says = inr (unread.nothing, starved_more m t' pending' w unread) }
+
+-- ---- where it ends without a further piece
+
+module _ (left left' : Option (List ℕ)) (c : Conn) (n taken : ℕ) (s t : Stand) (pending : List Accepted) (added : List ℕ) (reads writes : Type 0) where
+  going_all : (g : Going left left' c n taken s t pending added) → IsAll n g.bytes added s t (Some g.rest)
+  going_all g = record { asks = g.asks; asked = g.asked; answered = g.answered }
+
+  ended_at_end : Going left left' c n taken s t pending added → (left'' : Option (List ℕ)) → taken < link_limit → Consumes left' left'' [] → IsAtEnd left''
+      → Serves (link_end.Ended n) reads writes left left'' s t pending added
+  ended_at_end g left'' below took end = record {
+    taken = g.bytes;
+    took = subst (Consumes left left'') (append-nil g.bytes) (Consumes-trans left left' left'' g.bytes [] g.took took);
+    within = (let is = g.count in omega arith);
+    says = (g.nothing, (let is = g.count in omega arith), (Some g.rest, going_all g, inl end));
+  }
+
+  broken_at_read : Going left left' c n taken s t pending added → (left'' : Option (List ℕ)) → taken < link_limit → left'' ≡ left' → reads → Serves (link_end.Broken n) reads writes left left'' s t pending added
+  broken_at_read g left'' below same risen = record {
+    taken = g.bytes;
+    took = subst (λ l. Consumes left l g.bytes) (sym same) g.took;
+    within = (let is = g.count in omega arith);
+    says = inl (risen, g.nothing, (let is = g.count in omega arith), (Some g.rest, going_all g));
+  }
+
+  cut_at_limit : Passed left left' c n taken s t pending added → taken ≡ link_limit → Serves (link_end.Cut n) reads writes left left' s t pending added
+  cut_at_limit p full = record {
+    taken = p.bytes;
+    took = p.took;
+    within = (let is = p.count in omega arith);
+    says = (p.nothing, (let is = p.count in omega arith), (p.over, record { asks = p.asks; asked = p.asked; answered = p.answered }));
+  }
+
+  -- a connection that has ended stands for no bytes
+  over_is : (over : Option (List ℕ)) → StandsForLeft c over → ((r : List ℕ) → StandsFor c r → ⊥) → over ≡ None
+  over_is None stands none = refl
+  over_is (Some r) stands none = absurd (none r stands)
+
+  ended_at_request : Passed left left' c n taken s t pending added → taken < link_limit → ((r : List ℕ) → StandsFor c r → ⊥) → Serves (link_end.Ended n) reads writes left left' s t pending added
+  ended_at_request p below none = record {
+    taken = p.bytes;
+    took = p.took;
+    within = (let is = p.count in omega arith);
+    says = (p.nothing, (let is = p.count in omega arith), (p.over, record { asks = p.asks; asked = p.asked; answered = p.answered }, inr (over_is p.over p.stands none)));
+  }
+
+  rest_of : (over : Option (List ℕ)) → is_over c ≡ false → StandsForLeft c over → (r : List ℕ) × (over ≡ Some r) × StandsFor c r
+  rest_of None going stands = absurd (both_ways (is_over c) going stands)
+  rest_of (Some r) going stands = (r, refl, stands)
+
+  going_on : Passed left left' c n taken s t pending added → is_over c ≡ false → Going left left' c n taken s t pending added
+  going_on p going =
+      let r = rest_of p.over going p.stands in
+      record {
+        nothing = p.nothing;
+        bytes = p.bytes;
+        took = p.took;
+        count = p.count;
+        asks = p.asks;
+        rest = r.0;
+        asked = subst (AsksTo p.bytes p.asks) r.1 p.asked;
+        stands = r.2;
+        answered = p.answered;
+      }
+
+-- ---- with what is written to the link and left on a disk
+
+module _ {D : Type 0} (images : D → List ℕ → Type 0) (moment : D → ℕ) (images_since : D → ℕ → List ℕ → Type 0) where
+  -- no memory was there for the connection
+  pub starved_at_once : (d : D) (reads writes : Type 0) (left left' held held' : Option (List ℕ)) (s : Stand) → left' ≡ left → AppendsFront held held' response_503
+      → OnDisk images moment images_since d d s.history.commands s.history.commands []
+      → Writes images moment images_since d d (Serves (link_end.NoMemory 0) reads writes left left' s s) s.history.commands s.history.commands held held'
+  starved_at_once d reads writes left left' held held' s same front disk = record {
+    pending = [];
+    wrote = front.part;
+    appends = front.appends;
+    says_so = record {
+      taken = [];
+      took = subst (λ l. Consumes left l []) (sym same) (Consumes-nil left);
+      within = omega arith;
+      says = inr (
+        refl,
+        record {
+          asks = [];
+          first = record { front = []; more = []; parted = refl; left = Some []; asked = asks_none };
+          mid = s;
+          before = [];
+          answered = answered_none s s refl (omega arith);
+          part = front.part;
+          added_is = refl;
+          front = front.front;
+          stays = (refl, omega arith);
+        },
+      );
+    };
+    disk = disk;
+  }
+
+  pub going_none : (d : D) (left held : Option (List ℕ)) (c : Conn) (s : Stand) → StandsFor c [] → OnDisk images moment images_since d d s.history.commands s.history.commands []
+      → Writes images moment images_since d d (Going left left c 0 0 s s) s.history.commands s.history.commands held held
+  going_none d left held c s stands disk = record {
+    pending = [];
+    wrote = [];
+    appends = Appends-nil held;
+    says_so = record {
+      nothing = refl;
+      bytes = [];
+      took = Consumes-nil left;
+      count = refl;
+      asks = [];
+      rest = [];
+      asked = asks_none;
+      stands = stands;
+      answered = answered_none s s refl (omega arith);
+    };
+    disk = disk;
+  }
+
+  -- it stays as it is but for what is held, which is the same
+  abbrev Run : (old new : D) (says : List Accepted → List ℕ → Type 0) (s s' : Stand) (held held' : Option (List ℕ)) → Type 0
+  Run old new says s s' held held' = Writes images moment images_since old new says s.history.commands s'.history.commands held held'
+
+  held_same : (old new : D) (P : List Accepted → List ℕ → Type 0) (s s' : Stand) (held held' held'' : Option (List ℕ)) → held'' ≡ held' → Run old new P s s' held held' → Run old new P s s' held held''
+  held_same old new P s s' held held' held'' same w = subst (λ h. Run old new P s s' held h) (sym same) w
+
+  module _ (old mid : D) (left left' held held' : Option (List ℕ)) (c : Conn) (n taken : ℕ) (s t : Stand) (run : Run old mid (Going left left' c n taken s t) s t held held')
+      (left'' held'' : Option (List ℕ)) (same : held'' ≡ held') (below : taken < link_limit) (reads writes : Type 0) where
+    pub run_ends : Consumes left' left'' [] → IsAtEnd left'' → Run old mid (Serves (link_end.Ended n) reads writes left left'' s t) s t held held''
+    run_ends took end = held_same old mid _ s t held held' held'' same
+        (writes_as images moment images_since old mid _ _ _ _ held held' (λ p w g. ended_at_end left left' c n taken s t p w reads writes g left'' below took end) run)
+
+    pub run_breaks : left'' ≡ left' → reads → Run old mid (Serves (link_end.Broken n) reads writes left left'' s t) s t held held''
+    run_breaks unread risen = held_same old mid _ s t held held' held'' same
+        (writes_as images moment images_since old mid _ _ _ _ held held' (λ p w g. broken_at_read left left' c n taken s t p w reads writes g left'' below unread risen) run)
+
+  -- a piece of a link was read, and then served
+  module _ (old mid new : D) (left left' left'' left''' held held' held'' held''' : Option (List ℕ)) (c c' : Conn) (n taken : ℕ) (s t t' : Stand)
+      (run : Run old mid (Going left left' c n taken s t) s t held held') (same : held'' ≡ held')
+      (piece : List ℕ) (count : ℕ) (long : length piece ≡ count) (took : Consumes left' left'' piece) (stays : left''' ≡ left'')
+      (o : Outcome) (m : ℕ) (served : (r : List ℕ) → StandsFor c r → Run mid new (IsPiece o m (r ++ piece) c' t t') t t' held'' held''') where
+    joined : (R : List Accepted → List ℕ → Type 0)
+        → ((p : List Accepted) (w : List ℕ) → IsPiece o m (run.says_so.rest ++ piece) c' t t' p w → R p (run.wrote ++ w)) → Run old new R s t' held held'''
+    joined R then =
+        let second : Run mid new (IsPiece o m (run.says_so.rest ++ piece) c' t t') t t' held' held''' =
+        subst (λ h. Run mid new (IsPiece o m (run.says_so.rest ++ piece) c' t t') t t' h held''') same (served run.says_so.rest run.says_so.stands) in
+        writes_more images moment images_since old mid new _ _ R _ _ _ held held' held''' run run.says_so.nothing second
+        (then second.pending second.wrote second.says_so)
+
+    pub run_passes : o ≡ outcome.Answered → Run old new (Passed left left''' c' (n + m) (taken + count) s t') s t' held held'''
+    run_passes is = joined _ (λ p w x. passed_more left left' c n taken s t run.pending run.wrote run.says_so left'' left''' piece count long took stays m c' t' p w
+        (subst (λ q. IsPiece q m (run.says_so.rest ++ piece) c' t t' p w) is x))
+
+    module _ (within : taken + count ≤ link_limit) (reads writes : Type 0) where
+      pub run_broken : o ≡ outcome.Broken → writes → Run old new (Serves (link_end.Broken (n + m)) reads writes left left''' s t') s t' held held'''
+      run_broken is risen = joined _ (λ p w x. broken_more left left' c n taken s t run.pending run.wrote run.says_so left'' left''' piece count long took stays within reads writes m c' t' p w risen
+          (subst (λ q. IsPiece q m (run.says_so.rest ++ piece) c' t t' p w) is x))
+
+      pub run_disk : o ≡ outcome.Disk → Run old new (Serves (link_end.Disk (n + m)) reads writes left left''' s t') s t' held held'''
+      run_disk is = joined _ (λ p w x. disk_more_end left left' c n taken s t run.pending run.wrote run.says_so left'' left''' piece count long took stays within reads writes m c' t' p w
+          (subst (λ q. IsPiece q m (run.says_so.rest ++ piece) c' t t' p w) is x))
+
+      pub run_memory : o ≡ outcome.NoMemory → Run old new (Serves (link_end.NoMemory (n + m)) reads writes left left''' s t') s t' held held'''
+      run_memory is = joined _ (λ p w x. memory_more left left' c n taken s t run.pending run.wrote run.says_so left'' left''' piece count long took stays within reads writes m c' t' p w
+          (subst (λ q. IsPiece q m (run.says_so.rest ++ piece) c' t t' p w) is x))
+
+  -- after a piece that was answered
+  module _ (old new : D) (left left' held held' : Option (List ℕ)) (c : Conn) (n taken : ℕ) (s t : Stand) (run : Run old new (Passed left left' c n taken s t) s t held held') where
+    pub run_cut : (reads writes : Type 0) → taken ≡ link_limit → Run old new (Serves (link_end.Cut n) reads writes left left' s t) s t held held'
+    run_cut reads writes full = writes_as images moment images_since old new _ _ _ _ held held' (λ p w g. cut_at_limit left left' c n taken s t p w reads writes g full) run
+
+    pub run_over : (reads writes : Type 0) → taken < link_limit → ((r : List ℕ) → StandsFor c r → ⊥) → Run old new (Serves (link_end.Ended n) reads writes left left' s t) s t held held'
+    run_over reads writes below none = writes_as images moment images_since old new _ _ _ _ held held' (λ p w g. ended_at_request left left' c n taken s t p w reads writes g below none) run
+
+    pub run_goes : is_over c ≡ false → Run old new (Going left left' c n taken s t) s t held held'
+    run_goes going = writes_as images moment images_since old new _ _ _ _ held held' (λ p w g. going_on left left' c n taken s t p w ⊥ ⊥ g going) run

@@ -1,0 +1,6 @@
+pub mod ReplyLemmas
+pub mod AskLemmas
+pub mod RoundLemmas
+pub mod GoingLemmas
+pub mod DoorsLemmas
+pub mod OneLemmas

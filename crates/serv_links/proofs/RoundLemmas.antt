@@ -1,0 +1,212 @@
+-- Requests in order, one after another.
+use Rattle.std.proofs.Common.{◌≡◌, ℕ, suc, Bool, ◌+◌, ◌<◌, ◌≤◌, List, [], ◌∷◌, ◌++◌, length, take, drop, get_or, refl, sym, ap, subst, ◌∙◌, inl, inr, arith, append_assoc, append-nil, length-append, drop-cons, add-one, zero-add}
+use Rattle.std.specs.Prelude.{Option, None, Result, Ok, Err, OnOk, OnErr}
+use Rattle.std.specs.Io.KnownBytes.{Appends}
+use Rattle.std.proofs.KnownBytes.{Appends-nil, Appends-trans}
+use Rattle.std.proofs.lemmas.Bool.{cases_lt}
+use Rattle.std.proofs.lemmas.List.{take_more, take-append-drop}
+use Rattle.svc_world.specs.World.{Accepted}
+use Rattle.serv_disk.specs.Faults.{AppendsPart, HasRisen}
+use Rattle.serv_http.specs.declared.ask.Allow.{Allow}
+use Rattle.serv_http.specs.declared.ask.Ask.{Ask}
+use Rattle.serv_http.specs.declared.ask.Ask.TheVariants.{Post, Fault}
+use Rattle.serv_http.specs.declared.conn.Conn.{Conn}
+use Rattle.serv_http.specs.Conns.{IsFed}
+use Rattle.serv_machine.specs.declared.faults.Halt.TheVariants as halt
+use Rattle.serv_machine.specs.History.{History}
+use Rattle.serv_machine.specs.OnDisk.{OnDisk}
+use Rattle.serv_machine.proofs.OnDiskLemmas.{disk_more}
+use Rattle.serv_links.specs.declared.outcome.Outcome.{Outcome}
+use Rattle.serv_links.specs.declared.outcome.Outcome.TheVariants.{Answered, Broken, Disk, NoMemory}
+use Rattle.serv_links.specs.Meanings.{Meaning, Faulty, Mean, IsNoBody}
+use Rattle.serv_links.specs.Responses.{Stand, MovesAll, response_to, responses_to, response_503, after_all, bound_of_all, history_after, bound_of}
+use Rattle.serv_links.specs.Outcomes.{IsReplied, IsOne, IsAnswered, IsStopped, IsRound, IsPiece, AppendsFront, Halts, Writes}
+use Rattle.serv_http.specs.Responses.{response}
+
+-- ---- lists of meanings
+
+mean_append : (xs ys : List Ask) (ms ns : List Meaning) → Mean xs ms → Mean ys ns → Mean (xs ++ ys) (ms ++ ns)
+mean_append [] ys [] ns p q = q
+mean_append [] ys (m ∷ ms) ns p q = absurd p
+mean_append (x ∷ xs) ys [] ns p q = absurd p
+mean_append (x ∷ xs) ys (m ∷ ms) ns p q = (p.0, mean_append xs ys ms ns p.1 q)
+
+after_append : (ms : List Meaning) (h : History) (ns : List Meaning) → after_all h (ms ++ ns) ≡ after_all (after_all h ms) ns
+after_append [] h ns = refl
+after_append (m ∷ ms) h ns = after_append ms (history_after h m) ns
+
+pub responses_append : (ms : List Meaning) (h : History) (ns : List Meaning) → responses_to h (ms ++ ns) ≡ responses_to h ms ++ responses_to (after_all h ms) ns
+responses_append [] h ns = refl
+responses_append (m ∷ ms) h ns = ap (λ t. response_to h m ++ t) (responses_append ms (history_after h m) ns) ∙ sym (append_assoc (response_to h m) _ _)
+
+-- the steps of the first, and those of all
+sum_on : (a b c d : ℕ) → b ≡ c + d → a + b ≡ a + c + d
+sum_on a b c d is = omega arith
+
+bound_append : (ms : List Meaning) (h : History) (ns : List Meaning) → bound_of_all h (ms ++ ns) ≡ bound_of_all h ms + bound_of_all (after_all h ms) ns
+bound_append [] h ns = sym (zero-add _)
+bound_append (m ∷ ms) h ns = sum_on (bound_of h m) _ _ _ (bound_append ms (history_after h m) ns)
+
+moved_more : (ms ns : List Meaning) (s mid s' : Stand) → MovesAll ms s mid → MovesAll ns mid s' → MovesAll (ms ++ ns) s s'
+moved_more ms ns s mid s' first second = (
+  second.0 ∙ (ap (λ h. after_all h ns) first.0 ∙ sym (after_append ms s.history ns)),
+  (let both = bound_append ms s.history ns in
+      let same : bound_of_all mid.history ns ≡ bound_of_all (after_all s.history ms) ns = ap (λ h. bound_of_all h ns) first.0 in
+      let a : mid.steps ≤ s.steps + bound_of_all s.history ms = first.1 in
+      let b : s'.steps ≤ mid.steps + bound_of_all mid.history ns = second.1 in
+      omega arith),
+)
+
+-- ---- requests in order
+
+pub answered_none : (s s' : Stand) → s'.history ≡ s.history → s'.steps ≤ s.steps → IsAnswered 0 [] s s' []
+answered_none s s' same cost = record { meant = []; mean = tt; count = refl; wrote_is = refl; moved = (same, omega arith) }
+
+pub answered_more : (n m : ℕ) (xs ys : List Ask) (s mid s' : Stand) (w1 w2 : List ℕ) → IsAnswered n xs s mid w1 → IsAnswered m ys mid s' w2 → IsAnswered (n + m) (xs ++ ys) s s' (w1 ++ w2)
+answered_more n m xs ys s mid s' w1 w2 first second = record {
+  meant = first.meant ++ second.meant;
+  mean = mean_append xs ys first.meant second.meant first.mean second.mean;
+  count = (let long = length-append xs ys in let a = first.count in let b = second.count in omega arith);
+  wrote_is = ap (λ t. t ++ w2) first.wrote_is ∙ (ap (λ t. responses_to s.history first.meant ++ t) (second.wrote_is ∙ ap (λ h. responses_to h second.meant) first.moved.0)
+      ∙ sym (responses_append first.meant s.history second.meant));
+  moved = moved_more first.meant second.meant s mid s' first.moved second.moved;
+}
+
+answered_one : (a : Ask) (s s' : Stand) (text : List ℕ) → IsReplied a s s' text → IsAnswered 1 (a ∷ []) s s' text
+answered_one a s s' text r = record {
+  meant = r.meant ∷ [];
+  mean = (r.means, tt);
+  count = refl;
+  wrote_is = r.text_is ∙ sym (append-nil (response_to s.history r.meant));
+  moved = (r.moved.0, (let cost = r.moved.1 in omega arith));
+}
+
+pub stopped_more : (o : Outcome) (n m : ℕ) (xs ys : List Ask) (s mid s' : Stand) (pending : List Accepted) (w1 w2 : List ℕ) → IsAnswered n xs s mid w1 → IsStopped o m ys mid s' pending w2
+    → IsStopped o (n + m) (xs ++ ys) s s' pending (w1 ++ w2)
+stopped_more o n m xs ys s mid s' pending w1 w2 first second = record {
+  done = xs ++ second.done;
+  ask = second.ask;
+  rest = second.rest;
+  asked = ap (λ l. xs ++ l) second.asked ∙ sym (append_assoc xs second.done (second.ask ∷ second.rest));
+  mid = second.mid;
+  before = w1 ++ second.before;
+  answered = answered_more n m xs second.done s mid second.mid w1 second.before first second.answered;
+  part = second.part;
+  wrote_is = ap (λ t. w1 ++ t) second.wrote_is ∙ sym (append_assoc w1 second.before second.part);
+  one = second.one;
+}
+
+one_answered : (i : ℕ) (asks : List Ask) (a d : Ask) (s mid s' : Stand) (w1 w2 : List ℕ) → i < length asks → a ≡ get_or asks i d → IsAnswered i (take i asks) s mid w1 → IsReplied a mid s' w2
+    → IsAnswered (i + 1) (take (i + 1) asks) s s' (w1 ++ w2)
+one_answered i asks a d s mid s' w1 w2 lt is first second =
+    subst (λ l. IsAnswered (i + 1) l s s' (w1 ++ w2)) (ap (λ x. take i asks ++ x ∷ []) is ∙ sym (take_more asks i d lt))
+    (answered_more i 1 (take i asks) (a ∷ []) s mid s' w1 w2 first (answered_one a mid s' w2 second))
+
+parted : (i : ℕ) (asks : List Ask) (a d : Ask) → i < length asks → a ≡ get_or asks i d → asks ≡ take i asks ++ a ∷ drop (i + 1) asks
+parted i asks a d lt is =
+    sym (take-append-drop i asks) ∙ ap (λ l. take i asks ++ l) (drop-cons asks i d lt ∙ (ap (λ x. x ∷ drop (suc i) asks) (sym is) ∙ ap (λ n. a ∷ drop n asks) (sym (add-one i))))
+
+one_stopped : (o : Outcome) (i : ℕ) (asks : List Ask) (a d : Ask) (s mid s' : Stand) (pending : List Accepted) (w1 w2 : List ℕ) → i < length asks → a ≡ get_or asks i d
+    → IsAnswered i (take i asks) s mid w1 → IsOne o a mid s' pending w2 → IsStopped o i asks s s' pending (w1 ++ w2)
+one_stopped o i asks a d s mid s' pending w1 w2 lt is first one = record {
+  done = take i asks;
+  ask = a;
+  rest = drop (i + 1) asks;
+  asked = parted i asks a d lt is;
+  mid = mid;
+  before = w1;
+  answered = first;
+  part = w2;
+  wrote_is = refl;
+  one = one;
+}
+
+round_stopped : (o : Outcome) (i : ℕ) (asks : List Ask) (s s' : Stand) (pending : List Accepted) (w : List ℕ) → (o ≡ Answered → ⊥) → IsStopped o i asks s s' pending w → IsRound o i asks s s' pending w
+round_stopped Answered i asks s s' pending w not stopped = absurd (not refl)
+round_stopped Broken i asks s s' pending w not stopped = stopped
+round_stopped Disk i asks s s' pending w not stopped = stopped
+round_stopped NoMemory i asks s s' pending w not stopped = stopped
+
+pub piece_of : (o : Outcome) (n : ℕ) (asks : List Ask) (bytes : List ℕ) (c : Conn) (s s' : Stand) (pending : List Accepted) (w : List ℕ) → IsFed bytes asks c → IsRound o n asks s s' pending w
+    → IsPiece o n bytes c s s' pending w
+piece_of Answered n asks bytes c s s' pending w fed round = record { asks = asks; fed = fed; nothing = round.0; answered = round.1 }
+piece_of Broken n asks bytes c s s' pending w fed round = record { asks = asks; left = fed.0; asked = fed.1; stopped = round }
+piece_of Disk n asks bytes c s s' pending w fed round = record { asks = asks; left = fed.0; asked = fed.1; stopped = round }
+piece_of NoMemory n asks bytes c s s' pending w fed round = inl (record { asks = asks; left = fed.0; asked = fed.1; stopped = round })
+
+-- ---- one request
+
+pub no_body_replied : (body : List ℕ) (last : Bool) (s : Stand) (text : List ℕ) → IsNoBody body → text ≡ response 400 [] last None → IsReplied (Post body last) s s text
+unfolding response_to
+no_body_replied body last s text none is = record { meant = Faulty 400 last None; means = (none, refl, refl, refl); text_is = is; moved = (refl, omega arith) }
+
+pub fault_replied : (status : ℕ) (last : Bool) (allow : Option Allow) (s : Stand) (text : List ℕ) → text ≡ response status [] last allow → IsReplied (Fault status last allow) s s text
+unfolding response_to
+fault_replied status last allow s text is = record { meant = Faulty status last allow; means = (refl, refl, refl); text_is = is; moved = (refl, omega arith) }
+
+pub front_by : {E : Type 0} (r : Result (Unit {0}) E) (held held' : Option (List ℕ)) (text : List ℕ) → OnOk r (Appends held held' text) → OnErr r (AppendsPart held held' text) → AppendsFront held held' text
+front_by (Ok done) held held' text whole part = record { part = text; appends = whole; front = record { rest = []; joined = sym (append-nil text) } }
+front_by (Err e) held held' text whole part = record { part = part.part; appends = part.wrote; front = record { rest = part.partial.rest; joined = part.partial.joined } }
+
+-- ---- counts of faults
+
+-- it rose in the last call
+pub risen_last : (old mid new : ℕ) → old ≤ mid → mid ≤ new → HasRisen mid new → HasRisen old new
+risen_last old mid new before after (inl more) = inl (omega arith)
+risen_last old mid new before after (inr full) = elim (cases_lt old mid) [ inl less ↦ inl (omega arith) | inr same ↦ inr (omega arith) ]
+
+-- ---- with what is left on a disk
+
+module _ {D : Type 0} (images : D → List ℕ → Type 0) (moment : D → ℕ) (images_since : D → ℕ → List ℕ → Type 0) where
+  pub halts_here : (d : D) (a : Ask) (s : Stand) → OnDisk images moment images_since d d s.history.commands s.history.commands [] → Halts images moment images_since d d halt.OutOfMemory a s s
+  halts_here d a s disk = record { pending = []; halted = (refl, inl (refl, omega arith)); disk = disk }
+
+  -- what was written, and then more
+  pub writes_more : (old mid new : D) (P Q R : List Accepted → List ℕ → Type 0) (h h1 h2 : List Accepted) (held held1 held2 : Option (List ℕ))
+      (first : Writes images moment images_since old mid P h h1 held held1) → first.pending ≡ [] → (second : Writes images moment images_since mid new Q h1 h2 held1 held2)
+      → R second.pending (first.wrote ++ second.wrote) → Writes images moment images_since old new R h h2 held held2
+  writes_more old mid new P Q R h h1 h2 held held1 held2 first none second says = record {
+    pending = second.pending;
+    wrote = first.wrote ++ second.wrote;
+    appends = Appends-trans held held1 held2 first.wrote second.wrote first.appends second.appends;
+    says_so = says;
+    disk = disk_more images moment images_since old mid new h h1 h2 second.pending (subst (λ p. OnDisk images moment images_since old mid h h1 p) none first.disk) second.disk;
+  }
+
+  pub writes_as : (old new : D) (P Q : List Accepted → List ℕ → Type 0) (h h' : List Accepted) (held held' : Option (List ℕ)) → ((pending : List Accepted) (w : List ℕ) → P pending w → Q pending w)
+      → Writes images moment images_since old new P h h' held held' → Writes images moment images_since old new Q h h' held held'
+  writes_as old new P Q h h' held held' then w = record { pending = w.pending; wrote = w.wrote; appends = w.appends; says_so = then w.pending w.wrote w.says_so; disk = w.disk }
+
+  pub round_goes_on : (old mid new : D) (i : ℕ) (asks : List Ask) (a d : Ask) (s t s' : Stand) (held held1 held2 : Option (List ℕ)) → i < length asks → a ≡ get_or asks i d
+      → Writes images moment images_since old mid (IsRound Answered i (take i asks) s t) s.history.commands t.history.commands held held1
+      → Writes images moment images_since mid new (IsOne Answered a t s') t.history.commands s'.history.commands held1 held2
+      → Writes images moment images_since old new (IsRound Answered (i + 1) (take (i + 1) asks) s s') s.history.commands s'.history.commands held held2
+  round_goes_on old mid new i asks a d s t s' held held1 held2 lt is first second =
+      writes_more old mid new _ _ _ _ _ _ held held1 held2 first first.says_so.0 second
+      (second.says_so.0, one_answered i asks a d s t s' first.wrote second.wrote lt is first.says_so.1 second.says_so.1)
+
+  pub round_stops : (o : Outcome) (old mid new : D) (i : ℕ) (asks : List Ask) (a d : Ask) (s t s' : Stand) (held held1 held2 : Option (List ℕ)) → (o ≡ Answered → ⊥) → i < length asks → a ≡ get_or asks i d
+      → Writes images moment images_since old mid (IsRound Answered i (take i asks) s t) s.history.commands t.history.commands held held1
+      → Writes images moment images_since mid new (IsOne o a t s') t.history.commands s'.history.commands held1 held2
+      → Writes images moment images_since old new (IsRound o i asks s s') s.history.commands s'.history.commands held held2
+  round_stops o old mid new i asks a d s t s' held held1 held2 not lt is first second =
+      writes_more old mid new _ _ _ _ _ _ held held1 held2 first first.says_so.0 second
+      (round_stopped o i asks s s' second.pending (first.wrote ++ second.wrote) not
+      (one_stopped o i asks a d s t s' second.pending first.wrote second.wrote lt is first.says_so.1 second.says_so))
+
+  -- no request yet
+  pub round_none : (d : D) (s : Stand) (held : Option (List ℕ)) → OnDisk images moment images_since d d s.history.commands s.history.commands []
+      → Writes images moment images_since d d (IsRound Answered 0 [] s s) s.history.commands s.history.commands held held
+  round_none d s held disk = record { pending = []; wrote = []; appends = Appends-nil held; says_so = (refl, answered_none s s refl (omega arith)); disk = disk }
+
+  -- the requests of a piece cannot be read
+  pub unread_here : (d : D) (bytes : List ℕ) (c : Conn) (s : Stand) (held held' : Option (List ℕ)) → AppendsFront held held' response_503
+      → OnDisk images moment images_since d d s.history.commands s.history.commands []
+      → Writes images moment images_since d d (IsPiece NoMemory 0 bytes c s s) s.history.commands s.history.commands held held'
+  unread_here d bytes c s held held' front disk = record {
+    pending = [];
+    wrote = front.part;
+    appends = front.appends;
+    says_so = inr (record { none = refl; nothing = refl; stays = (refl, omega arith); front = front.front });
+    disk = disk;
+  }

@@ -1,0 +1,22 @@
+use Rattle.std.proofs.Common.{◌-◌, ◌^◌, ◌<◌, ◌≤◌}
+use Rattle.serv_links.specs.Responses.{stand}
+use Rattle.serv_links.specs.Outcomes.{Writes}
+use Rattle.serv_links.proofs.GoingLemmas.{Going}
+use Rattle.serv_links.proofs.serving.serve_link.Given as goal
+
+-- the requests of the bytes taken are answered
+abbrev pub invariant-pieces : goal.invariant-pieces
+invariant-pieces g l = record {
+  run : Writes g.D.Disk.images g.D.Disk.moment g.D.Disk.images_since l.fn.disk l.disk
+      (Going (g.C.Source.left l.fn.link) (g.C.Source.left l.link) l.conn l.answered l.taken (stand (g.M.Machine.history l.fn.machine) l.fn.steps) (stand (g.M.Machine.history l.machine) l.steps))
+      (g.M.Machine.history l.fn.machine).commands (g.M.Machine.history l.machine).commands (g.C.Sink.held l.fn.link) (g.C.Sink.held l.link);
+  below : l.taken < 2 ^ 24;
+  few : l.answered ≤ l.taken;
+  ready : g.M.Machine.ready l.machine l.disk;
+  faults : g.D.Disk.faults l.fn.disk ≤ g.D.Disk.faults l.disk;
+  read_later : g.C.Source.faults l.fn.link ≤ g.C.Source.faults l.link;
+  write_later : g.C.Sink.faults l.fn.link ≤ g.C.Sink.faults l.link;
+}
+
+abbrev pub decreases-pieces : goal.decreases-pieces
+decreases-pieces g l = 2 ^ 24 - l.taken

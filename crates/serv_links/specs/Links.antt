@@ -1,0 +1,84 @@
+-- How a link was served: what was taken from it and written to it, what is held after it, and why it ended.
+use Rattle.std.specs.Prelude.{◌≡◌, ℕ, ◌^◌, ◌<◌, ◌≤◌, ◌⊎◌, List, [], ◌++◌, length, Option, None, ⊤}
+use Rattle.std.specs.Io.KnownBytes.{Consumes, IsAtEnd}
+use Rattle.svc_world.specs.World.{Accepted}
+use Rattle.serv_http.specs.declared.ask.Ask.{Ask}
+use Rattle.serv_http.specs.Streams.{AsksTo}
+use Rattle.serv_links.specs.declared.link_end.LinkEnd.{LinkEnd}
+use Rattle.serv_links.specs.declared.link_end.LinkEnd.TheVariants as link_end
+use Rattle.serv_links.specs.declared.outcome.Outcome.TheVariants as outcome
+use Rattle.serv_links.specs.Responses.{Stand, Stays, response_503}
+use Rattle.serv_links.specs.Outcomes.{IsAnswered, IsCutOff, IsFront}
+
+-- the most bytes that are taken from a link: 16,777,216
+abbrev pub link_limit : ℕ
+link_limit = 2 ^ 24
+
+-- how many responses were written whole
+abbrev pub number_in : LinkEnd → ℕ
+number_in (link_end.Ended n) = n
+number_in (link_end.Broken n) = n
+number_in (link_end.Cut n) = n
+number_in (link_end.Disk n) = n
+number_in (link_end.NoMemory n) = n
+
+-- the disk failed
+abbrev pub IsDiskEnd : LinkEnd → Type 0
+IsDiskEnd (link_end.Ended n) = ⊥
+IsDiskEnd (link_end.Broken n) = ⊥
+IsDiskEnd (link_end.Cut n) = ⊥
+IsDiskEnd (link_end.Disk n) = ⊤
+IsDiskEnd (link_end.NoMemory n) = ⊥
+
+-- all requests of these bytes are answered
+pub record IsAll (n : ℕ) (taken added : List ℕ) (s s' : Stand) (left : Option (List ℕ)) : Type 0 where
+  pub asks : List Ask
+  pub asked : AsksTo taken asks left
+  pub answered : IsAnswered n asks s s' added
+
+-- requests of the first ones of these bytes, which have no further one
+pub record AreFirst (taken : List ℕ) (asks : List Ask) : Type 0 where
+  pub front : List ℕ
+  pub more : List ℕ
+  pub parted : taken ≡ front ++ more
+  pub left : Option (List ℕ)
+  pub asked : AsksTo front asks left
+
+-- no memory was there to read on: the first requests of these bytes are answered, and no further one is acted on
+pub record IsStarved (n : ℕ) (taken added : List ℕ) (s s' : Stand) : Type 0 where
+  pub asks : List Ask
+  pub first : AreFirst taken asks
+  pub mid : Stand
+  pub before : List ℕ
+  pub answered : IsAnswered n asks s mid before
+  pub part : List ℕ
+  pub added_is : added ≡ before ++ part
+  pub front : IsFront part response_503
+  pub stays : Stays mid s'
+
+-- the end of a link whose count of read faults, or of write faults, has risen, and of which nothing is left to read:
+-- at Ended and Cut, and where a read failed, all requests are answered
+abbrev pub IsServed : LinkEnd
+    → Type 0 → Type 0 → Type 0 → List ℕ → Stand → Stand → List Accepted → List ℕ → Type 0
+IsServed (link_end.Ended n) reads writes at_end taken s s' pending added =
+    (pending ≡ []) × (length taken < link_limit)
+    × ((left : Option (List ℕ)) × IsAll n taken added s s' left × (at_end ⊎ (left ≡ None)))
+IsServed (link_end.Cut n) reads writes at_end taken s s' pending added =
+    (pending ≡ []) × (length taken ≡ link_limit)
+    × ((left : Option (List ℕ)) × IsAll n taken added s s' left)
+IsServed (link_end.Broken n) reads writes at_end taken s s' pending added =
+    (reads × (pending ≡ []) × (length taken < link_limit)
+    × ((left : Option (List ℕ)) × IsAll n taken added s s' left))
+    ⊎ (writes × IsCutOff outcome.Broken n taken s s' pending added)
+IsServed (link_end.Disk n) reads writes at_end taken s s' pending added =
+    IsCutOff outcome.Disk n taken s s' pending added
+IsServed (link_end.NoMemory n) reads writes at_end taken s s' pending added =
+    IsCutOff outcome.NoMemory n taken s s' pending added
+    ⊎ ((pending ≡ []) × IsStarved n taken added s s')
+
+-- with what is taken, where the link tells what is left
+pub record Serves (end : LinkEnd) (reads writes : Type 0) (left left' : Option (List ℕ)) (s s' : Stand) (pending : List Accepted) (added : List ℕ) : Type 0 where
+  pub taken : List ℕ
+  pub took : Consumes left left' taken
+  pub within : length taken ≤ link_limit
+  pub says : IsServed end reads writes (IsAtEnd left') taken s s' pending added

@@ -1,0 +1,156 @@
+-- How one request went, and how requests in order did.
+use Rattle.std.specs.Prelude.{◌≡◌, ℕ, ◌+◌, ◌≤◌, ◌⊎◌, List, [], ◌∷◌, ◌++◌, length, Bool, Option}
+use Rattle.std.specs.Io.KnownBytes.{Appends}
+use Rattle.svc_types.specs.declared.requests.Command.{Command}
+use Rattle.svc_types.specs.declared.requests.Request.TheVariants as request
+use Rattle.svc_world.specs.World.{Accepted, accepted}
+use Rattle.serv_disk.specs.Faults.{IsProperPrefix}
+use Rattle.serv_http.specs.declared.ask.Ask.{Ask}
+use Rattle.serv_http.specs.declared.conn.Conn.{Conn}
+use Rattle.serv_http.specs.Conns.{IsFed}
+use Rattle.serv_http.specs.Streams.{AsksTo}
+use Rattle.serv_machine.specs.declared.faults.Halt.{Halt}
+use Rattle.serv_machine.specs.declared.faults.Halt.TheVariants as halt
+use Rattle.serv_machine.specs.History.{Fresh, decided}
+use Rattle.serv_machine.specs.OnDisk.{OnDisk}
+use Rattle.serv_links.specs.declared.outcome.Outcome.{Outcome}
+use Rattle.serv_links.specs.declared.outcome.Outcome.TheVariants.{Answered, Broken, Disk, NoMemory}
+use Rattle.serv_links.specs.Meanings.{Meaning, Asks, Means, Mean}
+use Rattle.serv_links.specs.Responses.{Stand, Stays, Moves, MovesAll, history_after, bound_of, response_to, responses_to, response_500, response_503}
+
+-- ---- one request
+
+-- it was acted on, and this is the response
+pub record IsReplied (a : Ask) (s s' : Stand) (text : List ℕ) : Type 0 where
+  pub meant : Meaning
+  pub means : Means a meant
+  pub text_is : text ≡ response_to s.history meant
+  pub moved : Moves meant s s'
+
+-- it was acted on, and of the response a part is written that does not reach its end
+pub record IsCut (a : Ask) (s s' : Stand) (wrote : List ℕ) : Type 0 where
+  pub meant : Meaning
+  pub means : Means a meant
+  pub cut : IsProperPrefix wrote (response_to s.history meant)
+  pub moved : Moves meant s s'
+
+-- the disk failed while its command was being appended; it is not accepted
+pub record IsStuck (a : Ask) (s s' : Stand) (pending : List Accepted) : Type 0 where
+  pub key : List ℕ
+  pub command : Command
+  pub last : Bool
+  pub means : Means a (Asks (request.Do key command) last)
+  pub fresh : decided s.history key command ≡ Fresh
+  pub pending_is : pending ≡ accepted key command ∷ []
+  pub same : s'.history ≡ s.history
+  pub cost : s'.steps ≤ s.steps + bound_of s.history (Asks (request.Do key command) last)
+
+-- no memory was there once it was known what it means: it was acted on or not
+pub record IsTriedAs (a : Ask) (s s' : Stand) : Type 0 where
+  pub meant : Meaning
+  pub means : Means a meant
+  pub near : (s'.history ≡ s.history) ⊎ (s'.history ≡ history_after s.history meant)
+  pub cost : s'.steps ≤ s.steps + bound_of s.history meant
+
+-- no memory was there
+abbrev pub IsTried : Ask → Stand → Stand → Type 0
+IsTried a s s' = Stays s s' ⊎ IsTriedAs a s s'
+
+-- a front part of a text, which may be all of it
+pub record IsFront (part whole : List ℕ) : Type 0 where
+  pub rest : List ℕ
+  pub joined : whole ≡ part ++ rest
+
+-- a front part of a text is written
+pub record AppendsFront (held held' : Option (List ℕ)) (text : List ℕ) : Type 0 where
+  pub part : List ℕ
+  pub appends : Appends held held' part
+  pub front : IsFront part text
+
+-- a request without a response, and the command that was being appended
+abbrev pub IsHalted : Halt → Ask → Stand → Stand → List Accepted → Type 0
+IsHalted halt.DiskFault a s s' pending = IsStuck a s s' pending
+IsHalted halt.OutOfMemory a s s' pending = (pending ≡ []) × IsTried a s s'
+
+-- how it went, what was written, and the command that was being appended
+abbrev pub IsOne : Outcome → Ask → Stand → Stand → List Accepted → List ℕ → Type 0
+IsOne Answered a s s' pending wrote = (pending ≡ []) × IsReplied a s s' wrote
+IsOne Broken a s s' pending wrote = (pending ≡ []) × IsCut a s s' wrote
+IsOne Disk a s s' pending wrote = IsStuck a s s' pending × IsFront wrote response_500
+IsOne NoMemory a s s' pending wrote = (pending ≡ []) × IsTried a s s' × IsFront wrote response_503
+
+-- ---- requests in order
+
+-- all of them are answered
+pub record IsAnswered (n : ℕ) (asks : List Ask) (s s' : Stand) (wrote : List ℕ) : Type 0 where
+  pub meant : List Meaning
+  pub mean : Mean asks meant
+  pub count : n ≡ length asks
+  pub wrote_is : wrote ≡ responses_to s.history meant
+  pub moved : MovesAll meant s s'
+
+-- the first ones are answered, and the next one went so; no further one is acted on
+pub record IsStopped (o : Outcome) (n : ℕ) (asks : List Ask) (s s' : Stand) (pending : List Accepted) (wrote : List ℕ) : Type 0 where
+  pub done : List Ask
+  pub ask : Ask
+  pub rest : List Ask
+  pub asked : asks ≡ done ++ ask ∷ rest
+  pub mid : Stand
+  pub before : List ℕ
+  pub answered : IsAnswered n done s mid before
+  pub part : List ℕ
+  pub wrote_is : wrote ≡ before ++ part
+  pub one : IsOne o ask mid s' pending part
+
+abbrev pub IsRound : Outcome → ℕ → List Ask → Stand → Stand → List Accepted → List ℕ → Type 0
+IsRound Answered n asks s s' pending wrote = (pending ≡ []) × IsAnswered n asks s s' wrote
+IsRound Broken n asks s s' pending wrote = IsStopped Broken n asks s s' pending wrote
+IsRound Disk n asks s s' pending wrote = IsStopped Disk n asks s s' pending wrote
+IsRound NoMemory n asks s s' pending wrote = IsStopped NoMemory n asks s s' pending wrote
+
+-- ---- the requests of the bytes since the last whole one
+
+-- they are not all answered
+pub record IsCutOff (o : Outcome) (n : ℕ) (bytes : List ℕ) (s s' : Stand) (pending : List Accepted) (wrote : List ℕ) : Type 0 where
+  pub asks : List Ask
+  pub left : Option (List ℕ)
+  pub asked : AsksTo bytes asks left
+  pub stopped : IsStopped o n asks s s' pending wrote
+
+-- no memory was there to read them
+pub record IsUnread (n : ℕ) (s s' : Stand) (pending : List Accepted) (wrote : List ℕ) : Type 0 where
+  pub none : n ≡ 0
+  pub nothing : pending ≡ []
+  pub stays : Stays s s'
+  pub front : IsFront wrote response_503
+
+-- all of them are answered, and the connection goes on with what is left
+pub record IsFedAll (n : ℕ) (bytes : List ℕ) (c : Conn) (s s' : Stand) (pending : List Accepted) (wrote : List ℕ) : Type 0 where
+  pub asks : List Ask
+  pub fed : IsFed bytes asks c
+  pub nothing : pending ≡ []
+  pub answered : IsAnswered n asks s s' wrote
+
+abbrev pub IsPiece : Outcome → ℕ → List ℕ → Conn → Stand → Stand → List Accepted → List ℕ → Type 0
+IsPiece Answered n bytes c s s' pending wrote = IsFedAll n bytes c s s' pending wrote
+IsPiece Broken n bytes c s s' pending wrote = IsCutOff Broken n bytes s s' pending wrote
+IsPiece Disk n bytes c s s' pending wrote = IsCutOff Disk n bytes s s' pending wrote
+IsPiece NoMemory n bytes c s s' pending wrote =
+    IsCutOff NoMemory n bytes s s' pending wrote ⊎ IsUnread n s s' pending wrote
+
+-- ---- with what is left on a disk
+
+module _ {D : Type 0} (images : D → List ℕ → Type 0) (moment : D → ℕ) (images_since : D → ℕ → List ℕ → Type 0) (old new : D) where
+  -- a request without a response
+  pub record Halts (why : Halt) (a : Ask) (s s' : Stand) : Type 0 where
+    pub pending : List Accepted
+    pub halted : IsHalted why a s s' pending
+    pub disk : OnDisk images moment images_since old new s.history.commands s'.history.commands pending
+
+  -- what is written to a link too; the command that was being appended is the one of the disk
+  pub record Writes (says : List Accepted → List ℕ → Type 0) (h h' : List Accepted) (held held' : Option (List ℕ)) : Type 0 where
+    pub pending : List Accepted
+    pub wrote : List ℕ
+    pub appends : Appends held held' wrote
+    pub says_so : says pending wrote
+    pub disk : OnDisk images moment images_since old new h h' pending

@@ -1,0 +1,125 @@
+-- The responses to requests, what is held after them, and how many steps they may take.
+use Rattle.std.specs.Prelude.{◌≡◌, ℕ, ◌+◌, ◌-◌, ◌≤◌, List, [], ◌∷◌, ◌++◌, length, take, true, Option, Some, None}
+use Rattle.svc_types.specs.declared.requests.Command.{Command}
+use Rattle.svc_types.specs.declared.requests.Request.{Request}
+use Rattle.svc_types.specs.declared.requests.Request.TheVariants as request
+use Rattle.svc_types.specs.declared.replies.Refusal.{Refusal}
+use Rattle.svc_world.specs.World.{world}
+use Rattle.svc_world.specs.Judging.{next_reply}
+use Rattle.svc_world.specs.Refusals.{query_refusal}
+use Rattle.serv_line.specs.Refusals.{code_of}
+use Rattle.serv_json.specs.Replies.{reply_text}
+use Rattle.serv_http.specs.Responses.{response}
+use Rattle.serv_machine.specs.History.{History, Decision, Kept, Refused, Full, Fresh, decided}
+use Rattle.serv_machine.specs.Replies.{reply_to_request, history_after_request, bound_of_request}
+use Rattle.serv_links.specs.Meanings.{Meaning, Asks, Faulty}
+
+-- ---- a reply
+
+-- 409 where a request is refused, or the journal is full, and 200 where it is answered
+abbrev pub status_of_decision : Decision → ℕ
+status_of_decision (Kept reply) = 200
+status_of_decision (Refused why) = 409
+status_of_decision (Full bytes) = 409
+status_of_decision Fresh = 200
+
+abbrev pub status_of_refusal : Option Refusal → ℕ
+status_of_refusal (Some why) = 409
+status_of_refusal None = 200
+
+unfoldable pub status_of_request : History → Request → ℕ
+status_of_request h (request.Do key c) = status_of_decision (decided h key c)
+status_of_request h (request.Ask q) = status_of_refusal (query_refusal (length h.commands) (world h.commands) q)
+
+-- 0, or the code of the refusal; 26 is the journal's
+abbrev pub code_of_decision : Decision → ℕ
+code_of_decision (Kept reply) = 0
+code_of_decision (Refused why) = code_of why
+code_of_decision (Full bytes) = 26
+code_of_decision Fresh = 0
+
+abbrev pub code_of_refusal : Option Refusal → ℕ
+code_of_refusal (Some why) = code_of why
+code_of_refusal None = 0
+
+unfoldable pub code_of_request : History → Request → ℕ
+code_of_request h (request.Do key c) = code_of_decision (decided h key c)
+code_of_request h (request.Ask q) = code_of_refusal (query_refusal (length h.commands) (world h.commands) q)
+
+-- the accepted command's number
+abbrev pub number_of_decision : History → Command → Decision → Option ℕ
+number_of_decision h c (Kept reply) = Some reply.number
+number_of_decision h c (Refused why) = None
+number_of_decision h c (Full bytes) = None
+number_of_decision h c Fresh = Some (next_reply h.commands c).number
+
+unfoldable pub number_of_request : History → Request → Option ℕ
+number_of_request h (request.Do key c) = number_of_decision h c (decided h key c)
+number_of_request h (request.Ask q) = None
+
+-- a reply's text without its last byte, a line feed
+abbrev pub without_last : List ℕ → List ℕ
+without_last text = take (length text - 1) text
+
+-- the body: the code, the number and the text of the reply
+unfoldable pub body_to_request : History → Request → List ℕ
+body_to_request h r = reply_text (code_of_request h r) (number_of_request h r) (without_last (reply_to_request h r))
+
+-- ---- a response
+
+unfoldable pub response_to : History → Meaning → List ℕ
+response_to h (Asks r ends) = response (status_of_request h r) (body_to_request h r) ends None
+response_to h (Faulty status ends allow) = response status [] ends allow
+
+-- where the disk failed, and where no memory was there
+unfoldable pub response_500 : List ℕ
+response_500 = response 500 [] true None
+
+unfoldable pub response_503 : List ℕ
+response_503 = response 503 [] true None
+
+abbrev pub history_after : History → Meaning → History
+history_after h (Asks r ends) = history_after_request h r
+history_after h (Faulty status ends allow) = h
+
+-- the steps of it, at most
+abbrev pub bound_of : History → Meaning → ℕ
+bound_of h (Asks r ends) = bound_of_request h r
+bound_of h (Faulty status ends allow) = 0
+
+-- ---- to requests in order
+
+abbrev pub responses_to : History → List Meaning → List ℕ
+responses_to h [] = []
+responses_to h (m ∷ meant) = response_to h m ++ responses_to (history_after h m) meant
+
+abbrev pub after_all : History → List Meaning → History
+after_all h [] = h
+after_all h (m ∷ meant) = after_all (history_after h m) meant
+
+abbrev pub bound_of_all : History → List Meaning → ℕ
+bound_of_all h [] = 0
+bound_of_all h (m ∷ meant) = bound_of h m + bound_of_all (history_after h m) meant
+
+-- ---- where the books stand
+
+-- what is held, and how many steps were taken
+pub record Stand : Type 0 where
+  pub history : History
+  pub steps : ℕ
+
+abbrev pub stand : History → ℕ → Stand
+stand h steps = record { history = h; steps = steps }
+
+-- nothing was acted on
+abbrev pub Stays : Stand → Stand → Type 0
+Stays s s' = (s'.history ≡ s.history) × (s'.steps ≤ s.steps)
+
+-- a request was acted on, within its bound
+abbrev pub Moves : Meaning → Stand → Stand → Type 0
+Moves m s s' = (s'.history ≡ history_after s.history m) × (s'.steps ≤ s.steps + bound_of s.history m)
+
+-- all these were acted on, within their bounds
+abbrev pub MovesAll : List Meaning → Stand → Stand → Type 0
+MovesAll meant s s' =
+    (s'.history ≡ after_all s.history meant) × (s'.steps ≤ s.steps + bound_of_all s.history meant)

@@ -1,0 +1,22 @@
+//! Connections, served one request after another.
+#![tactic(auto)]
+
+mod answering;
+mod doors;
+mod laws;
+mod link_end;
+mod outcome;
+mod replying;
+mod serving;
+mod summary;
+mod told;
+
+pub use doors::{DoorsEnd, MOST_LINKS, Service, serve_doors};
+pub use laws::any_pieces;
+pub use link_end::LinkEnd;
+pub use outcome::Outcome;
+pub use serving::{LINK_LIMIT, serve_link};
+pub use summary::{Summary, write_summary};
+
+#[cfg(test)]
+mod tests;
