@@ -2,6 +2,7 @@
 #![tactic(auto)]
 
 mod answering;
+mod importing;
 mod laws;
 mod over_journal;
 mod serving;
