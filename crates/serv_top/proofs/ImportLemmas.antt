@@ -14,6 +14,7 @@ use Rattle.serv_machine.specs.Engines.{history_of}
 use Rattle.serv_import.specs.declared.row.RowRequest.{RowRequest}
 use Rattle.serv_import.specs.declared.row.RowRequest.TheVariants as row
 use Rattle.serv_import.specs.Batches.{AreAnswers, HasHeader, IsBatch}
+use Rattle.serv_import.proofs.UniqueLemmas.{one_batch}
 use Rattle.serv_machine.specs.declared.faults.Halt.{Halt}
 use Rattle.serv_machine.specs.declared.faults.Halt.TheVariants as halt
 use Rattle.serv_machine.specs.Replies.{bound_of_request, history_after_request, pending_of}
@@ -27,7 +28,7 @@ use Rattle.serv_top.specs.Machine.{Said, Asks, Unfit, reply_to, Stand, stand, St
 use Rattle.serv_top.specs.Replies.{MovesAll, replies_to}
 use Rattle.serv_top.specs.Outcome.{input_limit}
 use Rattle.serv_top.specs.Stop.{status_of, stop_of}
-use Rattle.serv_top.specs.Imported.{said_of, IsRow, AreRows, HaltsOn, IsStoppedOn, StopsOn, IsAnswered, IsTriedFirst, IsRowsOutput, RowsEnd, IsUnread, rows, headless, FileEnds, Imports, ImportEnds, IsImported}
+use Rattle.serv_top.specs.Imported.{FileSays, said_of, IsRow, AreRows, HaltsOn, IsStoppedOn, StopsOn, IsAnswered, IsTriedFirst, IsRowsOutput, RowsEnd, IsUnread, rows, headless, FileEnds, Imports, ImportEnds, IsImported}
 use Rattle.serv_top.specs.Journal.{IsOpened, IsUnopened, journal_limit}
 use Rattle.serv_top.proofs.Applied.{Completes, run_over, good_read, unopened_ends, few_taken, store_of, store_after, store_moves}
 use Rattle.serv_top.proofs.Cutting.{replies_to-push, moves_more}
@@ -313,3 +314,11 @@ complete_import {D} seen images moment images_since faults old new st steps step
     (λ file. rows_end st file.2.saids _ _ over.pending over.ended.written writes disks file.2.rows)
     over.ended.says)
     which
+
+-- ---- a file says one thing
+
+pub file_one : (bytes : List ℕ) (s t : List Said) → FileSays bytes s → FileSays bytes t → s ≡ t
+file_one bytes s t (rows xs p) (rows ys q) = ap (map said_of) (one_batch bytes xs ys p q)
+file_one bytes s t (rows xs p) (headless none) = absurd (none (record { rows = p.rows; begins = p.begins }))
+file_one bytes s t (headless none) (rows ys q) = absurd (none (record { rows = q.rows; begins = q.begins }))
+file_one bytes s t (headless p) (headless q) = refl
