@@ -20,14 +20,15 @@ use Rattle.serv_machine.specs.History.{History, Store, Decision, Kept, Refused, 
 use Rattle.serv_machine.specs.Replies.{history_after_request}
 use Rattle.serv_machine.specs.Engines.{history_of}
 use Rattle.serv_machine.specs.EngineLaws.{durable_whole}
+use Rattle.serv_machine.specs.OnDisk.{OnDisk}
 use Rattle.serv_machine.proofs.EngineLemmas.{long_enough}
 use Rattle.serv_top.specs.declared.status.Status.{Status}
 use Rattle.serv_top.specs.declared.status.Status.TheVariants as status
-use Rattle.serv_top.specs.Machine.{Said, Asks, Faulty, Stand, stand, Stays, IsTried, history_after}
+use Rattle.serv_top.specs.Machine.{Said, Asks, Faulty, Unfit, Stand, stand, Stays, IsTried, history_after}
 use Rattle.serv_top.specs.Replies.{MovesAll, IsTriedNext, history_after_all}
 use Rattle.serv_top.specs.Outcome.{Ended, Ends, IsOutput, input_limit}
 use Rattle.serv_top.specs.Stop.{status_of_fault}
-use Rattle.serv_top.specs.Journal.{KeepsGood, IsCause, IsOnly, IsUnopened, IsOpened, IsApplied, journal_limit}
+use Rattle.serv_top.specs.Journal.{KeepsGood, IsCause, IsOnly, IsUnopened, IsOpened, IsRunOver, IsApplied, journal_limit}
 
 -- ---- where commands are kept stays the same
 
@@ -42,18 +43,19 @@ unfolding history_after_request
 store_request h (request.Do key c) = store_decided h (accepted key c) (decided h key c)
 store_request h (request.Ask q) = refl
 
-store_after : (h : History) (said : Said) → (history_after h said).store ≡ h.store
+pub store_after : (h : History) (said : Said) → (history_after h said).store ≡ h.store
 store_after h (Asks r) = store_request h r
 store_after h (Faulty place) = refl
+store_after h (Unfit number column) = refl
 
 store_all : (h : History) (saids : List Said) → (history_after_all h saids).store ≡ h.store
 store_all h [] = refl
 store_all h (said ∷ saids) = store_all (history_after h said) saids ∙ store_after h said
 
-abbrev store_of : History → Store
+abbrev pub store_of : History → Store
 store_of h = h.store
 
-store_moves : (saids : List Said) (s s' : Stand) → MovesAll saids s s' → s'.history.store ≡ s.history.store
+pub store_moves : (saids : List Said) (s s' : Stand) → MovesAll saids s s' → s'.history.store ≡ s.history.store
 store_moves saids s s' moved = ap store_of moved.0 ∙ store_all s.history saids
 
 store_tried : (line : List ℕ) (s s' : Stand) → IsTried line s s' → s'.history.store ≡ s.history.store
@@ -107,29 +109,37 @@ opened seen images moment images_since old mid e steps begun is_history found go
       cost = cost;
     }
 
-pub applied : {D : Type 0} (seen : D → Option (List ℕ)) (images : D → List ℕ → Type 0) (moment : D → ℕ) (images_since : D → ℕ → List ℕ → Type 0) (old mid new : D) (st : Status) (e e' : EngineState)
-    (steps begun steps' : ℕ) (left left' held held' : Option (List ℕ)) → IsHistory e.history → ((s : List ℕ) → seen old ≡ Some s → IsFound journal_limit e.journal.size e.history s)
-    → KeepsGood seen images moment images_since old mid
-    → ((s : List ℕ) → seen old ≡ Some s → (h : List Accepted) (a : Accepted) → IsHistory (h ++ a ∷ []) → Each (images old) (IsGoodFound h a) → (e.history ≡ h) ⊎ (e.history ≡ h ++ a ∷ []))
-    → IsDurable (images mid) e → e.journal.version ≡ Two → e.journal.limit ≡ journal_limit → begun ≤ steps + history_bound [] e.history
-    → Ends images moment images_since mid new 0 st (stand (history_of e) begun) (stand (history_of e') steps') left left' held held'
-    → IsApplied seen images moment images_since old new st steps steps' left left' held held'
-applied {D} seen images moment images_since old mid new st e e' steps begun steps' left left' held held' is_history found good either durable version limit cost ends =
+pub run_over : {D : Type 0} (E : Stand → Stand → List Accepted → Type 0) (seen : D → Option (List ℕ)) (images : D → List ℕ → Type 0) (moment : D → ℕ) (images_since : D → ℕ → List ℕ → Type 0)
+    (old mid new : D) (e e' : EngineState) (steps begun steps' : ℕ) (pending : List Accepted)
+    → IsOpened seen images moment images_since old mid steps begun (e.journal.size - lengths_of e.history) e.history → e.journal.limit ≡ journal_limit
+    → (history_of e').store ≡ (history_of e).store → E (stand (history_of e) begun) (stand (history_of e') steps') pending
+    → OnDisk images moment images_since mid new e.history e'.history pending
+    → IsRunOver E seen images moment images_since old new steps steps'
+run_over {D} E seen images moment images_since old mid new e e' steps begun steps' pending opening limit same ends disk =
     let place : ℕ = e.journal.size - lengths_of e.history in
-    let kept = same_store e e' (store_ended 0 st (stand (history_of e) begun) (stand (history_of e') steps') ends.pending ends.ended.taken left' ends.ended.written ends.ended.says) in
-    let now : Ended 0 st (stand (in_journal place e.journal.limit e.history) begun) (stand (in_journal place e.journal.limit e'.history) steps') ends.pending left left' held held' =
-    subst (λ h. Ended 0 st (stand (in_journal place e.journal.limit e.history) begun) (stand h steps') ends.pending left left' held held') kept ends.ended in
+    let kept = same_store e e' same in
+    let now : E (stand (in_journal place e.journal.limit e.history) begun) (stand (in_journal place e.journal.limit e'.history) steps') pending =
+    subst (λ h. E (stand (in_journal place e.journal.limit e.history) begun) (stand h steps') pending) kept ends in
     record {
       commands = e.history;
       base = place;
       opened = mid;
       begun = begun;
-      opening = opened seen images moment images_since old mid e steps begun is_history found good either durable version cost;
+      opening = opening;
       after = e'.history;
-      pending = ends.pending;
-      ended = subst (λ n. Ended 0 st (stand (in_journal place n e.history) begun) (stand (in_journal place n e'.history) steps') ends.pending left left' held held') limit now;
-      disk = ends.disk;
+      pending = pending;
+      ended = subst (λ n. E (stand (in_journal place n e.history) begun) (stand (in_journal place n e'.history) steps') pending) limit now;
+      disk = disk;
     }
+
+pub applied : {D : Type 0} (seen : D → Option (List ℕ)) (images : D → List ℕ → Type 0) (moment : D → ℕ) (images_since : D → ℕ → List ℕ → Type 0) (old mid new : D) (st : Status) (e e' : EngineState)
+    (steps begun steps' : ℕ) (left left' held held' : Option (List ℕ))
+    → IsOpened seen images moment images_since old mid steps begun (e.journal.size - lengths_of e.history) e.history → e.journal.limit ≡ journal_limit
+    → Ends images moment images_since mid new 0 st (stand (history_of e) begun) (stand (history_of e') steps') left left' held held'
+    → IsApplied seen images moment images_since old new st steps steps' left left' held held'
+applied {D} seen images moment images_since old mid new st e e' steps begun steps' left left' held held' opening limit ends =
+    run_over (λ s s' pending. Ended 0 st s s' pending left left' held held') seen images moment images_since old mid new e e' steps begun steps' ends.pending opening limit
+    (store_ended 0 st (stand (history_of e) begun) (stand (history_of e') steps') ends.pending ends.ended.taken left' ends.ended.written ends.ended.says) ends.ended ends.disk
 
 -- ---- none was opened
 
@@ -164,7 +174,7 @@ unopened_ends status.AlreadyThere s h a faults faults' told is hist good cause c
 unopened_ends (status.TooMuch bytes) s h a faults faults' told is hist good cause calm = absurd cause
 unopened_ends (status.NoReport last) s h a faults faults' told is hist good cause calm = absurd cause
 
-few_taken : (left left' : Option (List ℕ)) (input taken : List ℕ) → left ≡ Some input → Consumes left left' taken → length taken ≤ length input
+pub few_taken : (left left' : Option (List ℕ)) (input taken : List ℕ) → left ≡ Some input → Consumes left left' taken → length taken ≤ length input
 few_taken None left' input taken is took = absurd (cc)
 few_taken (Some xs) None input taken is took = absurd took
 few_taken (Some xs) (Some ys) input taken is took =

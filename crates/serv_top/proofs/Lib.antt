@@ -8,3 +8,4 @@ pub mod Running
 pub mod Applied
 pub mod ShownLemmas
 pub mod WordLemmas
+pub mod ImportLemmas

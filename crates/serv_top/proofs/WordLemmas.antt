@@ -58,3 +58,13 @@ month_none text none = by_test (is_read_month (month_by_digits text) && bytes_eq
     by_test : (t : Bool) (m : ℕ) → (t ≡ true → ⊥) → (if t then Some m else None) ≡ None
     by_test true m no_way = absurd (no_way refl)
     by_test false m no_way = refl
+
+pub month_spelled : (text : List ℕ) (m : ℕ) → month_in text ≡ Some m → IsReadMonth m × (text ≡ text_of_month m)
+unfolding month_in
+month_spelled text m e = by_test (is_read_month (month_by_digits text) && bytes_eq text (text_of_month (month_by_digits text))) (month_by_digits text) refl e
+  where
+    by_test : (t : Bool) (n : ℕ) → (is_read_month n && bytes_eq text (text_of_month n)) ≡ t → (if t then Some n else None) ≡ Some m → IsReadMonth m × (text ≡ text_of_month m)
+    by_test true n test e' =
+        let same : n ≡ m = cc in
+        subst (λ k. IsReadMonth k × (text ≡ text_of_month k)) same (spells text n test)
+    by_test false n test e' = absurd (cc)

@@ -11,7 +11,7 @@ use Rattle.serv_machine.specs.History.{in_journal}
 use Rattle.serv_machine.specs.OnDisk.{HasHistory, OnDisk}
 use Rattle.serv_top.specs.declared.status.Status.{Status}
 use Rattle.serv_top.specs.declared.status.Status.TheVariants.{Done, Usage, ReadFault, WriteFault, DiskFault, NotJournal, AlreadyThere, Damaged, NoReport, TooMuch, OutOfMemory, JournalFull}
-use Rattle.serv_top.specs.Machine.{stand}
+use Rattle.serv_top.specs.Machine.{Stand, stand}
 use Rattle.serv_top.specs.Outcome.{Ended}
 
 -- the limit on a journal that is opened
@@ -87,9 +87,9 @@ pub record IsOpened {D : Type 0} (seen : D → Option (List ℕ)) (images : D �
   pub whole : Each (images opened) (HasHistory commands)
   pub cost : begun ≤ steps + history_bound [] commands
 
--- one was opened, after which the disk was this one; and then lines were answered over it
-pub record IsApplied {D : Type 0} (seen : D → Option (List ℕ)) (images : D → List ℕ → Type 0) (moment : D → ℕ) (images_since : D → ℕ → List ℕ → Type 0)
-    (old new : D) (status : Status) (steps steps' : ℕ) (left left' held held' : Option (List ℕ)) : Type 0 where
+-- one was opened, after which the disk was this one; and then requests were answered over it, which ends so
+pub record IsRunOver {D : Type 0} (Ends : Stand → Stand → List Accepted → Type 0) (seen : D → Option (List ℕ)) (images : D → List ℕ → Type 0) (moment : D → ℕ)
+    (images_since : D → ℕ → List ℕ → Type 0) (old new : D) (steps steps' : ℕ) : Type 0 where
   pub commands : List Accepted
   pub base : ℕ
   pub opened : D
@@ -98,7 +98,12 @@ pub record IsApplied {D : Type 0} (seen : D → Option (List ℕ)) (images : D �
   -- the commands after it, and the one that was being appended
   pub after : List Accepted
   pub pending : List Accepted
-  pub ended : Ended 0 status (stand (in_journal base journal_limit commands) begun)
-      (stand (in_journal base journal_limit after) steps') pending left left' held held'
+  pub ended : Ends (stand (in_journal base journal_limit commands) begun) (stand (in_journal base journal_limit after) steps') pending
   -- at each moment each image has some first ones of these commands, or is torn with the next one
   pub disk : OnDisk images moment images_since opened new commands after pending
+
+-- one was opened, and then lines were answered over it
+abbrev pub IsApplied : {D : Type 0} → (D → Option (List ℕ)) → (D → List ℕ → Type 0) → (D → ℕ) → (D → ℕ → List ℕ → Type 0) → D → D → Status → ℕ → ℕ
+    → Option (List ℕ) → Option (List ℕ) → Option (List ℕ) → Option (List ℕ) → Type 0
+IsApplied seen images moment images_since old new status steps steps' left left' held held' =
+    IsRunOver (λ s s' pending. Ended 0 status s s' pending left left' held held') seen images moment images_since old new steps steps'

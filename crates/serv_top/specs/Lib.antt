@@ -8,3 +8,4 @@ pub mod Serving
 pub mod Stop
 pub mod Journal
 pub mod Shown
+pub mod Imported

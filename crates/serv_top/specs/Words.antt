@@ -6,7 +6,7 @@ use Rattle.svc_base.specs.Text.{IsReadMonth, text_of_month}
 use Rattle.svc_types.specs.declared.requests.Query.{Query}
 use Rattle.svc_types.specs.declared.requests.Query.TheVariants as query
 use Rattle.serv_top.specs.declared.words.Task.{Task}
-use Rattle.serv_top.specs.declared.words.Task.TheVariants.{Init, Apply, Session, Show}
+use Rattle.serv_top.specs.declared.words.Task.TheVariants.{Init, Apply, Session, Import, Show}
 
 -- two digits as a number
 abbrev pub number_of_pair : ℕ → ℕ → ℕ
@@ -33,7 +33,8 @@ task_of_word word =
     if bytes_eq word (codes "init") then Some Init
     else (if bytes_eq word (codes "apply") then Some Apply
     else (if bytes_eq word (codes "session") then Some Session
-    else (if bytes_eq word (codes "custodial") then Some (Show query.Custodial) else None)))
+    else (if bytes_eq word (codes "import") then Some Import
+    else (if bytes_eq word (codes "custodial") then Some (Show query.Custodial) else None))))
 
 -- what a word asks for about a month
 abbrev pub task_about : List ℕ → Option ℕ → Option Task
@@ -58,6 +59,7 @@ abbrev pub IsTask : Task → Type 0
 IsTask Init = Unit {0}
 IsTask Apply = Unit {0}
 IsTask Session = Unit {0}
+IsTask Import = Unit {0}
 IsTask (Show q) = IsShowing q
 
 -- a journal's name, which is not empty, and what is to be done, for two of these a month

@@ -1,6 +1,9 @@
-//! What lines say, and what is said to them.
+//! What lines, words and files say, and what is said to them.
 
-ghost use Rattle.std.specs.Prelude.{◌≡◌, ℕ, List};
+ghost use Rattle.std.specs.Prelude.{◌≡◌, ℕ, List, Some};
+ghost use Rattle.svc_base.specs.Text.{IsReadMonth, text_of_month};
+ghost use Rattle.serv_top.specs.Imported.{FileSays};
+ghost use Rattle.serv_top.specs.Words.{month_in};
 ghost use Rattle.serv_top.specs.Machine.{Said, Says, Stand};
 ghost use Rattle.serv_top.specs.Replies.{Answers, IsCutAt, IsCutIn};
 
@@ -12,4 +15,16 @@ pub fn lines_have_one_answer()
         → Answers lines s a x → Answers lines s b y → (x ≡ y) × (a.history ≡ b.history) }
     ensures cut { (waiting : ℕ) (lines : List (List ℕ)) (s t : Stand) (written : List ℕ)
         → IsCutIn waiting lines s t written → IsCutAt lines s.history written }
+{}
+
+/// A word is read as a month exactly where it is that month's text. It does nothing.
+pub fn months_are_read()
+    ensures read { (m : ℕ) → IsReadMonth m → month_in (text_of_month m) ≡ Some m }
+    ensures spelled { (text : List ℕ) (m : ℕ) → month_in text ≡ Some m
+        → IsReadMonth m × (text ≡ text_of_month m) }
+{}
+
+/// A file says one thing. It does nothing.
+pub fn files_say_one_thing()
+    ensures { (bytes : List ℕ) (s t : List Said) → FileSays bytes s → FileSays bytes t → s ≡ t }
 {}

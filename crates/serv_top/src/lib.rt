@@ -2,6 +2,7 @@
 #![tactic(auto)]
 
 mod answering;
+mod importing;
 mod laws;
 mod over_journal;
 mod serving;
@@ -11,7 +12,10 @@ mod stream;
 mod top;
 mod words;
 
-pub use laws::lines_have_one_answer;
+pub use laws::{files_say_one_thing, lines_have_one_answer, months_are_read};
 pub use status::Status;
 pub use stream::INPUT_LIMIT;
 pub use top::run;
+
+#[cfg(test)]
+mod runs;

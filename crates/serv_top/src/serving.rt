@@ -43,7 +43,7 @@ impl Stop {
 }
 
 /// Where a line has no reply, no further one is answered.
-fn stop_at(halt: Halt) -> Stop
+pub(crate) fn stop_at(halt: Halt) -> Stop
     ensures { result ≡ stop_of halt }
 {
     match halt {

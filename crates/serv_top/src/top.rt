@@ -11,10 +11,12 @@ ghost use Rattle.serv_engine.specs.Histories.{IsGoodFound};
 ghost use Rattle.serv_engine.specs.Opening.{IsDamagedAt, IsTooLong};
 ghost use Rattle.serv_top.specs.declared.words.Task.TheVariants as task;
 ghost use Rattle.serv_top.specs.Journal.{IsInit, IsOnly, HasFileFaults, IsUnopened, IsApplied, journal_limit};
+ghost use Rattle.serv_top.specs.Imported.{IsImported};
 ghost use Rattle.serv_top.specs.Shown.{IsShown};
 ghost use Rattle.serv_top.specs.Outcome.{Ran, input_limit};
 ghost use Rattle.serv_top.specs.Words.{task_in};
 
+use crate::importing::import;
 use crate::over_journal::{apply, make_journal};
 use crate::showing::show;
 use crate::status::Status;
@@ -91,6 +93,15 @@ pub fn run<S: Source, K: Sink, D: Disk, L: Ledger>(
     ensures full { (s : List ℕ) (bytes : ℕ) → D.seen disk.old ≡ Some s → IsTooLong journal_limit bytes s
         → task_in (map (λ w. w.now) words.now) ≡ Some task.Apply → IsOnly (Status.JournalFull bytes) result }
 
+    // The rows of a file over a journal: the whole file is taken first.
+    ensures import { task_in (map (λ w. w.now) words.now) ≡ Some task.Import
+        → (IsUnopened D.seen D.images D.moment D.images_since D.faults disk.old disk.new result
+        steps.old steps.new × (src.new ≡ src.old) × (snk.new ≡ snk.old))
+        ⊎ IsImported D.seen D.images D.moment D.images_since disk.old disk.new result steps.old steps.new
+        (S.left src.old) (S.left src.new) (K.held snk.old) (K.held snk.new) }
+    ensures import_file { task_in (map (λ w. w.now) words.now) ≡ Some task.Import
+        → HasFileFaults (D.seen disk.old) result }
+
     // The answer to a query over a journal is written: the text of `? report`, `? trial` or `? custodial`.
     ensures show { (q : Query) → task_in (map (λ w. w.now) words.now) ≡ Some (task.Show q)
         → (IsUnopened D.seen D.images D.moment D.images_since D.faults disk.old disk.new result
@@ -135,6 +146,14 @@ pub fn run<S: Source, K: Sink, D: Disk, L: Ledger>(
         → task_in (map (λ w. w.now) words.now) ≡ Some task.Apply
         → (result ≡ Status.Done) ⊎ ((result ≡ Status.OutOfMemory)
         ⊎ ((bytes : ℕ) × (result ≡ Status.JournalFull bytes))) }
+    ensures complete_import { (input s : List ℕ) (h : List Accepted) (a : Accepted)
+        → S.left src.old ≡ Some input → length input < input_limit
+        → D.seen disk.old ≡ Some s → IsHistory (h ++ a ∷ []) → Each (D.images disk.old) (IsGoodFound h a)
+        → ¬ HasRisen (S.faults src.old) (S.faults src.new) → ¬ HasRisen (K.faults snk.old) (K.faults snk.new)
+        → ¬ HasRisen (D.faults disk.old) (D.faults disk.new)
+        → task_in (map (λ w. w.now) words.now) ≡ Some task.Import
+        → (result ≡ Status.Done) ⊎ ((result ≡ Status.OutOfMemory)
+        ⊎ ((bytes : ℕ) × (result ≡ Status.JournalFull bytes))) }
     ensures complete_show { (q : Query) (s : List ℕ) (h : List Accepted) (a : Accepted)
         → D.seen disk.old ≡ Some s → IsHistory (h ++ a ∷ []) → Each (D.images disk.old) (IsGoodFound h a)
         → ¬ HasRisen (K.faults snk.old) (K.faults snk.new) → ¬ HasRisen (D.faults disk.old) (D.faults disk.new)
@@ -151,6 +170,7 @@ pub fn run<S: Source, K: Sink, D: Disk, L: Ledger>(
         Some(Task::Init) => make_journal(disk),
         Some(Task::Apply) => apply(alloc, src, snk, disk, steps),
         Some(Task::Show(query)) => show(alloc, &query, snk, disk, steps),
+        Some(Task::Import) => import(alloc, src, snk, disk, steps),
         Some(Task::Session) => session(alloc, src, snk, steps),
     }
 }

@@ -16,6 +16,8 @@ pub(crate) enum Task {
     Apply,
     /// Answers request lines over books in memory.
     Session,
+    /// Answers the rows of a file over the journal.
+    Import,
     /// Writes the answer to a query over the journal: a month's report, its balances, or the line of the
     /// custodial accounts.
     Show(Query),
@@ -34,6 +36,9 @@ fn task_of(word: &str) -> Option<Task>
     }
     if word == "session" {
         return Some(Task::Session);
+    }
+    if word == "import" {
+        return Some(Task::Import);
     }
     if word == "custodial" {
         return Some(Task::Show(Query::Custodial));

@@ -2,14 +2,17 @@ use Rattle.std.proofs.Common.{refl, inl, inr, ⊎_elim, ap}
 use Rattle.serv_journal.proofs.ReadingLemmas.{risen_from}
 use Rattle.serv_engine.specs.declared.fault.EngineFault.TheVariants as fault
 use Rattle.serv_top.specs.Stop.{status_of_fault}
-use Rattle.serv_top.proofs.Applied.{applied, cause_of, only_of}
+use Rattle.serv_top.proofs.Applied.{applied, opened, cause_of, only_of}
 use Rattle.serv_top.proofs.over_journal.apply.Goals as goal
 
 pub returns-in-Ok-clause-applied : goal.returns-in-Ok-clause-applied
 returns-in-Ok-clause-applied g c =
     inr (applied g.D.Disk.seen g.D.Disk.images g.D.Disk.moment g.D.Disk.images_since c.args.disk.now c.open.new.disk c.serve.new.disk c.serve.result c.in-Ok.engine c.serve.new.machine
-    c.args.steps.now c.open.new.steps c.serve.new.steps _ _ _ _ c.in-Ok.ensures.history c.in-Ok.ensures.found c.open.ensures.moments c.in-Ok.ensures.either c.in-Ok.ensures.durable
-    c.in-Ok.ensures.version c.in-Ok.ensures.fresh.0 (c.in-Ok.ensures.bound (λ a m. refl) (λ a m. refl)) c.serve.ensures.ends)
+    c.args.steps.now c.open.new.steps c.serve.new.steps _ _ _ _
+    (opened g.D.Disk.seen g.D.Disk.images g.D.Disk.moment g.D.Disk.images_since c.args.disk.now c.open.new.disk c.in-Ok.engine c.args.steps.now c.open.new.steps
+    c.in-Ok.ensures.history c.in-Ok.ensures.found c.open.ensures.moments c.in-Ok.ensures.either c.in-Ok.ensures.durable c.in-Ok.ensures.version
+    (c.in-Ok.ensures.bound (λ a m. refl) (λ a m. refl)))
+    c.in-Ok.ensures.fresh.0 c.serve.ensures.ends)
 
 pub returns-in-Ok-clause-damaged : goal.returns-in-Ok-clause-damaged
 returns-in-Ok-clause-damaged g c = λ s place told is. absurd (c.in-Ok.ensures.exactly_damaged s place told is)

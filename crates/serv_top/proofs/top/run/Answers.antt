@@ -1,3 +1,4 @@
+use Rattle.serv_top.proofs.ImportLemmas.{complete_import}
 use Rattle.serv_top.proofs.ShownLemmas.{complete_shown}
 use Rattle.serv_top.proofs.Applied.{complete_run}
 use Rattle.serv_top.proofs.top.run.Goals as goal
@@ -18,3 +19,9 @@ pub returns-in-Some-Show-clause-complete_show : goal.returns-in-Some-Show-clause
 returns-in-Some-Show-clause-complete_show g c = λ q s h a told is_history good writes disks task.
     complete_shown g.D.Disk.seen g.D.Disk.images g.D.Disk.moment g.D.Disk.images_since g.D.Disk.faults c.args.disk.now c.show.new.disk c.show.result _ c.args.steps.now c.show.new.steps
     _ _ s h a told is_history (good s (g.met.D.Disk.reads_image c.args.disk.now s told)) (λ is. writes (c.show.ensures.write is)) disks c.show.ensures.shown
+
+pub returns-in-Some-Import-clause-complete_import : goal.returns-in-Some-Import-clause-complete_import
+returns-in-Some-Import-clause-complete_import g c = λ input s h a left short told is_history good reads writes disks task.
+    complete_import g.D.Disk.seen g.D.Disk.images g.D.Disk.moment g.D.Disk.images_since g.D.Disk.faults c.args.disk.now c.import.new.disk c.import.result c.args.steps.now c.import.new.steps
+    _ _ _ _ input s h a left short told is_history (good s (g.met.D.Disk.reads_image c.args.disk.now s told)) (λ is. reads (c.import.ensures.read is)) (λ is. writes (c.import.ensures.write is))
+    (λ is. disks (c.import.ensures.disk is)) disks c.import.ensures.imported
