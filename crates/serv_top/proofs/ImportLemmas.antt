@@ -30,7 +30,7 @@ use Rattle.serv_top.specs.Outcome.{input_limit}
 use Rattle.serv_top.specs.Stop.{status_of, stop_of}
 use Rattle.serv_top.specs.Imported.{FileSays, said_of, IsRow, AreRows, HaltsOn, IsStoppedOn, StopsOn, IsAnswered, IsTriedFirst, IsRowsOutput, RowsEnd, IsUnread, rows, headless, FileEnds, Imports, ImportEnds, IsImported}
 use Rattle.serv_top.specs.Journal.{IsOpened, IsUnopened, journal_limit}
-use Rattle.serv_top.proofs.Applied.{Completes, run_over, good_read, unopened_ends, few_taken, store_of, store_after, store_moves}
+use Rattle.serv_top.proofs.Applied.{Completes, run_over, unopened_ends, few_taken, store_of, store_after, store_moves}
 use Rattle.serv_top.proofs.Cutting.{replies_to-push, moves_more}
 use Rattle.serv_top.proofs.ServedLemmas.{before_last-push}
 
@@ -308,7 +308,7 @@ pub complete_import : {D A B : Type 0} (seen : D → Option (List ℕ)) (images 
     → (IsUnopened seen images moment images_since faults old new st steps steps' × A × B) ⊎ IsImported seen images moment images_since old new st steps steps' left left' held held' → Completes st
 complete_import {D} seen images moment images_since faults old new st steps steps' left left' held held' input s h a is short told is_history good reads writes disks calm which =
     ⊎_elim
-    (λ closed. unopened_ends st s (faults old) (faults new) (seen old) told (good_read h a s is_history good) closed.0.cause calm)
+    (λ closed. unopened_ends st s h a (faults old) (faults new) (seen old) told is_history good closed.0.cause calm)
     (λ over. ⊎_elim
     (λ unread. unread_ends st over.ended.taken input (few_taken left left' input over.ended.taken is over.ended.took) short reads unread.0)
     (λ file. rows_end st file.2.saids _ _ over.pending over.ended.written writes disks file.2.rows)
