@@ -1,12 +1,14 @@
 -- A month in the words of the command line.
 use Rattle.std.proofs.Common.{◌≡◌, ◌≢◌, ℕ, Bool, true, false, List, refl, sym, ap, subst, ◌∙◌, arith}
-use Rattle.std.specs.Prelude.{Some, None, nat_le, ◌&&◌, if◌then◌else◌}
+use Rattle.std.specs.Prelude.{Some, None, nat_le, ◌&&◌, ◌<◌, ◌≤◌, ◌^◌, if◌then◌else◌}
 use Rattle.std.specs.Str.{bytes_eq}
+use Rattle.std.specs.Str.Parse.{digits_value}
+use Rattle.std.proofs.lemmas.Fmt.{decimal_is_IsNumeral}
 use Rattle.std.proofs.lemmas.Bool.{le-leb, leb-true}
 use Rattle.std.proofs.lemmas.Slice.Eq.{bytes_eq-Decides}
 use Rattle.svc_base.specs.Calendar.{year_of_month}
-use Rattle.svc_base.specs.Text.{text_of_month, IsReadMonth}
-use Rattle.serv_top.specs.Words.{month_in, month_by_digits, is_read_month}
+use Rattle.svc_base.specs.Text.{text_of_month, text_of_number, IsReadMonth}
+use Rattle.serv_top.specs.Words.{month_in, month_by_digits, is_read_month, number_in}
 
 -- the digits of a month are those of its text
 month_of_its_text : (m : ℕ) → IsReadMonth m → month_by_digits (text_of_month m) ≡ m
@@ -68,3 +70,37 @@ month_spelled text m e = by_test (is_read_month (month_by_digits text) && bytes_
         let same : n ≡ m = cc in
         subst (λ k. IsReadMonth k × (text ≡ text_of_month k)) same (spells text n test)
     by_test false n test e' = absurd (cc)
+
+-- ---- numbers
+
+number_of_its_text : (text : List ℕ) (n : ℕ) → n < 2 ^ 32 → text ≡ text_of_number n → digits_value 10 text ≡ n
+number_of_its_text text n small e = ap (digits_value 10) e ∙ (decimal_is_IsNumeral n (omega (arith, small))).1
+
+pub number_read : (text : List ℕ) (n : ℕ) → n ≤ 999999 → text ≡ text_of_number n → number_in text ≡ Some n
+unfolding number_in
+number_read text n small e =
+    let k : digits_value 10 text ≡ n = number_of_its_text text n (omega (arith, small)) e in
+    let test : (nat_le (digits_value 10 text) 999999 && bytes_eq text (text_of_number (digits_value 10 text))) ≡ true =
+    subst (λ m. (nat_le m 999999 && bytes_eq text (text_of_number m)) ≡ true) (sym k)
+    (both (nat_le n 999999) (bytes_eq text (text_of_number n)) (le-leb n 999999 small) ((bytes_eq-Decides text (text_of_number n)).1 e)) in
+    ap (λ (t : Bool). if t then Some (digits_value 10 text) else None) test ∙ ap Some k
+
+pub number_none : (text : List ℕ) → ((n : ℕ) → n < 2 ^ 32 → text ≢ text_of_number n) → number_in text ≡ None
+unfolding number_in
+number_none text none = by_test (nat_le (digits_value 10 text) 999999) (bytes_eq text (text_of_number (digits_value 10 text))) (digits_value 10 text)
+    (λ few e. none (digits_value 10 text) (omega (arith, leb-true (digits_value 10 text) 999999 few)) ((bytes_eq-Decides text (text_of_number (digits_value 10 text))).0 e))
+  where
+    by_test : (few same : Bool) (m : ℕ) → (few ≡ true → same ≡ true → ⊥) → (if few && same then Some m else None) ≡ None
+    by_test true true m no_way = absurd (no_way refl refl)
+    by_test true false m no_way = refl
+    by_test false same m no_way = refl
+
+pub number_beyond : (text : List ℕ) (n : ℕ) → n < 2 ^ 32 → 999999 < n → text ≡ text_of_number n → number_in text ≡ None
+unfolding number_in
+number_beyond text n small large e =
+    by_test (nat_le (digits_value 10 text) 999999) (bytes_eq text (text_of_number (digits_value 10 text))) (digits_value 10 text)
+    (λ few. omega (arith, number_of_its_text text n small e, leb-true (digits_value 10 text) 999999 few, large))
+  where
+    by_test : (few same : Bool) (m : ℕ) → (few ≡ true → ⊥) → (if few && same then Some m else None) ≡ None
+    by_test true same m no_way = absurd (no_way refl)
+    by_test false same m no_way = refl

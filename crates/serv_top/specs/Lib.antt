@@ -9,3 +9,4 @@ pub mod Stop
 pub mod Journal
 pub mod Shown
 pub mod Imported
+pub mod Drilled

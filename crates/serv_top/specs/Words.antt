@@ -1,12 +1,13 @@
 -- The words of the command line that the program knows.
-use Rattle.std.specs.Prelude.{ℕ, ◌+◌, ◌-◌, ◌*◌, ◌==◌, nat_le, Bool, ◌&&◌, List, [], ◌∷◌, length, codes, Option, Some, None, if◌then◌else◌}
+use Rattle.std.specs.Prelude.{ℕ, ◌≤◌, ◌+◌, ◌-◌, ◌*◌, ◌==◌, nat_le, Bool, ◌&&◌, List, [], ◌∷◌, length, codes, Option, Some, None, if◌then◌else◌}
 use Rattle.std.specs.Str.{bytes_eq}
+use Rattle.std.specs.Str.Parse.{digits_value}
 use Rattle.svc_base.specs.Calendar.{year_of_month}
-use Rattle.svc_base.specs.Text.{IsReadMonth, text_of_month}
+use Rattle.svc_base.specs.Text.{IsReadMonth, text_of_month, text_of_number}
 use Rattle.svc_types.specs.declared.requests.Query.{Query}
 use Rattle.svc_types.specs.declared.requests.Query.TheVariants as query
 use Rattle.serv_top.specs.declared.words.Task.{Task}
-use Rattle.serv_top.specs.declared.words.Task.TheVariants.{Init, Apply, Session, Import, Show}
+use Rattle.serv_top.specs.declared.words.Task.TheVariants.{Init, Apply, Session, Import, Show, Drill}
 
 -- two digits as a number
 abbrev pub number_of_pair : ℕ → ℕ → ℕ
@@ -28,6 +29,12 @@ month_in text =
     if is_read_month (month_by_digits text) && bytes_eq text (text_of_month (month_by_digits text)) then
     Some (month_by_digits text) else None
 
+-- the number from 0 to 999,999 that a text spells
+unfoldable pub number_in : List ℕ → Option ℕ
+number_in text =
+    if nat_le (digits_value 10 text) 999999 && bytes_eq text (text_of_number (digits_value 10 text)) then
+    Some (digits_value 10 text) else None
+
 abbrev pub task_of_word : List ℕ → Option Task
 task_of_word word =
     if bytes_eq word (codes "init") then Some Init
@@ -43,6 +50,16 @@ task_about word (Some month) =
     if bytes_eq word (codes "report") then Some (Show (query.Report month))
     else (if bytes_eq word (codes "trial") then Some (Show (query.Trial month)) else None)
 
+-- the generated year of 1 to 500 loans
+abbrev pub year_of : Option ℕ → Option ℕ → Option Task
+year_of None number = None
+year_of (Some loans) None = None
+year_of (Some loans) (Some number) = if nat_le 1 loans && nat_le loans 500 then Some (Drill loans number) else None
+
+-- what a word asks for about two numbers
+abbrev pub task_with : List ℕ → Option ℕ → Option ℕ → Option Task
+task_with word loans number = if bytes_eq word (codes "drill") then year_of loans number else None
+
 -- the queries that words ask
 abbrev pub IsShowing : Query → Type 0
 IsShowing (query.Report m) = IsReadMonth m
@@ -54,17 +71,20 @@ IsShowing (query.Payoff l d) = ⊥
 IsShowing (query.Escrow l) = ⊥
 IsShowing (query.Rows number) = ⊥
 
--- words ask no other query
+-- words ask no other query, and no year of more loans
 abbrev pub IsTask : Task → Type 0
 IsTask Init = Unit {0}
 IsTask Apply = Unit {0}
 IsTask Session = Unit {0}
 IsTask Import = Unit {0}
 IsTask (Show q) = IsShowing q
+IsTask (Drill loans number) = loans ≤ 500
 
--- a journal's name, which is not empty, and what is to be done, for two of these a month
+-- a journal's name, which is not empty, and what is to be done, for two of these a month, and for one two numbers
 abbrev pub task_in : List (List ℕ) → Option Task
 task_in (journal ∷ word ∷ []) = if length journal == 0 then None else task_of_word word
 task_in (journal ∷ word ∷ month ∷ []) =
     if length journal == 0 then None else task_about word (month_in month)
+task_in (journal ∷ word ∷ loans ∷ number ∷ []) =
+    if length journal == 0 then None else task_with word (number_in loans) (number_in number)
 task_in words = None

@@ -2,6 +2,7 @@
 #![tactic(auto)]
 
 mod answering;
+mod drilling;
 mod importing;
 mod laws;
 mod over_journal;

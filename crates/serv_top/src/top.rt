@@ -12,10 +12,14 @@ ghost use Rattle.serv_engine.specs.Opening.{IsDamagedAt, IsTooLong};
 ghost use Rattle.serv_top.specs.declared.words.Task.TheVariants as task;
 ghost use Rattle.serv_top.specs.Journal.{IsInit, IsOnly, HasFileFaults, IsUnopened, IsApplied, journal_limit};
 ghost use Rattle.serv_top.specs.Imported.{IsImported};
+ghost use Rattle.serv_drill.specs.Machine.{cost_of_works, first_tally};
+ghost use Rattle.serv_drill.specs.Works.{year_works};
+ghost use Rattle.serv_top.specs.Drilled.{Drills};
 ghost use Rattle.serv_top.specs.Shown.{IsShown};
 ghost use Rattle.serv_top.specs.Outcome.{Ran, input_limit};
 ghost use Rattle.serv_top.specs.Words.{task_in};
 
+use crate::drilling::write_year;
 use crate::importing::import;
 use crate::over_journal::{apply, make_journal};
 use crate::showing::show;
@@ -58,7 +62,8 @@ fn session<S: Source, K: Sink, L: Ledger>(
 /// makes an empty journal. `<journal> apply` answers the lines of the source, each on the sink, over the
 /// journal of the disk: an accepted command is in it before it is answered. `<journal> session` does so
 /// over books in memory that begin empty. `<journal> report <month>`, `<journal> trial <month>` and `<journal>
-/// custodial` write that text over the journal. A last piece without a line feed is a line too. All lines that
+/// custodial` write that text over the journal. `<journal> drill <loans> <number>` writes the summary of the generated
+/// year, which is made in memory. A last piece without a line feed is a line too. All lines that
 /// a line feed ended in the bytes taken are answered before the source is read again.
 pub fn run<S: Source, K: Sink, D: Disk, L: Ledger>(
     alloc: Global,
@@ -113,6 +118,12 @@ pub fn run<S: Source, K: Sink, D: Disk, L: Ledger>(
     ensures show_file { (q : Query) → task_in (map (λ w. w.now) words.now) ≡ Some (task.Show q)
         → HasFileFaults (D.seen disk.old) result }
 
+    // The summary of a generated year is written, which is made in memory.
+    ensures drill { (loans number : ℕ) → task_in (map (λ w. w.now) words.now) ≡ Some (task.Drill loans number)
+        → Drills result loans number (K.held snk.old) (K.held snk.new)
+        × (steps.new ≤ steps.old + cost_of_works first_tally (year_works loans number))
+        × (src.new ≡ src.old) × (disk.new ≡ disk.old) }
+
     // A journal is made of a file of at most 9 bytes, and nothing else is touched.
     ensures init { task_in (map (λ w. w.now) words.now) ≡ Some task.Init
         → IsInit result (D.seen disk.old) (D.seen disk.new) (D.images disk.new) (D.faults disk.old) (D.faults disk.new)
@@ -161,6 +172,9 @@ pub fn run<S: Source, K: Sink, D: Disk, L: Ledger>(
         → ((result ≡ Status.Done) ⊎ ((result ≡ Status.OutOfMemory)
         ⊎ ((bytes : ℕ) × (result ≡ Status.JournalFull bytes))))
         ⊎ ((last : Option ℕ) × (result ≡ Status.NoReport last)) }
+    ensures complete_drill { (loans number : ℕ) → ¬ HasRisen (K.faults snk.old) (K.faults snk.new)
+        → task_in (map (λ w. w.now) words.now) ≡ Some (task.Drill loans number)
+        → (result ≡ Status.Done) ⊎ (result ≡ Status.OutOfMemory) }
     ensures complete_init { ¬ HasRisen (D.faults disk.old) (D.faults disk.new)
         → task_in (map (λ w. w.now) words.now) ≡ Some task.Init
         → (result ≡ Status.Done) ⊎ (result ≡ Status.AlreadyThere) }
@@ -170,6 +184,7 @@ pub fn run<S: Source, K: Sink, D: Disk, L: Ledger>(
         Some(Task::Init) => make_journal(disk),
         Some(Task::Apply) => apply(alloc, src, snk, disk, steps),
         Some(Task::Show(query)) => show(alloc, &query, snk, disk, steps),
+        Some(Task::Drill(loans, number)) => write_year(alloc, loans, number, snk, steps),
         Some(Task::Import) => import(alloc, src, snk, disk, steps),
         Some(Task::Session) => session(alloc, src, snk, steps),
     }

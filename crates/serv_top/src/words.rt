@@ -2,9 +2,9 @@
 
 ghost use Rattle.std.specs.Prelude.{◌≡◌, IfSome, map};
 ghost use Rattle.svc_base.specs.Text.{IsReadMonth};
-ghost use Rattle.serv_top.specs.Words.{IsTask, month_in, task_about, task_in, task_of_word};
+ghost use Rattle.serv_top.specs.Words.{IsTask, month_in, number_in, task_about, task_in, task_of_word, task_with};
 
-use svc_base::{Month, read_month};
+use svc_base::{Month, read_month, read_number};
 use svc_types::Query;
 
 /// What the program does.
@@ -21,7 +21,15 @@ pub(crate) enum Task {
     /// Writes the answer to a query over the journal: a month's report, its balances, or the line of the
     /// custodial accounts.
     Show(Query),
+    /// Makes the generated year of so many loans in memory, whose draws begin with the number, and writes its summary.
+    Drill(u32, u32),
 }
+
+/// The most loans of a generated year.
+const MOST_LOANS: u32 = 500;
+
+/// The last number that draws begin with.
+const LAST_NUMBER: u32 = 999_999;
 
 /// What a word asks for.
 fn task_of(word: &str) -> Option<Task>
@@ -73,6 +81,36 @@ fn task_of_month(word: &str, text: &str) -> Option<Task>
     None
 }
 
+/// The number from 0 to 999,999 that a text spells.
+#[tactic(auto, using(crate::proofs::WordLemmas::number_read, crate::proofs::WordLemmas::number_none, crate::proofs::WordLemmas::number_beyond))]
+fn number_of(text: &str) -> Option<u32>
+    ensures number { result ≡ number_in text.now }
+{
+    let number = read_number(text.as_bytes())?;
+    if number <= LAST_NUMBER {
+        Some(number)
+    } else {
+        None
+    }
+}
+
+/// What a word asks for about two numbers.
+fn task_of_numbers(word: &str, loans: &str, number: &str) -> Option<Task>
+    ensures task { result ≡ task_with word.now (number_in loans.now) (number_in number.now) }
+    ensures well { IfSome result IsTask }
+{
+    if word != "drill" {
+        return None;
+    }
+    let loans = number_of(loans)?;
+    let number = number_of(number)?;
+    if (1..=MOST_LOANS).contains(&loans) {
+        Some(Task::Drill(loans, number))
+    } else {
+        None
+    }
+}
+
 /// What the words ask for, which begin with a journal's name.
 pub(crate) fn read_words(words: &[&str]) -> Option<Task>
     ensures task { result ≡ task_in (map (λ w. w.now) words.now) }
@@ -90,6 +128,12 @@ pub(crate) fn read_words(words: &[&str]) -> Option<Task>
                 return None;
             }
             task_of_month(word, month)
+        }
+        [journal, word, loans, number] => {
+            if journal.is_empty() {
+                return None;
+            }
+            task_of_numbers(word, loans, number)
         }
         _ => None,
     }
