@@ -176,33 +176,38 @@ fn check(rt: &impl Abort, alloc: Global, turns: &[Turn]) -> Result<(), Fail> {
     take_turns::<Brand>(rt, alloc, Blank::new(1), turns)
 }
 
+/// A report where no month is closed.
+const NO_REPORT: Turn = Turn {
+    word: "report",
+    month: "2024-03",
+    status: Status::NoReport(None),
+    ..INIT
+};
+
+/// The same of its balances.
+const NO_BALANCES: Turn = Turn {
+    word: "trial",
+    ..NO_REPORT
+};
+
+/// A month that no word spells.
+const NO_MONTH: Turn = Turn {
+    month: "2100-01",
+    status: Status::Usage,
+    ..NO_REPORT
+};
+
 #[test]
 fn no_report_before_a_month_is_closed(rt: HostRuntime) -> Result<(), Fail> {
-    let none = Turn {
+    let last = Month::new(2024, 3);
+    let open = Turn {
         word: "report",
-        month: "2024-03",
-        status: Status::NoReport(None),
-        ..INIT
+        month: "2024-04",
+        input: b"",
+        status: Status::NoReport(Some(last)),
+        output: b"",
     };
-    let turns = [
-        INIT,
-        none,
-        Turn {
-            word: "trial",
-            ..none
-        },
-        Turn {
-            month: "2100-01",
-            status: Status::Usage,
-            ..none
-        },
-        FIRST_LOAN,
-        Turn {
-            month: "2024-04",
-            status: Status::NoReport(Some(Month::new(2024, 3))),
-            ..none
-        },
-    ];
+    let turns = [INIT, NO_REPORT, NO_BALANCES, NO_MONTH, FIRST_LOAN, open];
     check(&rt, rt.alloc(), &turns)
 }
 
