@@ -1,6 +1,6 @@
 //! The answer to a query, written over a journal.
 
-ghost use Rattle.std.specs.Prelude.{◌≡◌, ◌≤◌, ◌+◌, ◌⊎◌, List, Some, None};
+ghost use Rattle.std.specs.Prelude.{◌≡◌, ◌≤◌, ◌+◌, ◌⊎◌, ℕ, List, Option, Some, None};
 ghost use Rattle.svc_world.specs.World.{Accepted, world};
 ghost use Rattle.svc_world.specs.Answers.{answer_to};
 ghost use Rattle.svc_world.specs.Custody.{rows_in};
@@ -41,6 +41,7 @@ pub(crate) fn show<K: Sink, D: Disk, L: Ledger>(
         ⊎ IsShown D.seen D.images D.moment D.images_since disk.old disk.new result query.now
         steps.old steps.new (K.held snk.old) (K.held snk.new) }
     ensures file { HasFileFaults (D.seen disk.old) result }
+    ensures idle { (last : Option ℕ) → result ≡ Status.NoReport last → snk.new ≡ snk.old }
     ensures write { result ≡ Status.WriteFault → HasRisen (K.faults snk.old) (K.faults snk.new) }
     ensures disk { result ≡ Status.DiskFault → HasRisen (D.faults disk.old) (D.faults disk.new) }
     ensures write_later { K.faults snk.old ≤ K.faults snk.new }
@@ -62,6 +63,7 @@ fn show_by<D: Disk, M: Machine<D>, K: Sink, L: Ledger>(
 ) -> Status
     requires { IsShowing query.now }
     ensures shows { Shows result (M.history machine.now).commands query.now (K.held snk.old) (K.held snk.new) }
+    ensures idle { (last : Option ℕ) → result ≡ Status.NoReport last → snk.new ≡ snk.old }
     ensures write { result ≡ Status.WriteFault → HasRisen (K.faults snk.old) (K.faults snk.new) }
     ensures write_later { K.faults snk.old ≤ K.faults snk.new }
     ensures steps { steps.new ≤ steps.old + query_bound (world (M.history machine.now).commands) query.now }
@@ -78,6 +80,7 @@ fn write_text<K: Sink>(alloc: Global, answer: &Answer, snk: &mut K) -> Status
     ensures shows { (h : List Accepted) (q : Query) → refusal_over h q ≡ None
         → answer_to (world h) (rows_in h) q ≡ Some answer.now
         → Shows result h q (K.held snk.old) (K.held snk.new) }
+    ensures idle { (last : Option ℕ) → result ≡ Status.NoReport last → snk.new ≡ snk.old }
     ensures write { result ≡ Status.WriteFault → HasRisen (K.faults snk.old) (K.faults snk.new) }
     ensures write_later { K.faults snk.old ≤ K.faults snk.new }
 {

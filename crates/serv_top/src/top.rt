@@ -110,6 +110,8 @@ pub fn run<S: Source, K: Sink, D: Disk, L: Ledger>(
         steps.old steps.new (K.held snk.old) (K.held snk.new) }
     ensures show_source { (q : Query) → task_in (map (λ w. w.now) words.now) ≡ Some (task.Show q)
         → src.new ≡ src.old }
+    ensures show_sink { (q : Query) (last : Option ℕ) → task_in (map (λ w. w.now) words.now) ≡ Some (task.Show q)
+        → result ≡ Status.NoReport last → snk.new ≡ snk.old }
     ensures show_file { (q : Query) → task_in (map (λ w. w.now) words.now) ≡ Some (task.Show q)
         → HasFileFaults (D.seen disk.old) result }
 
