@@ -1,5 +1,5 @@
 //! Runs over one journal in memory, one after another: texts that are written over it, and files that are
-//! imported.
+//! imported. Generated years.
 
 ghost use Rattle.std.specs.Prelude.{◌≡◌, ◌<◌};
 
@@ -286,4 +286,89 @@ ok 4
         INIT, TWO_LOANS, PAYMENTS, PAYMENTS, unfit, headless, empty, custodial,
     ];
     check(&rt, rt.alloc(), &turns)
+}
+
+/// A generated year by its two words, and what it must come to.
+#[derive(Clone, Copy)]
+struct Year {
+    loans: &'static str,
+    number: &'static str,
+    status: Status,
+    output: &'static [u8],
+}
+
+/// No year.
+const NO_YEAR: Year = Year {
+    loans: "0",
+    number: "7",
+    status: Status::Usage,
+    output: b"",
+};
+
+fn take_year<L: Ledger>(
+    rt: &impl Abort,
+    alloc: Global,
+    year: &Year,
+    steps: &mut Steps<L>,
+) -> Result<(), Fail> {
+    let mut src = MemSource::new(Vec::new(alloc), Vec::new(alloc));
+    let mut snk = MemSink::new(Vec::new(alloc), Vec::new(alloc));
+    let mut disk = MemDisk::new(Vec::new(alloc), Vec::new(alloc))?;
+    let words = ["j", "drill", year.loans, year.number];
+    let status = run(alloc, &words, &mut src, &mut snk, &mut disk, steps);
+    assert_eq!(rt; status, year.status);
+    assert_eq!(rt; snk.content(), year.output);
+    Ok(())
+}
+
+fn take_years<L: Ledger>(
+    rt: &impl Abort,
+    alloc: Global,
+    blank: Blank,
+    years: &[Year],
+) -> Result<(), Fail>
+    requires name { blank.name ≡ L.name }
+    requires parts { blank.parts ≡ L.parts }
+    requires some { 0 < L.parts }
+{
+    let mut steps = Steps::<L>::new(blank);
+    for year in years {
+        take_year(rt, alloc, year, &mut steps)?;
+    }
+    Ok(())
+}
+
+fn check_years(rt: &impl Abort, alloc: Global, years: &[Year]) -> Result<(), Fail> {
+    take_years::<Brand>(rt, alloc, Blank::new(1), years)
+}
+
+#[test]
+fn a_generated_year_is_summed_up(rt: HostRuntime) -> Result<(), Fail> {
+    let years = [
+        NO_YEAR,
+        Year {
+            loans: "501",
+            ..NO_YEAR
+        },
+        Year {
+            loans: "40",
+            number: "1000000",
+            ..NO_YEAR
+        },
+        Year {
+            loans: "40",
+            number: "07",
+            ..NO_YEAR
+        },
+        Year {
+            loans: "1",
+            number: "0",
+            status: Status::Done,
+            output: b"drill loans 1 number 0 commands 52 repeats 52
+custodial T 0.00 P 1157.77 suspense 0.00 escrow 0.00 escrow-advance 0.00 held 1157.77 pi-advance 0.00
+remitted 9260.64 late 659.56
+",
+        },
+    ];
+    check_years(&rt, rt.alloc(), &years)
 }

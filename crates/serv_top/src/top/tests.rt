@@ -117,65 +117,51 @@ fn check_cases(rt: &(impl Abort + AllocGlobal), cases: &[Case]) -> Result<(), Fa
 
 const LINE: &[u8] = b"k1 day 2024-02-01\n";
 
+/// A run that leaves nothing.
+fn case_of(given: Given<'static>, status: Status, output: &'static [u8]) -> Case<'static> {
+    Case {
+        given,
+        status,
+        output,
+        left: b"",
+    }
+}
+
 /// What comes of a line by the words, where the runs of both ways end alike.
 fn cases_of(word: Given<'static>) -> [Case<'static>; 6] {
-    let day = Case {
-        given: Given {
-            input: LINE,
-            ..word
-        },
-        status: Status::Done,
-        output: b"ok 1\n",
-        left: b"",
+    let line = Given {
+        input: LINE,
+        ..word
+    };
+    let nothing = Given { input: b"", ..word };
+    let open = Given {
+        input: b"k1 day 2024-02-01",
+        ..word
+    };
+    let broken_later = Given {
+        reads: &[2],
+        ..line
+    };
+    let broken = Given {
+        reads: &[1],
+        ..line
+    };
+    let stuck = Given {
+        writes: &[1],
+        ..line
     };
     [
-        day,
-        // No input.
+        case_of(line, Status::Done, b"ok 1\n"),
+        case_of(nothing, Status::Done, b""),
+        case_of(open, Status::Done, b"ok 1\n"),
+        case_of(broken_later, Status::ReadFault, b"ok 1\n"),
         Case {
-            given: Given { input: b"", ..word },
-            output: b"",
-            ..day
-        },
-        // A last line without a line feed.
-        Case {
-            given: Given {
-                input: b"k1 day 2024-02-01",
-                ..word
-            },
-            ..day
-        },
-        // A second read that fails.
-        Case {
-            given: Given {
-                input: LINE,
-                reads: &[2],
-                ..word
-            },
-            status: Status::ReadFault,
-            ..day
-        },
-        // A first read that fails.
-        Case {
-            given: Given {
-                input: LINE,
-                reads: &[1],
-                ..word
-            },
+            given: broken,
             status: Status::ReadFault,
             output: b"",
             left: LINE,
         },
-        // A sink that fails at once.
-        Case {
-            given: Given {
-                input: LINE,
-                writes: &[1],
-                ..word
-            },
-            status: Status::WriteFault,
-            output: b"",
-            ..day
-        },
+        case_of(stuck, Status::WriteFault, b""),
     ]
 }
 
