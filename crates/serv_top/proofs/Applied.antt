@@ -1,5 +1,5 @@
 -- A run over a journal: what stands where it was opened, and where it was not.
-use Rattle.std.proofs.Common.{◌≡◌, ◌⊎◌, ℕ, ◌+◌, ◌-◌, ◌<◌, ◌≤◌, List, [], ◌∷◌, ◌++◌, length, refl, sym, ap, subst, ◌∙◌, inl, inr, ⊎_elim, arith, append_assoc, length-append}
+use Rattle.std.proofs.Common.{◌≡◌, ◌⊎◌, ℕ, ◌+◌, ◌-◌, ◌<◌, ◌≤◌, List, [], ◌∷◌, ◌++◌, length, refl, sym, ap, subst, ◌∙◌, inl, inr, ⊎_elim, arith, length-append}
 use Rattle.std.specs.Prelude.{Option, Some, None}
 use Rattle.std.specs.Io.KnownBytes.{Consumes}
 use Rattle.svc_types.specs.declared.requests.Request.{Request}
@@ -11,7 +11,7 @@ use Rattle.serv_disk.specs.Faults.{HasRisen}
 use Rattle.serv_journal.specs.declared.format.Version.TheVariants.{Two}
 use Rattle.serv_engine.specs.declared.fault.EngineFault.{EngineFault}
 use Rattle.serv_engine.specs.declared.fault.EngineFault.TheVariants as fault
-use Rattle.serv_engine.specs.Histories.{line_of_command, lines_of_history, lengths_of, IsGoodFound}
+use Rattle.serv_engine.specs.Histories.{lengths_of, IsGoodFound}
 use Rattle.serv_engine.specs.Engines.{EngineState, IsDurable}
 use Rattle.serv_engine.specs.Opening.{IsFound, IsPassing, IsOpenFault, IsOpenCause, history_bound}
 use Rattle.serv_engine.proofs.GoodLemmas.{good_journal, good_undamaged}
