@@ -487,10 +487,14 @@ fn bytes_written<L: Ledger>(alloc: Global, blank: Blank, word: &str) -> Result<u
     }
 }
 
+fn written_by(alloc: Global, word: &str) -> Result<usize, Fail> {
+    bytes_written::<Brand>(alloc, Blank::new(1), word)
+}
+
 #[test]
 fn a_reply_is_written_before_the_next_read(rt: HostRuntime) -> Result<(), Fail> {
     for word in ["session", "apply"] {
-        let written = bytes_written::<Brand>(rt.alloc(), Blank::new(1), word)?;
+        let written = written_by(rt.alloc(), word)?;
         assert_eq!(rt; written, b"ok 1\nok 2\n".len());
     }
     Ok(())

@@ -111,7 +111,7 @@ fn stopped_after(
     }
     let mut left = disk.crash(torn, longer)?;
     ends_well(rt, course, &mut left, calls)?;
-    assert_eq!(rt; &left.content()[..content.len()], content, "after {calls}");
+    assert!(rt; left.content().starts_with(content), "after {calls}");
     Ok(refused)
 }
 
@@ -126,16 +126,29 @@ const EACH_TORN: [(Torn, bool); 8] = [
     (Torn::Ones, true),
 ];
 
+/// Stops after each number of calls, and gives the first one after which no call was refused.
+fn calls_of_course(
+    rt: &(impl Abort + AllocGlobal),
+    course: &Course,
+    content: &[u8],
+    torn: Torn,
+    longer: bool,
+) -> Result<u32, Fail> {
+    for calls in 0..100 {
+        if !stopped_after(rt, course, content, calls, torn, longer)? {
+            return Ok(calls);
+        }
+    }
+    Ok(100)
+}
+
 #[test]
 fn a_stop_after_any_call_keeps_what_was_answered(rt: HostRuntime) -> Result<(), Fail> {
     let alloc = rt.alloc();
     let course = Course::new(alloc)?;
     let content = content_after(alloc, &course)?;
     for (torn, longer) in EACH_TORN {
-        let mut calls = 0;
-        while calls < 100 && stopped_after(&rt, &course, &content, calls, torn, longer)? {
-            calls += 1;
-        }
+        let calls = calls_of_course(&rt, &course, &content, torn, longer)?;
         assert!(rt; calls > 48 && calls < 100, "calls {calls}");
     }
     Ok(())
@@ -199,6 +212,22 @@ fn opening_stopped(
     Ok(refused)
 }
 
+/// Opens it with each number of calls, and gives the first one after which no call was refused.
+fn calls_of_opening(
+    rt: &(impl Abort + AllocGlobal),
+    course: &Course,
+    content: &[u8],
+    torn: Torn,
+    longer: bool,
+) -> Result<u32, Fail> {
+    for calls in 0..60 {
+        if !opening_stopped(rt, course, content, calls, torn, longer)? {
+            return Ok(calls);
+        }
+    }
+    Ok(60)
+}
+
 /// Opens it with each number of calls and each crash.
 fn each_opening_stopped(
     rt: &(impl Abort + AllocGlobal),
@@ -206,10 +235,7 @@ fn each_opening_stopped(
     content: &[u8],
 ) -> Result<(), Fail> {
     for (torn, longer) in EACH_TORN {
-        let mut calls = 0;
-        while calls < 60 && opening_stopped(rt, course, content, calls, torn, longer)? {
-            calls += 1;
-        }
+        let calls = calls_of_opening(rt, course, content, torn, longer)?;
         assert!(rt; calls > 3 && calls < 60, "calls {calls}");
     }
     Ok(())
