@@ -464,7 +464,7 @@ fn five_thousand_lines_are_answered(rt: HostRuntime) -> Result<(), Fail> {
 }
 
 /// Runs `j` and the word over a source and a sink that share a cell, and says how many bytes were written.
-fn bytes_written<L: Ledger>(alloc: Global, blank: Blank, word: &str) -> Result<usize, Fail>
+fn bytes_written<L: Ledger>(alloc: Global, blank: Blank, given: &Given) -> Result<usize, Fail>
     requires name { blank.name ≡ L.name }
     requires parts { blank.parts ≡ L.parts }
     requires some { 0 < L.parts }
@@ -476,7 +476,7 @@ fn bytes_written<L: Ledger>(alloc: Global, blank: Blank, word: &str) -> Result<u
     let mut steps = Steps::<L>::new(blank);
     match run(
         alloc,
-        &["j", word],
+        &["j", given.word],
         &mut src,
         &mut snk,
         &mut disk,
@@ -487,14 +487,14 @@ fn bytes_written<L: Ledger>(alloc: Global, blank: Blank, word: &str) -> Result<u
     }
 }
 
-fn written_by(alloc: Global, word: &str) -> Result<usize, Fail> {
-    bytes_written::<Brand>(alloc, Blank::new(1), word)
+fn written_by(alloc: Global, given: &Given) -> Result<usize, Fail> {
+    bytes_written::<Brand>(alloc, Blank::new(1), given)
 }
 
 #[test]
 fn a_reply_is_written_before_the_next_read(rt: HostRuntime) -> Result<(), Fail> {
-    for word in ["session", "apply"] {
-        let written = written_by(rt.alloc(), word)?;
+    for given in [SESSION, APPLY] {
+        let written = written_by(rt.alloc(), &given)?;
         assert_eq!(rt; written, b"ok 1\nok 2\n".len());
     }
     Ok(())

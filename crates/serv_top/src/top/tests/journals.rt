@@ -145,7 +145,7 @@ fn a_disk_that_fails_ends_the_run(rt: HostRuntime) -> Result<(), Fail> {
 fn run_on<D: Disk, L: Ledger>(
     alloc: Global,
     blank: Blank,
-    word: &str,
+    given: &Given,
     disk: &mut D,
 ) -> Result<(Status, Vec<u8>), Fail>
     requires name { blank.name ≡ L.name }
@@ -155,12 +155,23 @@ fn run_on<D: Disk, L: Ledger>(
     let mut src = MemSource::new(LINE.to_vec(alloc)?, Vec::new(alloc));
     let mut snk = MemSink::new(Vec::new(alloc), Vec::new(alloc));
     let mut steps = Steps::<L>::new(blank);
-    let status = run(alloc, &["j", word], &mut src, &mut snk, disk, &mut steps);
+    let status = run(
+        alloc,
+        &["j", given.word],
+        &mut src,
+        &mut snk,
+        disk,
+        &mut steps,
+    );
     Ok((status, Vec::from_slice(alloc, snk.content())?))
 }
 
-fn run_word<D: Disk>(alloc: Global, word: &str, disk: &mut D) -> Result<(Status, Vec<u8>), Fail> {
-    run_on::<D, Brand>(alloc, Blank::new(1), word, disk)
+fn run_word<D: Disk>(
+    alloc: Global,
+    given: &Given,
+    disk: &mut D,
+) -> Result<(Status, Vec<u8>), Fail> {
+    run_on::<D, Brand>(alloc, Blank::new(1), given, disk)
 }
 
 #[test]
@@ -175,10 +186,10 @@ fn a_stop_while_a_journal_is_made_is_made_good(rt: HostRuntime) -> Result<(), Fa
         for calls in 0..3 {
             let mut disk = MemDisk::new(Vec::new(alloc), Vec::new(alloc))?;
             disk.stop_after(calls);
-            let (status, _) = run_word(alloc, "init", &mut disk)?;
+            let (status, _) = run_word(alloc, &INIT, &mut disk)?;
             assert_eq!(rt; status, Status::DiskFault, "after {calls}");
             let mut left = disk.crash(torn, longer)?;
-            let (status, _) = run_word(alloc, "init", &mut left)?;
+            let (status, _) = run_word(alloc, &INIT, &mut left)?;
             assert_eq!(rt; status, Status::Done, "after {calls}");
             assert_eq!(rt; left.content(), NEW_JOURNAL, "after {calls}");
         }
@@ -191,17 +202,17 @@ fn a_file_keeps_the_journal(rt: HostRuntime) -> Result<(), Fail> {
     let alloc = rt.alloc();
     let name = format!(in alloc; "jaqhendulu-top-{}", process::id(rt.process()))?;
     let path = env::temp_dir(&rt)?.join(alloc, name.as_str())?;
-    for (word, status, output) in [
-        ("apply", Status::NotJournal, ""),
-        ("init", Status::Done, ""),
-        ("apply", Status::Done, "ok 1\n"),
-        ("apply", Status::Done, "ok 1\n"),
-        ("init", Status::AlreadyThere, ""),
+    for (given, status, output) in [
+        (APPLY, Status::NotJournal, ""),
+        (INIT, Status::Done, ""),
+        (APPLY, Status::Done, "ok 1\n"),
+        (APPLY, Status::Done, "ok 1\n"),
+        (INIT, Status::AlreadyThere, ""),
     ] {
         let mut disk = FileDisk::new(alloc, rt.clone()?, path.as_str())?;
-        let (ended, written) = run_word(alloc, word, &mut disk)?;
-        assert_eq!(rt; ended, status, "{word}");
-        assert_eq!(rt; written.as_slice(), output.as_bytes(), "{word}");
+        let (ended, written) = run_word(alloc, &given, &mut disk)?;
+        assert_eq!(rt; ended, status);
+        assert_eq!(rt; written.as_slice(), output.as_bytes());
     }
     let mut disk = FileDisk::new(alloc, rt.clone()?, path.as_str())?;
     assert_eq!(rt; disk.len(), Ok(33));
