@@ -15,7 +15,7 @@ pub use pushing::{
     push_signed_field, push_wide, undone,
 };
 pub use reading::{LONGEST_LINE, LineFault, read_line};
-pub use refusals::{push_refusal, write_refusal};
+pub use refusals::{push_refusal, refusal_code, write_refusal};
 pub use replies::{
     push_bad, push_found, push_full, push_parts, push_reply, write_bad, write_full, write_reply,
 };

@@ -48,14 +48,14 @@ fn push_named(out: &mut Vec<u8>, refusal: &Refusal) -> Result<(), OutOfMemory>
     ensures kept { OnErr result (Keeps out.old.items out.new.items) }
 {
     push_bytes(out, b"no ")?;
-    push_number(out, code(refusal))?;
+    push_number(out, refusal_code(refusal))?;
     push_bytes(out, b" ")?;
     push_bytes(out, name(refusal))
 }
 
-/// The code of a refusal.
-fn code(refusal: &Refusal) -> u32
-    ensures { result ≡ code_of refusal.now }
+/// The code of a refusal, which its line and its JSON body begin with: 1 to 25 and 27.
+pub fn refusal_code(refusal: &Refusal) -> u32
+    ensures code { result ≡ code_of refusal.now }
 {
     match refusal {
         Refusal::KeyReused(_) => 1,

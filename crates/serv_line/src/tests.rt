@@ -304,6 +304,7 @@ fn other_replies_have_their_texts(rt: HostRuntime) -> Result<(), Fail> {
     let mut out = Vec::new(rt.alloc());
     push_bad(&mut out, 0)?;
     push_full(&mut out, 268_435_456)?;
+    assert_eq!(rt; refusal_code(&Refusal::ClosedMonth(month())), 27);
     push_refusal(&mut out, &Refusal::BadAmount)?;
     push_reply(
         &mut out,

@@ -11,7 +11,7 @@ ghost use Rattle.serv_links.specs.Told.{IsTold, status_if};
 
 use serv_http::respond;
 use serv_json::write_json;
-use serv_line::{write_full, write_refusal, write_reply};
+use serv_line::{refusal_code, write_full, write_refusal, write_reply};
 use serv_report::write_answer;
 use std::alloc::Global;
 use svc_base::OutOfMemory;
@@ -47,7 +47,7 @@ impl Told {
     {
         Ok(Told {
             refused: true,
-            code: code(why),
+            code: refusal_code(why),
             number: None,
             text: write_refusal(alloc, why)?,
         })
@@ -101,39 +101,5 @@ impl Told {
         } else {
             respond(alloc, 200, &body, ends, None)
         }
-    }
-}
-
-/// The code of a refusal.
-fn code(refusal: &Refusal) -> u32
-    ensures { result ≡ code_of refusal.now }
-{
-    match refusal {
-        Refusal::KeyReused(_) => 1,
-        Refusal::Full(_) => 2,
-        Refusal::DayNotLater(_) => 3,
-        Refusal::LoanExists => 4,
-        Refusal::NoSuchLoan => 5,
-        Refusal::BadTerms(_) => 6,
-        Refusal::BoardedLate(_) => 7,
-        Refusal::BadAmount => 8,
-        Refusal::FutureDated(_) => 9,
-        Refusal::BeforeBoarding(_) => 10,
-        Refusal::OverPrincipal(_) => 11,
-        Refusal::PayoffShort(_) => 12,
-        Refusal::NoSuchEntry => 13,
-        Refusal::AlreadyReversed(_) => 14,
-        Refusal::NotReversible => 15,
-        Refusal::NoSuchLine => 16,
-        Refusal::BadLine(_) => 17,
-        Refusal::BadPlan(_) => 18,
-        Refusal::OverRefund(_) => 19,
-        Refusal::OverWaiver(_) => 20,
-        Refusal::WrongPeriod(_) => 21,
-        Refusal::NotEnded(_) => 22,
-        Refusal::NotClosed(_) => 23,
-        Refusal::WrongRemit(_) => 24,
-        Refusal::AdjustmentsFull(_) => 25,
-        Refusal::ClosedMonth(_) => 27,
     }
 }
