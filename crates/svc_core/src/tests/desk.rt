@@ -146,7 +146,6 @@ impl<B: LoanBooks, L: Ledger> Desk<B, L> {
         requires { IsCommand command.now }
     {
         let before = self.count();
-        assert!(rt; before < 1_000_000);
         assert_eq!(rt;
             self.send_as(rt, before + 1, command),
             Err(CoreFault::Refused(why))

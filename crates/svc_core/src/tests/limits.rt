@@ -12,7 +12,7 @@ use std::process::Abort;
 use std::sync::ledger::Ledger;
 use std::test::Fail;
 use svc_replay::LoanBooks;
-use svc_types::{Command, Limit, Refusal, RemitType, SurplusPlan};
+use svc_types::{Command, Limit, Query, Refusal, RemitType, SurplusPlan};
 
 /// A command is refused for that limit.
 fn is_full<B: LoanBooks, L: Ledger>(
@@ -181,4 +181,25 @@ pub(crate) fn adjustments_full<B: LoanBooks, L: Ledger>(rt: &impl Abort, desk: &
 #[test]
 fn there_is_a_limit_of_adjustments(rt: HostRuntime) -> Result<(), Fail> {
     over_checked(&rt, rt.alloc(), Course::AdjustmentsFull)
+}
+
+/// After 1,000,000 commands, most of which set the same escrow line, none is accepted, whatever else is wrong with it. The
+/// last one sent again has its reply, another one under its key is refused for the key, and questions are answered.
+pub(crate) fn commands_full<B: LoanBooks, L: Ledger>(rt: &impl Abort, desk: &mut Desk<B, L>) {
+    boarded(rt, desk, RemitType::SS);
+    let bill = tax(1, 1, 3, 12, 120_000);
+    for _ in 0..999_998 {
+        desk.ok(rt, &bill);
+    }
+    assert_eq!(rt; desk.count(), 1_000_000);
+    is_full(rt, desk, &bill, Limit::Commands);
+    is_full(rt, desk, &deposit(rt, 9, b"2024-02-01", 0), Limit::Commands);
+    desk.again(rt, 1_000_000, &bill);
+    desk.reused(rt, 1_000_000, &drop_line(1, 1));
+    assert_eq!(rt; desk.books_of(rt, &Query::Books(1)).upb, 20_000_000);
+}
+
+#[test]
+fn there_is_a_limit_of_commands(rt: HostRuntime) -> Result<(), Fail> {
+    over_checked(&rt, rt.alloc(), Course::CommandsFull)
 }
