@@ -1,4 +1,7 @@
+mod files;
+mod hostile;
 mod journals;
+mod month;
 mod sharing;
 mod stops;
 mod tables;
@@ -190,9 +193,7 @@ fn other_words_are_refused(rt: HostRuntime) -> Result<(), Fail> {
 fn check(rt: &(impl Abort + AllocGlobal), tables: &[&[Exchange]]) -> Result<(), Fail> {
     let mut talk = Talk::new(rt.alloc());
     for table in tables {
-        for (line, reply) in *table {
-            talk.add(line, reply)?;
-        }
+        talk.add_all(table)?;
     }
     talk.check(rt)
 }
@@ -332,6 +333,14 @@ impl Talk {
         Ok(())
     }
 
+    /// Adds the lines of a table, and the replies to them.
+    fn add_all(&mut self, table: &[Exchange]) -> Result<(), AllocError> {
+        for (line, reply) in table {
+            self.add(line, reply)?;
+        }
+        Ok(())
+    }
+
     /// Adds a command under the key of its number, which is accepted.
     fn accept(
         &mut self,
@@ -360,90 +369,6 @@ impl Talk {
         }
         Ok(())
     }
-}
-
-/// Adds installments of the loans from 1 to `last`, twice; so many commands come before them.
-fn pay_all(
-    talk: &mut Talk,
-    alloc: Global,
-    before: u32,
-    last: u32,
-    day: &str,
-) -> Result<(), AllocError> {
-    for _ in 0..2 {
-        for id in 1..=last {
-            let command = format!(in alloc; "pay {id} {day} 1199.10")?;
-            talk.accept(alloc, before.saturating_add(id), &command, "")?;
-        }
-    }
-    Ok(())
-}
-
-/// The remittance type of a loan with that number.
-fn kind_of(id: u32) -> &'static str {
-    match id % 3 {
-        1 => "AA",
-        2 => "SA",
-        _ => "SS",
-    }
-}
-
-#[test]
-fn a_month_of_forty_loans(rt: HostRuntime) -> Result<(), Fail> {
-    let alloc = rt.alloc();
-    let mut talk = Talk::new(alloc);
-    talk.accept(alloc, 1, "day 2024-02-01", "")?;
-    for id in 1..=40 {
-        let kind = kind_of(id);
-        let command = format!(in alloc;
-            "board {id} 2023-12-15 200000.00 6000 250 1199.10 360 2024-02 15 500 2 0.00 {kind}"
-        )?;
-        talk.accept(alloc, id + 1, &command, "")?;
-    }
-    pay_all(&mut talk, alloc, 41, 40, "2024-02-01")?;
-    talk.accept(alloc, 82, "day 2024-03-05", "")?;
-    pay_all(&mut talk, alloc, 82, 30, "2024-03-05")?;
-    talk.accept(alloc, 113, "day 2024-04-01", "")?;
-    talk.accept(
-        alloc,
-        114,
-        "close 2023-12",
-        " lines 40 interest 0.00 principal 0.00",
-    )?;
-    talk.accept(
-        alloc,
-        115,
-        "close 2024-01",
-        " lines 40 interest 0.00 principal 0.00",
-    )?;
-    talk.accept(
-        alloc,
-        116,
-        "close 2024-02",
-        " lines 40 interest 38333.20 principal 7964.00",
-    )?;
-    talk.accept(
-        alloc,
-        117,
-        "close 2024-03",
-        " lines 40 interest 34465.32 principal 6603.30",
-    )?;
-    talk.accept(alloc, 118, "remit 2023-12", " net 0.00")?;
-    talk.accept(alloc, 119, "remit 2024-01", " net 0.00")?;
-    talk.accept(alloc, 120, "remit 2024-02", " net 46297.20")?;
-    talk.accept(alloc, 121, "remit 2024-03", " net 41068.62")?;
-    talk.add(
-        "? custodial",
-        "custodial T 0.00 P 0.00 suspense 0.00 escrow 0.00 escrow-advance 0.00 held 0.00 pi-advance 6344.52",
-    )?;
-    for id in 31..=40 {
-        let line = format!(in alloc; "? books {id}")?;
-        let books = format!(in alloc;
-            "books {id} 2024-04-01 upb 199800.90 next 2024-03 escrow 0.00 suspense 0.00 late 59.96 interest 1000.00 fee 41.67 principal 199.10 charges 0.00 pay 1199.10"
-        )?;
-        talk.add(&line, &books)?;
-    }
-    talk.check(&rt)
 }
 
 #[test]

@@ -25,7 +25,12 @@ const INIT: Given<'static> = Given {
 };
 
 /// The content with one byte in place of another.
-fn changed(alloc: Global, content: &[u8], at: usize, value: u8) -> Result<Vec<u8>, AllocError> {
+pub(super) fn changed(
+    alloc: Global,
+    content: &[u8],
+    at: usize,
+    value: u8,
+) -> Result<Vec<u8>, AllocError> {
     let mut bytes = content.to_vec(alloc)?;
     if let Some(byte) = bytes.get_mut(at) {
         *byte = value;

@@ -80,6 +80,16 @@ pub(super) const CLOSED: [Exchange; 9] = [
     ("k12 remit 2024-03", "ok 12 net 1157.47"),
 ];
 
+/// March is paid late, and April is closed; it was not paid.
+pub(super) const CLOSED_LATER: [Exchange; 3] = [
+    ("k13 pay 1 2024-03-10 1199.10", "ok 13"),
+    ("k14 day 2024-05-01", "ok 14"),
+    (
+        "k15 close 2024-04",
+        "ok 15 lines 1 interest 956.42 principal 201.10",
+    ),
+];
+
 /// What was remitted, and advanced for March.
 pub(super) const ADVANCED: [Exchange; 3] = [
     (
