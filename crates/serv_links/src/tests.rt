@@ -1,5 +1,6 @@
 //! Links in memory, served over books in memory.
 
+mod hostile;
 mod links;
 
 ghost use Rattle.std.specs.Prelude.{◌≡◌, ◌<◌};
@@ -160,6 +161,10 @@ fn a_fault_of_the_link_breaks_it(rt: HostRuntime) -> Result<(), Fail> {
     let mut link = link_of(alloc, DAY, &[2], &[])?;
     assert_eq!(rt; served(alloc, &mut link)?, LinkEnd::Broken(1));
     assert_eq!(rt; link.content(), DAY_SAID);
+    // So does it after half a head.
+    let mut link = link_of(alloc, &DAY[..30], &[2], &[])?;
+    assert_eq!(rt; served(alloc, &mut link)?, LinkEnd::Broken(0));
+    assert_eq!(rt; link.content(), b"".as_slice());
     // The first write fails.
     let mut link = link_of(alloc, DAY, &[], &[1])?;
     assert_eq!(rt; served(alloc, &mut link)?, LinkEnd::Broken(0));
