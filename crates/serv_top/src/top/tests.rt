@@ -1,11 +1,12 @@
 mod journals;
+mod links;
 mod sharing;
 mod stops;
 mod tables;
 
 ghost use Rattle.std.specs.Prelude.{◌≡◌, ◌<◌};
 
-use super::run;
+use crate::without_links::run;
 use crate::{INPUT_LIMIT, Status};
 use serv_disk::{MemDisk, MemSink, MemSource, Source};
 use sharing::{Telling, Waiting};
