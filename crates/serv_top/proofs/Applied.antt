@@ -38,7 +38,7 @@ store_decided h a (Refused why) = refl
 store_decided h a (Full bytes) = refl
 store_decided h a Fresh = refl
 
-store_request : (h : History) (r : Request) → (history_after_request h r).store ≡ h.store
+pub store_request : (h : History) (r : Request) → (history_after_request h r).store ≡ h.store
 unfolding history_after_request
 store_request h (request.Do key c) = store_decided h (accepted key c) (decided h key c)
 store_request h (request.Ask q) = refl
