@@ -4,13 +4,14 @@
 
 ghost use Rattle.std.specs.Prelude.{◌≡◌, ◌<◌};
 
-use serv_disk::{FileDisk, ReadSource, WriteSink};
-use serv_top::Status;
+use serv_disk::{FileDisk, ReadSource, TcpDoors, WriteSink};
+use serv_top::{Status, port_in};
 use std::alloc::{AllocError, Global};
 use std::env;
 use std::fs::Files;
 use std::io::{self, ErrorKind};
 use std::marker::Brand;
+use std::net::Net;
 use std::process::ExitCode;
 use std::rt::Env;
 use std::sync::ledger::{Blank, Ledger};
@@ -38,10 +39,12 @@ fn texts_of(alloc: Global, words: &[String]) -> Result<Vec<&str>, AllocError> {
     Ok(texts)
 }
 
-/// Makes the objects and runs what the words ask for. The first word is the path of the journal's file.
-fn start<R: Env + Input + Print + AllocGlobal, F: Files + Drop, L: Ledger>(
+/// Makes the objects and runs what the words ask for. The first word is the path of the journal's file, and links
+/// come to the port of the words `serve`.
+fn start<R: Env + Input + Print + AllocGlobal, F: Files + Drop, N: Net + Drop, L: Ledger>(
     rt: &R,
     files: F,
+    net: N,
     blank: Blank,
 ) -> Status
     requires name { blank.name ≡ L.name }
@@ -64,6 +67,7 @@ fn start<R: Env + Input + Print + AllocGlobal, F: Files + Drop, L: Ledger>(
     };
     let mut src = ReadSource::new(rt.reader());
     let mut snk = WriteSink::new(io::writer(rt));
+    let mut doors = TcpDoors::new(net, port_in(&texts));
     let mut steps = Steps::<L>::new(blank);
     serv_top::run(
         rt.alloc(),
@@ -71,13 +75,24 @@ fn start<R: Env + Input + Print + AllocGlobal, F: Files + Drop, L: Ledger>(
         &mut src,
         &mut snk,
         &mut disk,
+        &mut doors,
         &mut steps,
     )
 }
 
 fn main(rt: HostRuntime) -> ExitCode {
     let status = match rt.clone() {
-        Ok(files) => start::<HostRuntime, HostRuntime, Brand>(&rt, files, Blank::new(1)),
+        Ok(files) => match rt.clone() {
+            Ok(net) => {
+                start::<HostRuntime, HostRuntime, HostRuntime, Brand>(
+                    &rt,
+                    files,
+                    net,
+                    Blank::new(1),
+                )
+            }
+            Err(_) => Status::OutOfMemory,
+        },
         Err(_) => Status::OutOfMemory,
     };
     if status != Status::Done {

@@ -38,7 +38,7 @@ store_decided h a (Refused why) = refl
 store_decided h a (Full bytes) = refl
 store_decided h a Fresh = refl
 
-store_request : (h : History) (r : Request) → (history_after_request h r).store ≡ h.store
+pub store_request : (h : History) (r : Request) → (history_after_request h r).store ≡ h.store
 unfolding history_after_request
 store_request h (request.Do key c) = store_decided h (accepted key c) (decided h key c)
 store_request h (request.Ask q) = refl
@@ -83,6 +83,7 @@ store_ended waiting status.Usage s s' pending taken left written is = absurd is
 store_ended waiting status.NotJournal s s' pending taken left written is = absurd is
 store_ended waiting status.AlreadyThere s s' pending taken left written is = absurd is
 store_ended waiting (status.Damaged place) s s' pending taken left written is = absurd is
+store_ended waiting status.NetFault s s' pending taken left written is = absurd is
 store_ended waiting (status.NoReport last) s s' pending taken left written is = absurd is
 store_ended waiting (status.JournalFull bytes) s s' pending taken left written is = absurd is
 
@@ -163,6 +164,7 @@ Completes st = (st ≡ status.Done) ⊎ ((st ≡ status.OutOfMemory) ⊎ ((bytes
 pub unopened_ends : (st : Status) (s : List ℕ) (h : List Accepted) (a : Accepted) (faults faults' : ℕ) (told : Option (List ℕ)) → told ≡ Some s → IsHistory (h ++ a ∷ []) → IsGoodFound h a s → IsCause st told faults faults' → (HasRisen faults faults' → ⊥) → Completes st
 unopened_ends status.NotJournal s h a faults faults' told is hist good cause calm = absurd (good_journal h a s hist good (cause s is))
 unopened_ends (status.Damaged place) s h a faults faults' told is hist good cause calm = absurd (good_undamaged h a s place hist good (cause s is))
+unopened_ends status.NetFault s h a faults faults' told is hist good cause calm = absurd cause
 unopened_ends (status.JournalFull bytes) s h a faults faults' told is hist good cause calm = inr (inr (bytes, refl))
 unopened_ends status.DiskFault s h a faults faults' told is hist good cause calm = absurd (calm cause)
 unopened_ends status.OutOfMemory s h a faults faults' told is hist good cause calm = inr (inl refl)
@@ -194,6 +196,7 @@ applied_ends waiting status.Usage s s' pending left left' held held' input is sh
 applied_ends waiting status.NotJournal s s' pending left left' held held' input is short reads writes disks e = absurd e.says
 applied_ends waiting status.AlreadyThere s s' pending left left' held held' input is short reads writes disks e = absurd e.says
 applied_ends waiting (status.Damaged place) s s' pending left left' held held' input is short reads writes disks e = absurd e.says
+applied_ends waiting status.NetFault s s' pending left left' held held' input is short reads writes disks e = absurd e.says
 applied_ends waiting (status.NoReport last) s s' pending left left' held held' input is short reads writes disks e = absurd e.says
 applied_ends waiting (status.JournalFull bytes) s s' pending left left' held held' input is short reads writes disks e = absurd e.says
 

@@ -9,3 +9,4 @@ pub mod Applied
 pub mod ShownLemmas
 pub mod WordLemmas
 pub mod ImportLemmas
+pub mod LinksLemmas

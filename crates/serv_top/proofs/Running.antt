@@ -180,6 +180,7 @@ none_pending waiting status.Usage s s' pending left left' held held' calm e = ab
 none_pending waiting status.NotJournal s s' pending left left' held held' calm e = absurd e.says
 none_pending waiting status.AlreadyThere s s' pending left left' held held' calm e = absurd e.says
 none_pending waiting (status.Damaged place) s s' pending left left' held held' calm e = absurd e.says
+none_pending waiting status.NetFault s s' pending left left' held held' calm e = absurd e.says
 none_pending waiting (status.NoReport last) s s' pending left left' held held' calm e = absurd e.says
 none_pending waiting (status.JournalFull bytes) s s' pending left left' held held' calm e = absurd e.says
 

@@ -81,6 +81,7 @@ shown_ends status.DiskFault h q written calm is = absurd is
 shown_ends status.NotJournal h q written calm is = absurd is
 shown_ends status.AlreadyThere h q written calm is = absurd is
 shown_ends (status.Damaged place) h q written calm is = absurd is
+shown_ends status.NetFault h q written calm is = absurd is
 shown_ends (status.TooMuch bytes) h q written calm is = absurd is
 shown_ends (status.JournalFull bytes) h q written calm is = absurd is
 

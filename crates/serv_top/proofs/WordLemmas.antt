@@ -76,30 +76,30 @@ month_spelled text m e = by_test (is_read_month (month_by_digits text) && bytes_
 number_of_its_text : (text : List ℕ) (n : ℕ) → n < 2 ^ 32 → text ≡ text_of_number n → digits_value 10 text ≡ n
 number_of_its_text text n small e = ap (digits_value 10) e ∙ (decimal_is_IsNumeral n (omega (arith, small))).1
 
-pub number_read : (text : List ℕ) (n : ℕ) → n ≤ 999999 → text ≡ text_of_number n → number_in text ≡ Some n
+pub number_read : (most : ℕ) (text : List ℕ) (n : ℕ) → n < 2 ^ 32 → n ≤ most → text ≡ text_of_number n → number_in most text ≡ Some n
 unfolding number_in
-number_read text n small e =
-    let k : digits_value 10 text ≡ n = number_of_its_text text n (omega (arith, small)) e in
-    let test : (nat_le (digits_value 10 text) 999999 && bytes_eq text (text_of_number (digits_value 10 text))) ≡ true =
-    subst (λ m. (nat_le m 999999 && bytes_eq text (text_of_number m)) ≡ true) (sym k)
-    (both (nat_le n 999999) (bytes_eq text (text_of_number n)) (le-leb n 999999 small) ((bytes_eq-Decides text (text_of_number n)).1 e)) in
+number_read most text n small few e =
+    let k : digits_value 10 text ≡ n = number_of_its_text text n small e in
+    let test : (nat_le (digits_value 10 text) most && bytes_eq text (text_of_number (digits_value 10 text))) ≡ true =
+    subst (λ m. (nat_le m most && bytes_eq text (text_of_number m)) ≡ true) (sym k)
+    (both (nat_le n most) (bytes_eq text (text_of_number n)) (le-leb n most few) ((bytes_eq-Decides text (text_of_number n)).1 e)) in
     ap (λ (t : Bool). if t then Some (digits_value 10 text) else None) test ∙ ap Some k
 
-pub number_none : (text : List ℕ) → ((n : ℕ) → n < 2 ^ 32 → text ≢ text_of_number n) → number_in text ≡ None
+pub number_none : (most : ℕ) (text : List ℕ) → most < 2 ^ 32 → ((n : ℕ) → n < 2 ^ 32 → text ≢ text_of_number n) → number_in most text ≡ None
 unfolding number_in
-number_none text none = by_test (nat_le (digits_value 10 text) 999999) (bytes_eq text (text_of_number (digits_value 10 text))) (digits_value 10 text)
-    (λ few e. none (digits_value 10 text) (omega (arith, leb-true (digits_value 10 text) 999999 few)) ((bytes_eq-Decides text (text_of_number (digits_value 10 text))).0 e))
+number_none most text small none = by_test (nat_le (digits_value 10 text) most) (bytes_eq text (text_of_number (digits_value 10 text))) (digits_value 10 text)
+    (λ few e. none (digits_value 10 text) (omega (arith, small, leb-true (digits_value 10 text) most few)) ((bytes_eq-Decides text (text_of_number (digits_value 10 text))).0 e))
   where
     by_test : (few same : Bool) (m : ℕ) → (few ≡ true → same ≡ true → ⊥) → (if few && same then Some m else None) ≡ None
     by_test true true m no_way = absurd (no_way refl refl)
     by_test true false m no_way = refl
     by_test false same m no_way = refl
 
-pub number_beyond : (text : List ℕ) (n : ℕ) → n < 2 ^ 32 → 999999 < n → text ≡ text_of_number n → number_in text ≡ None
+pub number_beyond : (most : ℕ) (text : List ℕ) (n : ℕ) → n < 2 ^ 32 → most < n → text ≡ text_of_number n → number_in most text ≡ None
 unfolding number_in
-number_beyond text n small large e =
-    by_test (nat_le (digits_value 10 text) 999999) (bytes_eq text (text_of_number (digits_value 10 text))) (digits_value 10 text)
-    (λ few. omega (arith, number_of_its_text text n small e, leb-true (digits_value 10 text) 999999 few, large))
+number_beyond most text n small large e =
+    by_test (nat_le (digits_value 10 text) most) (bytes_eq text (text_of_number (digits_value 10 text))) (digits_value 10 text)
+    (λ few. omega (arith, number_of_its_text text n small e, leb-true (digits_value 10 text) most few, large))
   where
     by_test : (few same : Bool) (m : ℕ) → (few ≡ true → ⊥) → (if few && same then Some m else None) ≡ None
     by_test true same m no_way = absurd (no_way refl)

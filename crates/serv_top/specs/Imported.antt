@@ -16,7 +16,7 @@ use Rattle.serv_machine.specs.OnDisk.{OnDisk}
 use Rattle.serv_top.specs.declared.serving.Stop.{Stop}
 use Rattle.serv_top.specs.declared.serving.Stop.TheVariants as stop
 use Rattle.serv_top.specs.declared.status.Status.{Status}
-use Rattle.serv_top.specs.declared.status.Status.TheVariants.{Done, Usage, ReadFault, WriteFault, DiskFault, NotJournal, AlreadyThere, Damaged, NoReport, TooMuch, OutOfMemory, JournalFull}
+use Rattle.serv_top.specs.declared.status.Status.TheVariants.{Done, Usage, ReadFault, WriteFault, DiskFault, NotJournal, AlreadyThere, Damaged, NetFault, NoReport, TooMuch, OutOfMemory, JournalFull}
 use Rattle.serv_top.specs.Machine.{Said, Asks, Unfit, reply_to, history_after, bound_of, Stand, Stays, Moves}
 use Rattle.serv_top.specs.Replies.{MovesAll, replies_to, before_last}
 use Rattle.serv_top.specs.Outcome.{input_limit}
@@ -143,6 +143,7 @@ IsRowsOutput ReadFault saids s s' pending written = ⊥
 IsRowsOutput NotJournal saids s s' pending written = ⊥
 IsRowsOutput AlreadyThere saids s s' pending written = ⊥
 IsRowsOutput (Damaged place) saids s s' pending written = ⊥
+IsRowsOutput NetFault saids s s' pending written = ⊥
 IsRowsOutput (NoReport last) saids s s' pending written = ⊥
 IsRowsOutput (TooMuch bytes) saids s s' pending written = ⊥
 IsRowsOutput (JournalFull bytes) saids s s' pending written = ⊥
@@ -161,6 +162,7 @@ IsUnread DiskFault taken = ⊥
 IsUnread NotJournal taken = ⊥
 IsUnread AlreadyThere taken = ⊥
 IsUnread (Damaged place) taken = ⊥
+IsUnread NetFault taken = ⊥
 IsUnread (NoReport last) taken = ⊥
 IsUnread (JournalFull bytes) taken = ⊥
 

@@ -10,7 +10,7 @@ use Rattle.serv_engine.specs.Opening.{IsDamagedAt, IsTooLong, IsFound, IsClosed,
 use Rattle.serv_machine.specs.History.{in_journal}
 use Rattle.serv_machine.specs.OnDisk.{HasHistory, OnDisk}
 use Rattle.serv_top.specs.declared.status.Status.{Status}
-use Rattle.serv_top.specs.declared.status.Status.TheVariants.{Done, Usage, ReadFault, WriteFault, DiskFault, NotJournal, AlreadyThere, Damaged, NoReport, TooMuch, OutOfMemory, JournalFull}
+use Rattle.serv_top.specs.declared.status.Status.TheVariants.{Done, Usage, ReadFault, WriteFault, DiskFault, NotJournal, AlreadyThere, Damaged, NetFault, NoReport, TooMuch, OutOfMemory, JournalFull}
 use Rattle.serv_top.specs.Machine.{Stand, stand}
 use Rattle.serv_top.specs.Outcome.{Ended}
 
@@ -30,6 +30,7 @@ IsInit ReadFault told told' images faults faults' = ⊥
 IsInit WriteFault told told' images faults faults' = ⊥
 IsInit NotJournal told told' images faults faults' = ⊥
 IsInit (Damaged place) told told' images faults faults' = ⊥
+IsInit NetFault told told' images faults faults' = ⊥
 IsInit (NoReport last) told told' images faults faults' = ⊥
 IsInit (TooMuch bytes) told told' images faults faults' = ⊥
 IsInit OutOfMemory told told' images faults faults' = ⊥
@@ -46,6 +47,7 @@ KeepsGood seen images moment images_since old new = (s : List ℕ) → seen old 
 abbrev pub IsCause : Status → Option (List ℕ) → ℕ → ℕ → Type 0
 IsCause NotJournal told faults faults' = (s : List ℕ) → told ≡ Some s → IsNoJournal s
 IsCause (Damaged place) told faults faults' = (s : List ℕ) → told ≡ Some s → IsDamagedAt place s
+IsCause NetFault told faults faults' = ⊥
 IsCause (JournalFull bytes) told faults faults' = (s : List ℕ) → told ≡ Some s → IsTooLong journal_limit bytes s
 IsCause DiskFault told faults faults' = HasRisen faults faults'
 IsCause OutOfMemory told faults faults' = ⊤

@@ -10,3 +10,4 @@ pub mod Journal
 pub mod Shown
 pub mod Imported
 pub mod Drilled
+pub mod Served

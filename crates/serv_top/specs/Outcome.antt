@@ -5,7 +5,7 @@ use Rattle.svc_world.specs.World.{Accepted}
 use Rattle.serv_machine.specs.History.{History, nothing}
 use Rattle.serv_machine.specs.OnDisk.{OnDisk}
 use Rattle.serv_top.specs.declared.status.Status.{Status}
-use Rattle.serv_top.specs.declared.status.Status.TheVariants.{Done, Usage, ReadFault, WriteFault, DiskFault, NotJournal, AlreadyThere, Damaged, NoReport, TooMuch, OutOfMemory, JournalFull}
+use Rattle.serv_top.specs.declared.status.Status.TheVariants.{Done, Usage, ReadFault, WriteFault, DiskFault, NotJournal, AlreadyThere, Damaged, NetFault, NoReport, TooMuch, OutOfMemory, JournalFull}
 use Rattle.serv_top.specs.Lines.{lines_of, ended_lines}
 use Rattle.serv_top.specs.Machine.{Stand, stand}
 use Rattle.serv_top.specs.Replies.{Answers, IsBegun, IsCutIn, IsHeldUp}
@@ -38,6 +38,7 @@ IsOutput waiting Usage s s' pending taken left written = ⊥
 IsOutput waiting NotJournal s s' pending taken left written = ⊥
 IsOutput waiting AlreadyThere s s' pending taken left written = ⊥
 IsOutput waiting (Damaged place) s s' pending taken left written = ⊥
+IsOutput waiting NetFault s s' pending taken left written = ⊥
 IsOutput waiting (NoReport last) s s' pending taken left written = ⊥
 IsOutput waiting (JournalFull bytes) s s' pending taken left written = ⊥
 

@@ -13,7 +13,7 @@ use Rattle.svc_world.specs.Custody.{rows_in}
 use Rattle.serv_disk.specs.Faults.{IsProperPrefix}
 use Rattle.serv_report.specs.AnswerTexts.{text_of_answer}
 use Rattle.serv_top.specs.declared.status.Status.{Status}
-use Rattle.serv_top.specs.declared.status.Status.TheVariants.{Done, Usage, ReadFault, WriteFault, DiskFault, NotJournal, AlreadyThere, Damaged, NoReport, TooMuch, OutOfMemory, JournalFull}
+use Rattle.serv_top.specs.declared.status.Status.TheVariants.{Done, Usage, ReadFault, WriteFault, DiskFault, NotJournal, AlreadyThere, Damaged, NetFault, NoReport, TooMuch, OutOfMemory, JournalFull}
 use Rattle.serv_top.specs.Journal.{IsOpened}
 
 -- why a query is refused over these commands
@@ -46,6 +46,7 @@ IsShownAs DiskFault h q written = ⊥
 IsShownAs NotJournal h q written = ⊥
 IsShownAs AlreadyThere h q written = ⊥
 IsShownAs (Damaged place) h q written = ⊥
+IsShownAs NetFault h q written = ⊥
 IsShownAs (TooMuch bytes) h q written = ⊥
 IsShownAs (JournalFull bytes) h q written = ⊥
 

@@ -1,7 +1,7 @@
 -- The exit status for each way to end.
 use Rattle.std.specs.Prelude.{ℕ}
 use Rattle.serv_top.specs.declared.status.Status.{Status}
-use Rattle.serv_top.specs.declared.status.Status.TheVariants.{Done, Usage, ReadFault, WriteFault, DiskFault, NotJournal, AlreadyThere, Damaged, NoReport, TooMuch, OutOfMemory, JournalFull}
+use Rattle.serv_top.specs.declared.status.Status.TheVariants.{Done, Usage, ReadFault, WriteFault, DiskFault, NotJournal, AlreadyThere, Damaged, NetFault, NoReport, TooMuch, OutOfMemory, JournalFull}
 
 abbrev pub number_of : Status → ℕ
 number_of Done = 0
@@ -12,6 +12,7 @@ number_of DiskFault = 5
 number_of NotJournal = 6
 number_of AlreadyThere = 7
 number_of (Damaged place) = 8
+number_of NetFault = 9
 number_of (NoReport last) = 10
 number_of (TooMuch bytes) = 11
 number_of OutOfMemory = 12

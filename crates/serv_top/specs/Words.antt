@@ -7,7 +7,7 @@ use Rattle.svc_base.specs.Text.{IsReadMonth, text_of_month, text_of_number}
 use Rattle.svc_types.specs.declared.requests.Query.{Query}
 use Rattle.svc_types.specs.declared.requests.Query.TheVariants as query
 use Rattle.serv_top.specs.declared.words.Task.{Task}
-use Rattle.serv_top.specs.declared.words.Task.TheVariants.{Init, Apply, Session, Import, Show, Drill}
+use Rattle.serv_top.specs.declared.words.Task.TheVariants.{Init, Apply, Session, Import, Show, Drill, Serve}
 
 -- two digits as a number
 abbrev pub number_of_pair : ℕ → ℕ → ℕ
@@ -29,10 +29,10 @@ month_in text =
     if is_read_month (month_by_digits text) && bytes_eq text (text_of_month (month_by_digits text)) then
     Some (month_by_digits text) else None
 
--- the number from 0 to 999,999 that a text spells
-unfoldable pub number_in : List ℕ → Option ℕ
-number_in text =
-    if nat_le (digits_value 10 text) 999999 && bytes_eq text (text_of_number (digits_value 10 text)) then
+-- the number up to the first one that a text spells
+unfoldable pub number_in : ℕ → List ℕ → Option ℕ
+number_in most text =
+    if nat_le (digits_value 10 text) most && bytes_eq text (text_of_number (digits_value 10 text)) then
     Some (digits_value 10 text) else None
 
 abbrev pub task_of_word : List ℕ → Option Task
@@ -56,9 +56,17 @@ year_of None number = None
 year_of (Some loans) None = None
 year_of (Some loans) (Some number) = if nat_le 1 loans && nat_le loans 500 then Some (Drill loans number) else None
 
+-- 1 to 1,000,000 connections to a port from 1 to 65,535
+abbrev pub served_at : Option ℕ → Option ℕ → Option Task
+served_at None links = None
+served_at (Some port) None = None
+served_at (Some port) (Some links) = if nat_le 1 port && nat_le 1 links then Some (Serve port links) else None
+
 -- what a word asks for about two numbers
-abbrev pub task_with : List ℕ → Option ℕ → Option ℕ → Option Task
-task_with word loans number = if bytes_eq word (codes "drill") then year_of loans number else None
+abbrev pub task_with : List ℕ → List ℕ → List ℕ → Option Task
+task_with word first second =
+    if bytes_eq word (codes "drill") then year_of (number_in 999999 first) (number_in 999999 second)
+    else (if bytes_eq word (codes "serve") then served_at (number_in 65535 first) (number_in 1000000 second) else None)
 
 -- the queries that words ask
 abbrev pub IsShowing : Query → Type 0
@@ -71,7 +79,7 @@ IsShowing (query.Payoff l d) = ⊥
 IsShowing (query.Escrow l) = ⊥
 IsShowing (query.Rows number) = ⊥
 
--- words ask no other query, and no year of more loans
+-- words ask no other query, no year of more loans, and no further port or connections
 abbrev pub IsTask : Task → Type 0
 IsTask Init = Unit {0}
 IsTask Apply = Unit {0}
@@ -79,12 +87,17 @@ IsTask Session = Unit {0}
 IsTask Import = Unit {0}
 IsTask (Show q) = IsShowing q
 IsTask (Drill loans number) = loans ≤ 500
+IsTask (Serve port links) = (port ≤ 65535) × (links ≤ 1000000)
 
--- a journal's name, which is not empty, and what is to be done, for two of these a month, and for one two numbers
+-- a journal's name, which is not empty, and what is to be done, for two of these a month, and for two of these two numbers
 abbrev pub task_in : List (List ℕ) → Option Task
 task_in (journal ∷ word ∷ []) = if length journal == 0 then None else task_of_word word
 task_in (journal ∷ word ∷ month ∷ []) =
     if length journal == 0 then None else task_about word (month_in month)
-task_in (journal ∷ word ∷ loans ∷ number ∷ []) =
-    if length journal == 0 then None else task_with word (number_in loans) (number_in number)
+task_in (journal ∷ word ∷ first ∷ second ∷ []) = if length journal == 0 then None else task_with word first second
 task_in words = None
+
+-- the port that links are served at, or 0
+abbrev pub port_of_task : Option Task → ℕ
+port_of_task (Some (Serve port links)) = port
+port_of_task other = 0

@@ -5,6 +5,8 @@ mod answering;
 mod drilling;
 mod importing;
 mod laws;
+mod one_link;
+mod over_doors;
 mod over_journal;
 mod serving;
 mod showing;
@@ -14,9 +16,13 @@ mod top;
 mod words;
 
 pub use laws::{files_say_one_thing, lines_have_one_answer, months_are_read};
+pub use one_link::serve_one;
 pub use status::Status;
 pub use stream::INPUT_LIMIT;
 pub use top::run;
+pub use words::port_in;
 
 #[cfg(test)]
 mod runs;
+#[cfg(test)]
+mod without_links;

@@ -3,7 +3,8 @@
 
 ghost use Rattle.std.specs.Prelude.{◌≡◌, ◌<◌};
 
-use crate::{Status, run};
+use crate::Status;
+use crate::without_links::run;
 use serv_disk::{MemDisk, MemSink, MemSource};
 use std::alloc::Global;
 use std::marker::Brand;

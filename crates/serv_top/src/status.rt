@@ -9,7 +9,8 @@ use svc_base::Month;
 /// How a run ended. The program's exit status is its number.
 #[derive(Clone, Copy, Debug, PartialEq, Eq)]
 pub enum Status {
-    /// The input was read to its end, and all replies were written; or the journal was made.
+    /// The input was read to its end, and all replies were written; the journal was made; or the connections were
+    /// served, or no more came.
     Done,
     /// The words of the command line are none that the program knows.
     Usage,
@@ -25,6 +26,8 @@ pub enum Status {
     AlreadyThere,
     /// The place of the first record that is none, or of whose command the ones before it leave no place.
     Damaged(u64),
+    /// A call of the doors failed.
+    NetFault,
     /// No report of the month is there; the last closed month, where one is closed.
     NoReport(Option<Month>),
     /// The input is too long: this many bytes were taken.
@@ -49,6 +52,7 @@ impl Status {
             Status::NotJournal => 6,
             Status::AlreadyThere => 7,
             Status::Damaged(_) => 8,
+            Status::NetFault => 9,
             Status::NoReport(_) => 10,
             Status::TooMuch(_) => 11,
             Status::OutOfMemory => 12,
@@ -70,6 +74,7 @@ impl fmt::Display for Status {
             Status::NotJournal => write!(f, "{number} NotJournal"),
             Status::AlreadyThere => write!(f, "{number} AlreadyThere"),
             Status::Damaged(place) => write!(f, "{number} Damaged {place}"),
+            Status::NetFault => write!(f, "{number} NetFault"),
             Status::NoReport(None) => write!(f, "{number} NoReport -"),
             Status::NoReport(Some(last)) => {
                 let (year, month) = (last.year(), last.month());

@@ -15,18 +15,21 @@ ghost use Rattle.serv_top.specs.Imported.{IsImported};
 ghost use Rattle.serv_drill.specs.Machine.{cost_of_works, first_tally};
 ghost use Rattle.serv_drill.specs.Works.{year_works};
 ghost use Rattle.serv_top.specs.Drilled.{Drills};
+ghost use Rattle.serv_links.specs.Doors.{ServedLink};
 ghost use Rattle.serv_top.specs.Shown.{IsShown};
+ghost use Rattle.serv_top.specs.Served.{IsServedOver};
 ghost use Rattle.serv_top.specs.Outcome.{Ran, input_limit};
 ghost use Rattle.serv_top.specs.Words.{task_in};
 
 use crate::drilling::write_year;
 use crate::importing::import;
+use crate::over_doors::serve_over;
 use crate::over_journal::{apply, make_journal};
 use crate::showing::show;
 use crate::status::Status;
 use crate::stream::serve;
 use crate::words::{Task, read_words};
-use serv_disk::{Disk, Sink, Source};
+use serv_disk::{Disk, Doors, Sink, Source};
 use serv_machine::Nowhere;
 use std::alloc::Global;
 use std::sync::ledger::Ledger;
@@ -63,22 +66,28 @@ fn session<S: Source, K: Sink, L: Ledger>(
 /// journal of the disk: an accepted command is in it before it is answered. `<journal> session` does so
 /// over books in memory that begin empty. `<journal> report <month>`, `<journal> trial <month>` and `<journal>
 /// custodial` write that text over the journal. `<journal> drill <loans> <number>` writes the summary of the generated
-/// year, which is made in memory. A last piece without a line feed is a line too. All lines that
+/// year, which is made in memory. `<journal> serve <port> <connections>` serves so many links, one after another,
+/// over the journal, each of which is handed back to the doors, and writes their summary; the doors listen at the
+/// port. A last piece without a line feed is a line too. All lines that
 /// a line feed ended in the bytes taken are answered before the source is read again.
-pub fn run<S: Source, K: Sink, D: Disk, L: Ledger>(
+pub fn run<S: Source, K: Sink, D: Disk, G: Doors, L: Ledger>(
     alloc: Global,
     words: &[&str],
     src: &mut S,
     snk: &mut K,
     disk: &mut D,
+    doors: &mut G,
     steps: &mut Steps<L>,
 ) -> Status
+    requires out { G.out doors.old ≡ 0 }
     // Words that the program does not know, and no others, are refused, and all objects are left as they were.
     ensures usage { (result ≡ Status.Usage) ↔ (task_in (map (λ w. w.now) words.now) ≡ None) }
     ensures untouched_source { result ≡ Status.Usage → src.new ≡ src.old }
     ensures untouched_sink { result ≡ Status.Usage → snk.new ≡ snk.old }
     ensures untouched_disk { result ≡ Status.Usage → disk.new ≡ disk.old }
     ensures untouched_steps { result ≡ Status.Usage → steps.new ≡ steps.old }
+    ensures untouched_doors { ((port most : ℕ) → task_in (map (λ w. w.now) words.now) ≢ Some (task.Serve port most))
+        → doors.new ≡ doors.old }
 
     // In memory: what is taken, accepted and written, for each status, and the steps of it.
     ensures session { task_in (map (λ w. w.now) words.now) ≡ Some task.Session
@@ -126,6 +135,19 @@ pub fn run<S: Source, K: Sink, D: Disk, L: Ledger>(
         × (steps.new ≤ steps.old + cost_of_works first_tally (year_works loans number))
         × (src.new ≡ src.old) × (disk.new ≡ disk.old) }
 
+    // Links are served over a journal, one after another, and handed back; and then their summary is written.
+    ensures serve { (port most : ℕ) → task_in (map (λ w. w.now) words.now) ≡ Some (task.Serve port most)
+        → (IsUnopened D.seen D.images D.moment D.images_since D.faults disk.old disk.new result
+        steps.old steps.new × (snk.new ≡ snk.old) × (doors.new ≡ doors.old))
+        ⊎ IsServedOver D.seen D.images D.moment D.images_since disk.old disk.new
+        (ServedLink G.Conn.left G.Conn.held G.Conn.Source.faults G.Conn.Sink.faults) result most steps.old steps.new
+        (G.coming doors.old) (G.coming doors.new) (G.backed doors.old) (G.backed doors.new)
+        (K.held snk.old) (K.held snk.new) }
+    ensures serve_source { (port most : ℕ) → task_in (map (λ w. w.now) words.now) ≡ Some (task.Serve port most)
+        → src.new ≡ src.old }
+    ensures serve_file { (port most : ℕ) → task_in (map (λ w. w.now) words.now) ≡ Some (task.Serve port most)
+        → HasFileFaults (D.seen disk.old) result }
+
     // A journal is made of a file of at most 9 bytes, and nothing else is touched.
     ensures init { task_in (map (λ w. w.now) words.now) ≡ Some task.Init
         → IsInit result (D.seen disk.old) (D.seen disk.new) (D.images disk.new) (D.faults disk.old) (D.faults disk.new)
@@ -141,9 +163,11 @@ pub fn run<S: Source, K: Sink, D: Disk, L: Ledger>(
     ensures read { result ≡ Status.ReadFault → HasRisen (S.faults src.old) (S.faults src.new) }
     ensures write { result ≡ Status.WriteFault → HasRisen (K.faults snk.old) (K.faults snk.new) }
     ensures disk { result ≡ Status.DiskFault → HasRisen (D.faults disk.old) (D.faults disk.new) }
+    ensures net { result ≡ Status.NetFault → HasRisen (G.faults doors.old) (G.faults doors.new) }
     ensures read_later { S.faults src.old ≤ S.faults src.new }
     ensures write_later { K.faults snk.old ≤ K.faults snk.new }
     ensures disk_later { D.faults disk.old ≤ D.faults disk.new }
+    ensures net_later { G.faults doors.old ≤ G.faults doors.new }
 
     // Where no count rises and the input is shorter than the limit, lines end in Done or for want of memory; over
     // a disk that is good for a history and a command also where the journal cannot be written anew.
@@ -177,6 +201,13 @@ pub fn run<S: Source, K: Sink, D: Disk, L: Ledger>(
     ensures complete_drill { (loans number : ℕ) → ¬ HasRisen (K.faults snk.old) (K.faults snk.new)
         → task_in (map (λ w. w.now) words.now) ≡ Some (task.Drill loans number)
         → (result ≡ Status.Done) ⊎ (result ≡ Status.OutOfMemory) }
+    ensures complete_serve { (port most : ℕ) (s : List ℕ) (h : List Accepted) (a : Accepted)
+        → D.seen disk.old ≡ Some s → IsHistory (h ++ a ∷ []) → Each (D.images disk.old) (IsGoodFound h a)
+        → ¬ HasRisen (K.faults snk.old) (K.faults snk.new) → ¬ HasRisen (D.faults disk.old) (D.faults disk.new)
+        → ¬ HasRisen (G.faults doors.old) (G.faults doors.new)
+        → task_in (map (λ w. w.now) words.now) ≡ Some (task.Serve port most)
+        → (result ≡ Status.Done) ⊎ ((result ≡ Status.OutOfMemory)
+        ⊎ ((bytes : ℕ) × (result ≡ Status.JournalFull bytes))) }
     ensures complete_init { ¬ HasRisen (D.faults disk.old) (D.faults disk.new)
         → task_in (map (λ w. w.now) words.now) ≡ Some task.Init
         → (result ≡ Status.Done) ⊎ (result ≡ Status.AlreadyThere) }
@@ -187,6 +218,7 @@ pub fn run<S: Source, K: Sink, D: Disk, L: Ledger>(
         Some(Task::Apply) => apply(alloc, src, snk, disk, steps),
         Some(Task::Show(query)) => show(alloc, &query, snk, disk, steps),
         Some(Task::Drill(loans, number)) => write_year(alloc, loans, number, snk, steps),
+        Some(Task::Serve(_, most)) => serve_over(alloc, most, snk, disk, doors, steps),
         Some(Task::Import) => import(alloc, src, snk, disk, steps),
         Some(Task::Session) => session(alloc, src, snk, steps),
     }

@@ -1,9 +1,10 @@
 //! The words of the command line.
 
-ghost use Rattle.std.specs.Prelude.{◌≡◌, IfSome, map};
+ghost use Rattle.std.specs.Prelude.{◌≡◌, ◌≤◌, IfSome, map};
 ghost use Rattle.svc_base.specs.Text.{IsReadMonth};
-ghost use Rattle.serv_top.specs.Words.{IsTask, month_in, number_in, task_about, task_in, task_of_word, task_with};
+ghost use Rattle.serv_top.specs.Words.{IsTask, month_in, number_in, port_of_task, served_at, task_about, task_in, task_of_word, task_with, year_of};
 
+use serv_links::MOST_LINKS;
 use svc_base::{Month, read_month, read_number};
 use svc_types::Query;
 
@@ -23,6 +24,8 @@ pub(crate) enum Task {
     Show(Query),
     /// Makes the generated year of so many loans in memory, whose draws begin with the number, and writes its summary.
     Drill(u32, u32),
+    /// Serves up to so many connections to a port, one after another, over the journal, and writes a summary.
+    Serve(u16, u32),
 }
 
 /// The most loans of a generated year.
@@ -30,6 +33,9 @@ const MOST_LOANS: u32 = 500;
 
 /// The last number that draws begin with.
 const LAST_NUMBER: u32 = 999_999;
+
+/// The last port.
+const LAST_PORT: u32 = 65_535;
 
 /// What a word asks for.
 fn task_of(word: &str) -> Option<Task>
@@ -81,34 +87,56 @@ fn task_of_month(word: &str, text: &str) -> Option<Task>
     None
 }
 
-/// The number from 0 to 999,999 that a text spells.
+/// The number up to this one that a text spells.
 #[tactic(auto, using(crate::proofs::WordLemmas::number_read, crate::proofs::WordLemmas::number_none, crate::proofs::WordLemmas::number_beyond))]
-fn number_of(text: &str) -> Option<u32>
-    ensures number { result ≡ number_in text.now }
+fn number_of(text: &str, most: u32) -> Option<u32>
+    ensures number { result ≡ number_in most text.now }
+    ensures few { IfSome result (λ number. number ≤ most) }
 {
     let number = read_number(text.as_bytes())?;
-    if number <= LAST_NUMBER {
-        Some(number)
+    if number <= most { Some(number) } else { None }
+}
+
+/// The generated year of so many loans, whose draws begin with the number.
+fn year(loans: &str, number: &str) -> Option<Task>
+    ensures task { result ≡ year_of (number_in 999999 loans.now) (number_in 999999 number.now) }
+    ensures well { IfSome result IsTask }
+{
+    let loans = number_of(loans, LAST_NUMBER)?;
+    let number = number_of(number, LAST_NUMBER)?;
+    if (1..=MOST_LOANS).contains(&loans) {
+        Some(Task::Drill(loans, number))
+    } else {
+        None
+    }
+}
+
+/// So many connections to the port.
+fn service(port: &str, links: &str) -> Option<Task>
+    ensures task { result ≡ served_at (number_in 65535 port.now) (number_in 1000000 links.now) }
+    ensures well { IfSome result IsTask }
+{
+    let port = number_of(port, LAST_PORT)?;
+    let links = number_of(links, MOST_LINKS)?;
+    if port >= 1 && links >= 1 {
+        Some(Task::Serve(port as u16, links))
     } else {
         None
     }
 }
 
 /// What a word asks for about two numbers.
-fn task_of_numbers(word: &str, loans: &str, number: &str) -> Option<Task>
-    ensures task { result ≡ task_with word.now (number_in loans.now) (number_in number.now) }
+fn task_of_numbers(word: &str, first: &str, second: &str) -> Option<Task>
+    ensures task { result ≡ task_with word.now first.now second.now }
     ensures well { IfSome result IsTask }
 {
-    if word != "drill" {
-        return None;
+    if word == "drill" {
+        return year(first, second);
     }
-    let loans = number_of(loans)?;
-    let number = number_of(number)?;
-    if (1..=MOST_LOANS).contains(&loans) {
-        Some(Task::Drill(loans, number))
-    } else {
-        None
+    if word == "serve" {
+        return service(first, second);
     }
+    None
 }
 
 /// What the words ask for, which begin with a journal's name.
@@ -129,12 +157,22 @@ pub(crate) fn read_words(words: &[&str]) -> Option<Task>
             }
             task_of_month(word, month)
         }
-        [journal, word, loans, number] => {
+        [journal, word, first, second] => {
             if journal.is_empty() {
                 return None;
             }
-            task_of_numbers(word, loans, number)
+            task_of_numbers(word, first, second)
         }
         _ => None,
+    }
+}
+
+/// The port that the words `<journal> serve <port> <connections>` name. Of other words it is 0.
+pub fn port_in(words: &[&str]) -> u16
+    ensures { result ≡ port_of_task (task_in (map (λ w. w.now) words.now)) }
+{
+    match read_words(words) {
+        Some(Task::Serve(port, _)) => port,
+        _ => 0,
     }
 }

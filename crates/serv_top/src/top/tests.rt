@@ -1,6 +1,7 @@
 mod files;
 mod hostile;
 mod journals;
+mod links;
 mod month;
 mod sharing;
 mod stops;
@@ -8,7 +9,7 @@ mod tables;
 
 ghost use Rattle.std.specs.Prelude.{◌≡◌, ◌<◌};
 
-use super::run;
+use crate::without_links::run;
 use crate::{INPUT_LIMIT, Status};
 use serv_disk::{MemDisk, MemSink, MemSource, Source};
 use sharing::{Telling, Waiting};

@@ -1,0 +1,186 @@
+-- Links that are served over a journal.
+use Rattle.std.proofs.Common.{◌≡◌, ◌⊎◌, ℕ, ◌-◌, ◌<◌, ◌≤◌, List, [], ◌∷◌, ◌++◌, length, refl, sym, ap, subst, ◌∙◌, inl, inr, ⊎_elim, arith, length-append}
+use Rattle.std.specs.Prelude.{Option, Some, None}
+use Rattle.std.specs.Io.KnownBytes.{Appends, Consumes}
+use Rattle.std.proofs.KnownBytes.{Appends-nil}
+use Rattle.svc_world.specs.World.{Accepted}
+use Rattle.svc_world.specs.Judging.{IsHistory}
+use Rattle.serv_disk.specs.Faults.{AppendsPart, HasRisen}
+use Rattle.serv_http.specs.declared.ask.Ask.{Ask}
+use Rattle.serv_engine.specs.Histories.{lengths_of, IsGoodFound}
+use Rattle.serv_engine.specs.Engines.{EngineState}
+use Rattle.serv_machine.specs.History.{History}
+use Rattle.serv_machine.specs.Engines.{history_of}
+use Rattle.serv_machine.specs.OnDisk.{OnDisk}
+use Rattle.serv_links.specs.declared.doors.DoorsEnd.{DoorsEnd}
+use Rattle.serv_links.specs.declared.doors.DoorsEnd.TheVariants as doors_end
+use Rattle.serv_links.specs.declared.link_end.LinkEnd.{LinkEnd}
+use Rattle.serv_links.specs.declared.link_end.LinkEnd.TheVariants as link_end
+use Rattle.serv_links.specs.declared.outcome.Outcome.{Outcome}
+use Rattle.serv_links.specs.declared.outcome.Outcome.TheVariants as outcome
+use Rattle.serv_links.specs.declared.summary.Summary.{Summary}
+use Rattle.serv_links.specs.Meanings.{Meaning, Asks, Faulty}
+use Rattle.serv_links.specs.Responses as links
+use Rattle.serv_links.specs.Outcomes.{IsAnswered, IsCutOff, IsOne, IsStopped, IsTriedAs, Writes}
+use Rattle.serv_links.specs.Links.{IsDiskEnd, IsServed, IsStarved, Serves, link_limit}
+use Rattle.serv_links.specs.Doors.{AreServed, HasServed, IsDoorsEnd, IsSummary, OneServed, ServedLink, ServesDoors, text_of_summary}
+use Rattle.serv_top.specs.declared.status.Status.{Status}
+use Rattle.serv_top.specs.declared.status.Status.TheVariants as status
+use Rattle.serv_top.specs.Machine.{Stand, stand}
+use Rattle.serv_top.specs.Journal.{IsUnopened, IsOpened, journal_limit}
+use Rattle.serv_top.specs.Served.{IsServedAs, IsServedOver, LinksEnd, ServesLinks, of_links}
+use Rattle.serv_top.proofs.Applied.{Completes, few_taken, run_over, store_of, store_request, unopened_ends}
+
+-- ---- where commands are kept stays the same
+
+store_meant : (h : History) (m : Meaning) → (links.history_after h m).store ≡ h.store
+store_meant h (Asks r ends) = store_request h r
+store_meant h (Faulty status ends allow) = refl
+
+store_meant_all : (h : History) (meant : List Meaning) → (links.after_all h meant).store ≡ h.store
+store_meant_all h [] = refl
+store_meant_all h (m ∷ meant) = store_meant_all (links.history_after h m) meant ∙ store_meant h m
+
+store_answered : (n : ℕ) (asks : List Ask) (s s' : links.Stand) (wrote : List ℕ) → IsAnswered n asks s s' wrote → s'.history.store ≡ s.history.store
+store_answered n asks s s' wrote is = ap store_of is.moved.0 ∙ store_meant_all s.history is.meant
+
+store_tried : (a : Ask) (s s' : links.Stand) → links.Stays s s' ⊎ IsTriedAs a s s' → s'.history.store ≡ s.history.store
+store_tried a s s' is =
+    ⊎_elim (λ same. ap store_of same.0)
+    (λ tried. ⊎_elim (λ same. ap store_of same) (λ moved. ap store_of moved ∙ store_meant s.history tried.meant) tried.near) is
+
+store_one : (o : Outcome) (a : Ask) (s s' : links.Stand) (pending : List Accepted) (wrote : List ℕ) → IsOne o a s s' pending wrote → s'.history.store ≡ s.history.store
+store_one outcome.Answered a s s' pending wrote is = ap store_of is.1.moved.0 ∙ store_meant s.history is.1.meant
+store_one outcome.Broken a s s' pending wrote is = ap store_of is.1.moved.0 ∙ store_meant s.history is.1.meant
+store_one outcome.Disk a s s' pending wrote is = ap store_of is.0.same
+store_one outcome.NoMemory a s s' pending wrote is = store_tried a s s' is.1
+
+store_stopped : (o : Outcome) (n : ℕ) (asks : List Ask) (s s' : links.Stand) (pending : List Accepted) (wrote : List ℕ) → IsStopped o n asks s s' pending wrote
+    → s'.history.store ≡ s.history.store
+store_stopped o n asks s s' pending wrote is =
+    store_one o is.ask is.mid s' pending is.part is.one ∙ store_answered n is.done s is.mid is.before is.answered
+
+store_cut_off : (o : Outcome) (n : ℕ) (bytes : List ℕ) (s s' : links.Stand) (pending : List Accepted) (wrote : List ℕ) → IsCutOff o n bytes s s' pending wrote
+    → s'.history.store ≡ s.history.store
+store_cut_off o n bytes s s' pending wrote is = store_stopped o n is.asks s s' pending wrote is.stopped
+
+store_starved : (n : ℕ) (taken added : List ℕ) (s s' : links.Stand) → IsStarved n taken added s s' → s'.history.store ≡ s.history.store
+store_starved n taken added s s' is = ap store_of is.stays.0 ∙ store_answered n is.asks s is.mid is.before is.answered
+
+store_served : (end : LinkEnd) (reads writes at_end : Type 0) (taken : List ℕ) (s s' : links.Stand) (pending : List Accepted) (added : List ℕ)
+    → IsServed end reads writes at_end taken s s' pending added → s'.history.store ≡ s.history.store
+store_served (link_end.Ended n) reads writes at_end taken s s' pending added (none, below, (left, all, over)) =
+    store_answered n all.asks s s' added all.answered
+store_served (link_end.Cut n) reads writes at_end taken s s' pending added (none, below, (left, all)) =
+    store_answered n all.asks s s' added all.answered
+store_served (link_end.Broken n) reads writes at_end taken s s' pending added (inl (risen, none, below, (left, all))) =
+    store_answered n all.asks s s' added all.answered
+store_served (link_end.Broken n) reads writes at_end taken s s' pending added (inr (risen, cut)) =
+    store_cut_off outcome.Broken n taken s s' pending added cut
+store_served (link_end.Disk n) reads writes at_end taken s s' pending added is = store_cut_off outcome.Disk n taken s s' pending added is
+store_served (link_end.NoMemory n) reads writes at_end taken s s' pending added (inl cut) = store_cut_off outcome.NoMemory n taken s s' pending added cut
+store_served (link_end.NoMemory n) reads writes at_end taken s s' pending added (inr (none, starved)) = store_starved n taken added s s' starved
+
+-- links came, and were served in their turn
+module _ {C : Type 0} (left held : C → Option (List ℕ)) (reads writes : C → ℕ) where
+  abbrev P : OneServed C
+  P = ServedLink left held reads writes
+
+  store_link : (end : LinkEnd) (x y : C) (s s' : links.Stand) (pending : List Accepted) → P end x y s s' pending → s'.history.store ≡ s.history.store
+  store_link end x y s s' pending is = store_served end _ _ _ is.serves.taken s s' pending is.added is.serves.says
+
+  store_links : (ends : List LinkEnd) (came back : List C) (s s' : links.Stand) (pending : List Accepted) → AreServed P ends came back s s' pending → s'.history.store ≡ s.history.store
+  store_links [] [] [] s s' pending is = ap (λ (z : links.Stand). z.history.store) is.0
+  store_links [] [] (y ∷ back) s s' pending is = absurd is
+  store_links [] (x ∷ came) back s s' pending is = absurd is
+  store_links (end ∷ ends) [] back s s' pending is = absurd is
+  store_links (end ∷ ends) (x ∷ came) [] s s' pending is = absurd is
+  store_links (end ∷ ends) (x ∷ came) (y ∷ back) s s' pending (t, (now, (later, first, rest, parts))) =
+      store_links ends came back t s' later rest ∙ store_link end x y s t now first
+
+  -- ---- what is written after them
+
+  module _ (status_ : Status) (most : ℕ) (coming coming' backed backed' : Option (List C)) (held0 held' : Option (List ℕ)) (s s' : Stand) where
+    -- over a machine: why no further link was served, and what is written then
+    pub ended : {D : Type 0} (images : D → List ℕ → Type 0) (moment : D → ℕ) (images_since : D → ℕ → List ℕ → Type 0) (old new : D) (end : DoorsEnd) (summary : Summary)
+        → ServesDoors images moment images_since old new P end summary most coming coming' backed backed' (of_links s) (of_links s')
+        → ((ends : List LinkEnd) → IsDoorsEnd end most coming' ends → IsSummary ends summary → (written : List ℕ) × Appends held0 held' written × IsServedAs status_ most coming' ends written)
+        → LinksEnd images moment images_since old new P status_ most coming coming' backed backed' held0 held' s s'
+    ended images moment images_since old new end summary all says =
+        let wrote = says all.ends all.ended all.counted in
+        record {
+          pending = all.pending;
+          served = record { ends = all.ends; served = all.has; written = wrote.0; wrote = wrote.1; says = wrote.2 };
+          disk = all.disk;
+        }
+
+    pub over_engine : {D : Type 0} (seen : D → Option (List ℕ)) (images : D → List ℕ → Type 0) (moment : D → ℕ) (images_since : D → ℕ → List ℕ → Type 0) (old mid new : D) (e e' : EngineState) (steps begun steps' : ℕ)
+        → s ≡ stand (history_of e) begun → s' ≡ stand (history_of e') steps'
+        → IsOpened seen images moment images_since old mid steps begun (e.journal.size - lengths_of e.history) e.history → e.journal.limit ≡ journal_limit
+        → LinksEnd images moment images_since mid new P status_ most coming coming' backed backed' held0 held' s s'
+        → IsServedOver seen images moment images_since old new P status_ most steps steps' coming coming' backed backed' held0 held'
+    over_engine {D} seen images moment images_since old mid new e e' steps begun steps' is is' opening limit end =
+        let all : LinksEnd images moment images_since mid new P status_ most coming coming' backed backed' held0 held' (stand (history_of e) begun) (stand (history_of e') steps') =
+        subst (λ z. LinksEnd images moment images_since mid new P status_ most coming coming' backed backed' held0 held' (stand (history_of e) begun) z) is'
+        (subst (λ z. LinksEnd images moment images_since mid new P status_ most coming coming' backed backed' held0 held' z s') is end) in
+        run_over (λ s s' pending. ServesLinks P status_ most coming coming' backed backed' held0 held' s s' pending) seen images moment images_since old mid new e e' steps begun steps' all.pending opening limit
+        (store_links all.served.ends all.served.served.came all.served.served.back (links.stand (history_of e) begun) (links.stand (history_of e') steps') all.pending all.served.served.served) all.served all.disk
+
+-- the summary was written, or a part of it, or no memory was there for it
+pub counts_written : {C : Type 0} (st : Status) (most : ℕ) (coming : Option (List C)) (held held' : Option (List ℕ)) (summary : Summary)
+    → (st ≡ status.Done) ⊎ ((st ≡ status.WriteFault) ⊎ (st ≡ status.OutOfMemory))
+    → (st ≡ status.Done → Appends held held' (text_of_summary summary)) → (st ≡ status.WriteFault → AppendsPart held held' (text_of_summary summary)) → (st ≡ status.OutOfMemory → held' ≡ held)
+    → (ends : List LinkEnd) → IsDoorsEnd doors_end.Done most coming ends → IsSummary ends summary → (written : List ℕ) × Appends held held' written × IsServedAs st most coming ends written
+counts_written {C} st most coming held held' summary which whole part none ends end counts =
+    ⊎_elim
+    (λ is. (text_of_summary summary, whole is, subst (λ z. IsServedAs z most coming ends (text_of_summary summary)) (sym is) (end, record { summary = summary; counts = counts; spelled = refl })))
+    (λ other. ⊎_elim
+    (λ is. let cut = part is in
+    (cut.part, cut.wrote, subst (λ z. IsServedAs z most coming ends cut.part) (sym is) (end, record { text = text_of_summary summary; whole = record { summary = summary; counts = counts; spelled = refl }; cut = cut.partial })))
+    (λ is. ([], subst (λ z. Appends held z []) (sym (none is)) (Appends-nil held), subst (λ z. IsServedAs z most coming ends []) (sym is) (end, refl)))
+    other)
+    which
+
+-- ---- completeness
+
+served_ends : {C : Type 0} (st : Status) (most : ℕ) (coming : Option (List C)) (ends : List LinkEnd) (written : List ℕ)
+    → (st ≡ status.WriteFault → ⊥) → (st ≡ status.DiskFault → ⊥) → (st ≡ status.NetFault → ⊥) → IsServedAs st most coming ends written → Completes st
+served_ends status.Done most coming ends written writes disks nets is = inl refl
+served_ends status.WriteFault most coming ends written writes disks nets is = absurd (writes refl)
+served_ends status.DiskFault most coming ends written writes disks nets is = absurd (disks refl)
+served_ends status.NetFault most coming ends written writes disks nets is = absurd (nets refl)
+served_ends status.OutOfMemory most coming ends written writes disks nets is = inr (inl refl)
+served_ends status.Usage most coming ends written writes disks nets is = absurd is
+served_ends status.ReadFault most coming ends written writes disks nets is = absurd is
+served_ends status.NotJournal most coming ends written writes disks nets is = absurd is
+served_ends status.AlreadyThere most coming ends written writes disks nets is = absurd is
+served_ends (status.Damaged place) most coming ends written writes disks nets is = absurd is
+served_ends (status.NoReport last) most coming ends written writes disks nets is = absurd is
+served_ends (status.TooMuch bytes) most coming ends written writes disks nets is = absurd is
+served_ends (status.JournalFull bytes) most coming ends written writes disks nets is = absurd is
+
+pub complete_served : {D C A B : Type 0} (seen : D → Option (List ℕ)) (images : D → List ℕ → Type 0) (moment : D → ℕ) (images_since : D → ℕ → List ℕ → Type 0) (faults : D → ℕ) (old new : D) (Q : OneServed C)
+    (st : Status) (most steps steps' : ℕ) (coming coming' backed backed' : Option (List C)) (held held' : Option (List ℕ)) (s : List ℕ) (h : List Accepted) (a : Accepted)
+    → seen old ≡ Some s → IsHistory (h ++ a ∷ []) → IsGoodFound h a s
+    → (st ≡ status.WriteFault → ⊥) → (st ≡ status.DiskFault → ⊥) → (st ≡ status.NetFault → ⊥) → (HasRisen (faults old) (faults new) → ⊥)
+    → (IsUnopened seen images moment images_since faults old new st steps steps' × A × B) ⊎ IsServedOver seen images moment images_since old new Q st most steps steps' coming coming' backed backed' held held'
+    → Completes st
+complete_served seen images moment images_since faults old new Q st most steps steps' coming coming' backed backed' held held' s h a told is_history good writes disks nets calm which =
+    ⊎_elim
+    (λ closed. unopened_ends st s h a (faults old) (faults new) (seen old) told is_history good closed.0.cause calm)
+    (λ over. served_ends st most coming' over.ended.ends over.ended.written writes disks nets over.ended.says)
+    which
+
+-- ---- one link
+
+-- no count has risen, and the limit was not reached
+pub complete_link : (end : LinkEnd) (reads writes : Type 0) (left left' : Option (List ℕ)) (s s' : links.Stand) (pending : List Accepted) (added input : List ℕ)
+    → left ≡ Some input → length input < link_limit → (reads → ⊥) → (writes → ⊥) → (IsDiskEnd end → ⊥) → Serves end reads writes left left' s s' pending added
+    → ((n : ℕ) × (end ≡ link_end.Ended n)) ⊎ ((n : ℕ) × (end ≡ link_end.NoMemory n))
+complete_link (link_end.Ended n) reads writes left left' s s' pending added input is short read write disk serves = inl (n, refl)
+complete_link (link_end.NoMemory n) reads writes left left' s s' pending added input is short read write disk serves = inr (n, refl)
+complete_link (link_end.Disk n) reads writes left left' s s' pending added input is short read write disk serves = absurd (disk tt)
+complete_link (link_end.Cut n) reads writes left left' s s' pending added input is short read write disk serves =
+    absurd (omega (arith, few_taken left left' input serves.taken is serves.took, short, serves.says.1))
+complete_link (link_end.Broken n) reads writes left left' s s' pending added input is short read write disk serves =
+    absurd (⊎_elim (λ failed. read failed.0) (λ failed. write failed.0) serves.says)

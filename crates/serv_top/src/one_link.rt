@@ -1,0 +1,53 @@
+//! A link that is served over the engine.
+
+ghost use Rattle.std.specs.Prelude.{◌≡◌, ◌≤◌, ◌<◌, ◌⊎◌, ◌×◌, ℕ, List, Some, length, true, false};
+ghost use Rattle.serv_disk.specs.Faults.{HasRisen};
+ghost use Rattle.serv_engine.specs.Engines.{IsDurable};
+ghost use Rattle.serv_machine.specs.Engines.{history_of};
+ghost use Rattle.serv_links.specs.Responses.{stand};
+ghost use Rattle.serv_links.specs.Outcomes.{Writes};
+ghost use Rattle.serv_links.specs.Links.{IsDiskEnd, Serves, link_limit, number_in};
+
+use serv_disk::{Disk, Link};
+use serv_engine::Engine;
+use serv_links::{LinkEnd, serve_link};
+use std::alloc::Global;
+use std::sync::ledger::Ledger;
+use svc_base::Steps;
+use svc_checkpoint::Checked;
+
+/// Serves a link to its end over the engine: each request is acted on in its order, once the response before it is
+/// written, and what is said is that of the bytes, whatever the pieces in which they come.
+pub fn serve_one<D: Disk, C: Link, L: Ledger>(
+    alloc: Global,
+    engine: &mut Engine<Checked>,
+    disk: &mut D,
+    link: &mut C,
+    steps: &mut Steps<L>,
+) -> LinkEnd
+    requires unspent { engine.old.journal.spent ≡ false }
+    requires durable { IsDurable (D.images disk.old) engine.old }
+    // What was taken, acted on and written, with what a crash leaves on the disk now and at each moment.
+    ensures served { Writes D.images D.moment D.images_since disk.old disk.new
+        (Serves result (HasRisen (C.Source.faults link.old) (C.Source.faults link.new))
+        (HasRisen (C.Sink.faults link.old) (C.Sink.faults link.new)) (C.left link.old) (C.left link.new)
+        (stand (history_of engine.old) steps.old) (stand (history_of engine.new) steps.new))
+        engine.old.history engine.new.history (C.held link.old) (C.held link.new) }
+    ensures few { number_in result ≤ link_limit }
+    ensures disk { IsDiskEnd result → HasRisen (D.faults disk.old) (D.faults disk.new) }
+    // But for a fault of the disk the engine can be used on.
+    ensures unspent { ¬ (IsDiskEnd result) → engine.new.journal.spent ≡ false }
+    ensures durable { ¬ (IsDiskEnd result) → IsDurable (D.images disk.new) engine.new }
+    ensures disk_later { D.faults disk.old ≤ D.faults disk.new }
+    ensures read_later { C.Source.faults link.old ≤ C.Source.faults link.new }
+    ensures write_later { C.Sink.faults link.old ≤ C.Sink.faults link.new }
+    // Where no count rises and the link has fewer bytes than the limit, its stream is answered to its end, or
+    // memory is short.
+    ensures complete { (input : List ℕ) → C.left link.old ≡ Some input → length input < link_limit
+        → ¬ HasRisen (C.Source.faults link.old) (C.Source.faults link.new)
+        → ¬ HasRisen (C.Sink.faults link.old) (C.Sink.faults link.new)
+        → ¬ HasRisen (D.faults disk.old) (D.faults disk.new)
+        → ((n : ℕ) × (result ≡ LinkEnd.Ended n)) ⊎ ((n : ℕ) × (result ≡ LinkEnd.NoMemory n)) }
+{
+    serve_link(alloc, engine, disk, link, steps)
+}

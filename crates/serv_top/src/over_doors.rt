@@ -1,0 +1,106 @@
+//! Links that are served over a journal.
+
+ghost use Rattle.std.specs.Prelude.{◌≡◌, ◌≤◌, ◌⊎◌};
+ghost use Rattle.std.specs.Io.KnownBytes.{Appends};
+ghost use Rattle.serv_disk.specs.Faults.{AppendsPart, HasRisen};
+ghost use Rattle.serv_links.specs.Doors.{ServedLink, text_of_summary};
+ghost use Rattle.serv_top.specs.Journal.{HasFileFaults, IsUnopened};
+ghost use Rattle.serv_top.specs.Machine.{stand};
+ghost use Rattle.serv_top.specs.Served.{IsServedOver, LinksEnd};
+
+use crate::over_journal::{JOURNAL_LIMIT, unopened};
+use crate::status::Status;
+use serv_disk::{Disk, Doors, Sink, write_whole};
+use serv_engine::Engine;
+use serv_links::{DoorsEnd, MOST_LINKS, Summary, serve_doors, write_summary};
+use serv_machine::Machine;
+use std::alloc::Global;
+use std::sync::ledger::Ledger;
+use svc_base::Steps;
+use svc_checkpoint::Checked;
+
+/// Opens the journal of the disk, serves up to so many links over it, one after another, as long as they come, and
+/// writes their summary in one go.
+pub(crate) fn serve_over<K: Sink, D: Disk, G: Doors, L: Ledger>(
+    alloc: Global,
+    most: u32,
+    snk: &mut K,
+    disk: &mut D,
+    doors: &mut G,
+    steps: &mut Steps<L>,
+) -> Status
+    requires most { most ≤ MOST_LINKS }
+    requires out { G.out doors.old ≡ 0 }
+    ensures served { (IsUnopened D.seen D.images D.moment D.images_since D.faults disk.old disk.new result
+        steps.old steps.new × (snk.new ≡ snk.old) × (doors.new ≡ doors.old))
+        ⊎ IsServedOver D.seen D.images D.moment D.images_since disk.old disk.new
+        (ServedLink G.Conn.left G.Conn.held G.Conn.Source.faults G.Conn.Sink.faults) result most steps.old steps.new
+        (G.coming doors.old) (G.coming doors.new) (G.backed doors.old) (G.backed doors.new)
+        (K.held snk.old) (K.held snk.new) }
+    ensures file { HasFileFaults (D.seen disk.old) result }
+    ensures write { result ≡ Status.WriteFault → HasRisen (K.faults snk.old) (K.faults snk.new) }
+    ensures disk { result ≡ Status.DiskFault → HasRisen (D.faults disk.old) (D.faults disk.new) }
+    ensures net { result ≡ Status.NetFault → HasRisen (G.faults doors.old) (G.faults doors.new) }
+    ensures write_later { K.faults snk.old ≤ K.faults snk.new }
+    ensures disk_later { D.faults disk.old ≤ D.faults disk.new }
+    ensures net_later { G.faults doors.old ≤ G.faults doors.new }
+    ensures out { G.out doors.new ≡ 0 }
+{
+    match Engine::<Checked>::open(alloc, disk, JOURNAL_LIMIT, steps) {
+        Ok(mut engine) => serve_by(alloc, &mut engine, most, snk, disk, doors, steps),
+        Err(fault) => unopened(fault),
+    }
+}
+
+/// Serves links by the machine, and writes their summary.
+fn serve_by<D: Disk, M: Machine<D>, K: Sink, G: Doors, L: Ledger>(
+    alloc: Global,
+    machine: &mut M,
+    most: u32,
+    snk: &mut K,
+    disk: &mut D,
+    doors: &mut G,
+    steps: &mut Steps<L>,
+) -> Status
+    requires most { most ≤ MOST_LINKS }
+    requires out { G.out doors.old ≡ 0 }
+    requires ready { M.ready machine.old disk.old }
+    ensures ends { LinksEnd D.images D.moment D.images_since disk.old disk.new
+        (ServedLink G.Conn.left G.Conn.held G.Conn.Source.faults G.Conn.Sink.faults) result most
+        (G.coming doors.old) (G.coming doors.new) (G.backed doors.old) (G.backed doors.new)
+        (K.held snk.old) (K.held snk.new)
+        (stand (M.history machine.old) steps.old) (stand (M.history machine.new) steps.new) }
+    ensures write { result ≡ Status.WriteFault → HasRisen (K.faults snk.old) (K.faults snk.new) }
+    ensures disk { result ≡ Status.DiskFault → HasRisen (D.faults disk.old) (D.faults disk.new) }
+    ensures net { result ≡ Status.NetFault → HasRisen (G.faults doors.old) (G.faults doors.new) }
+    ensures write_later { K.faults snk.old ≤ K.faults snk.new }
+    ensures disk_later { D.faults disk.old ≤ D.faults disk.new }
+    ensures net_later { G.faults doors.old ≤ G.faults doors.new }
+    ensures out { G.out doors.new ≡ 0 }
+{
+    let service = serve_doors(alloc, machine, disk, doors, most, steps);
+    match service.end {
+        DoorsEnd::Done => write_counts(alloc, &service.summary, snk),
+        DoorsEnd::DiskFault => Status::DiskFault,
+        DoorsEnd::NetFault => Status::NetFault,
+    }
+}
+
+/// Writes the summary.
+fn write_counts<K: Sink>(alloc: Global, summary: &Summary, snk: &mut K) -> Status
+    ensures status { (result ≡ Status.Done) ⊎ ((result ≡ Status.WriteFault) ⊎ (result ≡ Status.OutOfMemory)) }
+    ensures whole { result ≡ Status.Done → Appends (K.held snk.old) (K.held snk.new) (text_of_summary summary.now) }
+    ensures part { result ≡ Status.WriteFault
+        → AppendsPart (K.held snk.old) (K.held snk.new) (text_of_summary summary.now) }
+    ensures idle { result ≡ Status.OutOfMemory → snk.new ≡ snk.old }
+    ensures write { result ≡ Status.WriteFault → HasRisen (K.faults snk.old) (K.faults snk.new) }
+    ensures write_later { K.faults snk.old ≤ K.faults snk.new }
+{
+    match write_summary(alloc, summary) {
+        Ok(text) => match write_whole(snk, &text) {
+            Ok(()) => Status::Done,
+            Err(_) => Status::WriteFault,
+        },
+        Err(_) => Status::OutOfMemory,
+    }
+}
