@@ -2,6 +2,7 @@
 
 mod hostile;
 mod links;
+mod month;
 
 ghost use Rattle.std.specs.Prelude.{◌≡◌, ◌<◌};
 

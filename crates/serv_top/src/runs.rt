@@ -343,6 +343,17 @@ fn check_years(rt: &impl Abort, alloc: Global, years: &[Year]) -> Result<(), Fai
     take_years::<Brand>(rt, alloc, Blank::new(1), years)
 }
 
+/// A year of forty loans.
+const FORTY_LOANS: Year = Year {
+    loans: "40",
+    number: "7",
+    status: Status::Done,
+    output: b"drill loans 40 number 7 commands 554 repeats 554
+custodial T 0.00 P 23772.51 suspense 0.00 escrow 0.00 escrow-advance 0.00 held 23772.51 pi-advance 29899.27
+remitted 469177.04 late 15649.56
+",
+};
+
 #[test]
 fn a_generated_year_is_summed_up(rt: HostRuntime) -> Result<(), Fail> {
     let years = [
@@ -370,6 +381,8 @@ custodial T 0.00 P 1157.77 suspense 0.00 escrow 0.00 escrow-advance 0.00 held 11
 remitted 9260.64 late 659.56
 ",
         },
+        FORTY_LOANS,
+        FORTY_LOANS,
     ];
     check_years(&rt, rt.alloc(), &years)
 }

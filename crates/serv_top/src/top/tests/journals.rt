@@ -2,11 +2,13 @@
 
 ghost use Rattle.std.specs.Prelude.{◌≡◌, ◌<◌};
 
+use super::stops::EACH_TORN;
 use super::{APPLY, Case, Given, LINE, NEW_JOURNAL, SESSION, check_cases, run, run_given};
 use crate::Status;
-use serv_disk::{Disk, FileDisk, MemDisk, MemSink, MemSource, Torn};
+use serv_disk::{Disk, FileDisk, MemDisk, MemSink, MemSource};
 use std::alloc::{AllocError, Global};
 use std::marker::Brand;
+use std::process::Abort;
 use std::sync::ledger::{Blank, Ledger};
 use std::test::Fail;
 use std::{env, fs, process};
@@ -54,19 +56,31 @@ fn a_journal_is_made_of_nine_bytes_at_most(rt: HostRuntime) -> Result<(), Fail> 
     Ok(())
 }
 
-#[test]
-fn each_cut_of_a_journal_has_its_status(rt: HostRuntime) -> Result<(), Fail> {
-    for bytes in 0..34 {
-        let journal = &ONE_LINE[..bytes];
+/// Each part of a journal of one line that is not all of it is refused, and left as it was.
+fn check_cuts(rt: &(impl Abort + AllocGlobal), whole: &[u8]) -> Result<(), Fail> {
+    for bytes in 0..whole.len() {
+        let journal = &whole[..bytes];
         let end = run_given(rt.alloc(), &Given { journal, ..APPLY })?;
         let status = match bytes {
             0..=7 => Status::NotJournal,
-            8..=31 => Status::Damaged(8),
-            32 => Status::Damaged(32),
-            _ => Status::Done,
+            _ if bytes + 1 == whole.len() => Status::Damaged(bytes as u64),
+            _ => Status::Damaged(8),
         };
-        assert_eq!(rt; end.status, status, "{bytes} bytes");
-        assert_eq!(rt; end.journal.as_slice(), journal, "{bytes} bytes");
+        assert_eq!(rt; end.status, status, "{bytes} bytes of {}", whole.len());
+        assert_eq!(rt;
+            end.journal.as_slice(),
+            journal,
+            "{bytes} bytes of {}",
+            whole.len()
+        );
+    }
+    Ok(())
+}
+
+#[test]
+fn each_cut_of_a_journal_has_its_status(rt: HostRuntime) -> Result<(), Fail> {
+    for whole in [ONE_LINE, OLD_LINE] {
+        check_cuts(&rt, whole)?;
     }
     Ok(())
 }
@@ -182,12 +196,7 @@ fn run_word<D: Disk>(
 #[test]
 fn a_stop_while_a_journal_is_made_is_made_good(rt: HostRuntime) -> Result<(), Fail> {
     let alloc = rt.alloc();
-    for (torn, longer) in [
-        (Torn::Old, false),
-        (Torn::New, true),
-        (Torn::Zero, true),
-        (Torn::Ones, true),
-    ] {
+    for (torn, longer) in EACH_TORN {
         for calls in 0..3 {
             let mut disk = MemDisk::new(Vec::new(alloc), Vec::new(alloc))?;
             disk.stop_after(calls);

@@ -102,7 +102,8 @@ fn stopped_after(
     Ok(refused)
 }
 
-const EACH_TORN: [(Torn, bool); 8] = [
+/// What a crash leaves, and whether the greater length stays.
+pub(super) const EACH_TORN: [(Torn, bool); 8] = [
     (Torn::Old, false),
     (Torn::Old, true),
     (Torn::New, false),
