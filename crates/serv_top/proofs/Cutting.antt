@@ -102,7 +102,7 @@ pub history_after_all-push : (h : History) (saids : List Said) (said : Said) →
 history_after_all-push h [] said = refl
 history_after_all-push h (first ∷ saids) said = history_after_all-push (history_after h first) saids said
 
-bound_of_all-push : (h : History) (saids : List Said) (said : Said) → bound_of_all h (saids ++ said ∷ []) ≡ bound_of_all h saids + bound_of (history_after_all h saids) said
+pub bound_of_all-push : (h : History) (saids : List Said) (said : Said) → bound_of_all h (saids ++ said ∷ []) ≡ bound_of_all h saids + bound_of (history_after_all h saids) said
 bound_of_all-push h [] said = omega arith
 bound_of_all-push h (first ∷ saids) said =
     let rest = bound_of_all-push (history_after h first) saids said in

@@ -3,6 +3,7 @@ pub mod Pieces
 pub mod Cutting
 pub mod LineLemmas
 pub mod CutLemmas
+pub mod WholeLemmas
 pub mod ServedLemmas
 pub mod Running
 pub mod Applied

@@ -1,6 +1,7 @@
 pub mod Lines
 pub mod Machine
 pub mod Replies
+pub mod Whole
 pub mod Words
 pub mod Status
 pub mod Outcome

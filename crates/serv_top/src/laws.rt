@@ -2,10 +2,12 @@
 
 ghost use Rattle.std.specs.Prelude.{◌≡◌, ℕ, List, Some};
 ghost use Rattle.svc_base.specs.Text.{IsReadMonth, text_of_month};
+ghost use Rattle.svc_world.specs.World.{Accepted};
 ghost use Rattle.serv_top.specs.Imported.{FileSays};
 ghost use Rattle.serv_top.specs.Words.{month_in};
 ghost use Rattle.serv_top.specs.Machine.{Said, Says, Stand};
-ghost use Rattle.serv_top.specs.Replies.{Answers, IsCutAt, IsCutIn};
+ghost use Rattle.serv_top.specs.Replies.{Answers, IsBegun, IsCutAt, IsCutIn, IsHeldUp};
+ghost use Rattle.serv_top.specs.Whole.{IsAnswered, IsCutOff, IsStopped};
 
 /// A line says one thing. So lines have one text of replies over a history, and one history after them;
 /// and a front part of their replies is some whole ones and a part of the next one. It does nothing.
@@ -15,6 +17,17 @@ pub fn lines_have_one_answer()
         → Answers lines s a x → Answers lines s b y → (x ≡ y) × (a.history ≡ b.history) }
     ensures cut { (waiting : ℕ) (lines : List (List ℕ)) (s t : Stand) (written : List ℕ)
         → IsCutIn waiting lines s t written → IsCutAt lines s.history written }
+{}
+
+/// Over a journal no reply waits: each is written whole before the next line is acted on. So where a write, the
+/// disk or memory fails, all replies but the last are whole. It does nothing.
+pub fn replies_are_whole()
+    ensures cut { (lines : List (List ℕ)) (s t : Stand) (written : List ℕ)
+        → IsCutIn 0 lines s t written → IsCutOff lines s t written }
+    ensures held { (lines : List (List ℕ)) (s t : Stand) (pending : List Accepted) (written : List ℕ)
+        → IsHeldUp 0 lines s t pending written → IsStopped lines s t pending written }
+    ensures begun { (lines : List (List ℕ)) (s t : Stand) (written : List ℕ)
+        → IsBegun 0 lines s t written → IsAnswered lines s t written }
 {}
 
 /// A word is read as a month exactly where it is that month's text. It does nothing.

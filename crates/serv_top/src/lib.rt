@@ -15,7 +15,7 @@ mod stream;
 mod top;
 mod words;
 
-pub use laws::{files_say_one_thing, lines_have_one_answer, months_are_read};
+pub use laws::{files_say_one_thing, lines_have_one_answer, months_are_read, replies_are_whole};
 pub use one_link::serve_one;
 pub use status::Status;
 pub use stream::INPUT_LIMIT;
