@@ -91,6 +91,7 @@ def replay_steps(folder, count, built):
     servicer = reckon.Servicer()
     with tempfile.TemporaryDirectory() as room:
         for words, given, text in steps_of(folder):
+            servicer = reckon.Servicer() if words[0] == "session" else servicer
             given = read(folder, given) if given else b""
             wanted = read(folder, text) if text else b""
             if built:
@@ -144,16 +145,27 @@ def fits(shown, got):
     return any(fits(shown[at + 1:], got[i:]) for i in range(at, len(got) + 1))
 
 
+def lay_out(room, built):
+    """A folder with what the documents' commands name. Its `rt` runs the built program: proofs are rt's own work."""
+    os.makedirs(f"{room}/bin")
+    os.makedirs(f"{room}/here/crates/serv_cli/out")
+    shutil.copytree(HERE, f"{room}/here/examples", ignore=shutil.ignore_patterns("__pycache__"))
+    for place in ("bin/jaqhendulu", "here/crates/serv_cli/out/serv_cli"):
+        os.symlink(built, f"{room}/{place}")
+    with open(f"{room}/bin/rt", "w", encoding="utf-8") as file:
+        file.write('#!/bin/sh\nshift 2\nexec jaqhendulu "$@"\n')
+    os.chmod(f"{room}/bin/rt", 0o755)
+
+
 def replay_document(name, count, built):
     """Runs the commands of a document in one shell, in a folder of its own."""
     with open(os.path.join(TOP, name), encoding="utf-8") as file:
         blocks = list(blocks_of(file.read()))
     script = "".join(f"{command}\nprintf '%s\\n' \"{MARK}{at}\"\n" for at, command, _ in blocks)
     with tempfile.TemporaryDirectory() as room:
-        os.makedirs(f"{room}/bin")
-        os.symlink(built, f"{room}/bin/jaqhendulu")
-        shutil.copytree(HERE, f"{room}/here/examples", ignore=shutil.ignore_patterns("__pycache__"))
-        env = {"PATH": f"{room}/bin:{os.environ['PATH']}", "HOME": room, "LC_ALL": "C.UTF-8"}
+        lay_out(room, built)
+        paths = f"{room}/bin:{room}/.local/bin:{os.environ['PATH']}"
+        env = {"PATH": paths, "HOME": room, "LC_ALL": "C.UTF-8"}
         ran = subprocess.run(["bash", "-c", script], cwd=f"{room}/here", env=env, stdin=subprocess.DEVNULL,
                              stdout=subprocess.PIPE, stderr=subprocess.DEVNULL)
     pieces = re.split(f"{MARK}\\d+\n", ran.stdout.decode(errors="replace"))
