@@ -3,6 +3,7 @@
 
     reckon.py < lines            answers request lines as `session` does
     reckon.py JOURNAL < queries  reads a journal's file and answers queries over its commands
+    reckon.py --lines JOURNAL    writes the number and the line of each command of a journal's file
 
 It keeps nothing but the accepted commands and folds every loan anew for each answer, so it is slow; it is a
 check of a small servicer's books that shares no code with the program. Python's standard library alone.
@@ -784,10 +785,15 @@ def lines_of_journal(data):
 
 def main():
     servicer = Servicer()
+    lines = []
     if len(sys.argv) > 1:
-        with open(sys.argv[1], "rb") as file:
-            for line in lines_of_journal(file.read()):
-                servicer.answer(line.decode("latin-1"))
+        with open(sys.argv[-1], "rb") as file:
+            lines = [it.decode("latin-1") for it in lines_of_journal(file.read())]
+    if "--lines" in sys.argv[1:]:
+        print(*(f"{number} {line}" for number, line in enumerate(lines, 1)), sep="\n")
+        return
+    for line in lines:
+        servicer.answer(line)
     pieces = sys.stdin.buffer.read().decode("latin-1").split("\n")
     for line in pieces if pieces[-1] else pieces[:-1]:
         sys.stdout.write(servicer.answer(line))
