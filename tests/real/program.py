@@ -10,6 +10,7 @@ import csv
 import io
 import os
 import random
+import re
 import resource
 import shutil
 import signal
@@ -452,6 +453,18 @@ def drilled(room):
     for number in (0, 7):
         same((0, histories.drill_text(3, number), b""), run("j", "drill", "3", str(number), cwd=room), number)
     same([], os.listdir(room), "files")
+
+
+@case("documents: each file that the walk of one payment names is there")
+def walked(room):
+    text = read(TOP, "docs", "ARCHITECTURE.md").decode().split("## One payment")[1]
+    for line in text.splitlines():
+        folder = ""
+        for name in re.findall(r"`([a-z_]+(?:/src)?(?:/[a-z_]+)?(?:\.rt|/src))`", line.split("|")[-2] if "|" in line else ""):
+            folder = os.path.dirname(name) if name.endswith(".rt") and "/" in name else folder
+            path = name if "/" in name else f"{folder}/{name}"
+            if not os.path.exists(os.path.join(TOP, "crates", path)):
+                raise AssertionError(path)
 
 
 if __name__ == "__main__":
