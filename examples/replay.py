@@ -9,16 +9,20 @@ document. Standard library alone. Prints a line a step and `N passed, M failed` 
 """
 import csv
 import io
+import json
 import os
 import re
 import shutil
+import socket
 import subprocess
 import sys
 import tempfile
+import time
 
 HERE = os.path.dirname(os.path.abspath(__file__))
 TOP = os.path.dirname(HERE)
 sys.path[:0] = [HERE, os.path.join(TOP, "tests")]
+import bodies  # noqa: E402
 import program  # noqa: E402
 import reckon  # noqa: E402
 
@@ -116,6 +120,80 @@ def check_journal(folder, count, journal):
         count.compare(f"{folder}: reckon.py's custodial line", read(folder, text), servicer.ask_custodial().encode())
 
 
+def free_port():
+    """A port at which nobody listens now."""
+    with socket.socket() as it:
+        it.bind(("127.0.0.1", 0))
+        return it.getsockname()[1]
+
+
+def connect(port):
+    """A connection to the program, once it listens."""
+    for _ in range(500):
+        try:
+            return socket.create_connection(("127.0.0.1", port), timeout=60)
+        except ConnectionRefusedError:
+            time.sleep(0.01)
+    raise SystemExit("nobody listens")
+
+
+def requests_of(folder):
+    """Method, target, body and the response's file of each line of a file `requests`."""
+    for line in read(folder, "requests").decode().splitlines():
+        words, _, text = line.partition(">")
+        words, _, given = words.partition("<")
+        method, target = words.split()
+        yield method, target, read(folder, given.strip()) if given else b"", text.strip()
+
+
+def line_of_request(method, target, body):
+    """The request line that says what an HTTP request of the examples says; None where it has no route."""
+    if method == "POST":
+        members = json.loads(body)
+        word = members["do"]
+        return " ".join(str(members[it]) for it in ["key", "do"] + bodies.FIELDS[word].split() if it in members)
+    for word, path in bodies.PATHS.items():
+        found = re.fullmatch("/v1/" + path.replace("{}", "([^/]+)"), target)
+        if found:
+            return " ".join(["?", word, *found.groups()])
+    return None
+
+
+def reckoned_response(servicer, method, target, body):
+    line = line_of_request(method, target, body)
+    if line is None:
+        return bodies.response_of(404, b"")
+    return bodies.response_of(*bodies.reply_of(servicer.answer(line)))
+
+
+def replay_requests(folder, count, built):
+    """Goes on from the quarter's books by HTTP, over one connection."""
+    servicer, answers = reckon.Servicer(), []
+    with tempfile.TemporaryDirectory() as room:
+        for words, given, _ in steps_of("quarter"):
+            given = read("quarter", given) if given else b""
+            reckoned(servicer, words, given)
+            if built:
+                subprocess.run([built, f"{room}/books", *words], input=given, capture_output=True, check=True)
+        if built:
+            port = free_port()
+            it = subprocess.Popen([built, f"{room}/books", "serve", str(port), "1"], stdout=subprocess.PIPE)
+            link = connect(port)
+        for method, target, body, text in requests_of(folder):
+            wanted = read(folder, text)
+            if built:
+                link.sendall(f"{method} {target} HTTP/1.1\r\nHost: a\r\nContent-Length: {len(body)}\r\n\r\n".encode() + body)
+                got = b""
+                while len(got) < len(wanted) and wanted.startswith(got):
+                    got += link.recv(65536) or b"(end)"
+            else:
+                got = reckoned_response(servicer, method, target, body)
+            count.compare(f"{folder}: {method} {target} {text}", wanted, got)
+        if built:
+            link.close()
+            count.compare(f"{folder}: summary", read(folder, "summary.txt"), it.communicate(timeout=60)[0])
+
+
 def blocks_of(text):
     """The commands of a document, each with its line's number and what is shown below it."""
     for block in re.finditer(r"^```console\n(.*?)^```$", text, re.S | re.M):
@@ -183,6 +261,8 @@ def main():
     for folder in sorted(os.listdir(HERE)):
         if os.path.isfile(os.path.join(HERE, folder, "steps")):
             replay_steps(folder, count, built)
+    if os.path.isfile(os.path.join(HERE, "http", "requests")):
+        replay_requests("http", count, built)
     if built:
         for name in DOCUMENTS:
             if os.path.isfile(os.path.join(TOP, name)):
