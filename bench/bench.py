@@ -9,6 +9,7 @@ Times are of whole processes, start and end included, where nothing else is said
 set of a run. Standard library alone; `JAQHENDULU` names another program than the one that `rt` built.
 """
 import os
+import socket
 import statistics
 import subprocess
 import sys
@@ -16,9 +17,12 @@ import tempfile
 import time
 
 HERE = os.path.dirname(os.path.abspath(__file__))
-sys.path[:0] = [HERE, os.path.join(os.path.dirname(HERE), "tests")]
+TOP = os.path.dirname(HERE)
+sys.path[:0] = [HERE, os.path.join(TOP, "tests"), os.path.join(TOP, "examples")]
+import bodies  # noqa: E402
 import generate  # noqa: E402
 import program  # noqa: E402
+import replay  # noqa: E402
 
 SPLIT = """
 import sys, time
@@ -210,8 +214,44 @@ def drill_row(room):
                 max(it[1] for it in runs))]
 
 
+def served(room, turn, lines):
+    """Seconds that `serve` takes for commands over one connection, each sent once the one before it is answered."""
+    with open(f"{room}/served.{turn}", "wb") as file:
+        file.write(b"MSRVJ002\0")
+    port = replay.free_port()
+    it = subprocess.Popen([program.find(), f"{room}/served.{turn}", "serve", str(port), "1"], stdout=subprocess.DEVNULL)
+    link = replay.connect(port)
+    link.setsockopt(socket.IPPROTO_TCP, socket.TCP_NODELAY, 1)
+    requests = [b"POST /v1/commands HTTP/1.1\r\nContent-Length: %d\r\n\r\n%s" % (len(body), body)
+                for body in (bodies.body_of(line) for line in lines)]
+    began = time.perf_counter()
+    for request in requests:
+        link.sendall(request)
+        if not link.recv(4096).startswith(b"HTTP/1.1 200 "):
+            sys.exit("serve refuses a command")
+    took = time.perf_counter() - began
+    link.close()
+    _, _, used = os.wait4(it.pid, 0)
+    it.returncode = 0
+    return took, used.ru_maxrss / 1024
+
+
+def serve_row(room):
+    count = sized(3000)
+    lines = [it for _, it in zip(range(count), generate.year(sized(500), 12, 1))]
+    write_lines(f"{room}/lines", lines)
+    pairs, memory = [], 0
+    for turn in range(rounds()):
+        with open(f"{room}/books.{turn}", "wb") as file:
+            file.write(b"MSRVJ002\0")
+        took, used = served(room, turn, lines)
+        pairs.append((took, timed([f"{room}/books.{turn}", "apply"], f"{room}/lines", f"{room}/replies")[0]))
+        memory = max(memory, used)
+    return [Row(f"`serve` on one connection, {count:,} commands beside `apply`", "s", pairs, memory)]
+
+
 WORKLOADS = {"session-500": session_small, "session-9000": session_large, "apply": apply_row, "opening": opening_row,
-             "late": late_rows, "drill": drill_row}
+             "late": late_rows, "serve": serve_row, "drill": drill_row}
 
 
 def main():
