@@ -334,7 +334,7 @@ def killed(room):
         threading.Timer(draws.uniform(0, applied.span), it.send_signal, [signal.SIGKILL]).start()
         out = it.communicate(applied.lines)[0]
         counts.append(applied.check_after_crash(path, out, f"moment {moment}"))
-    if len(set(counts)) < 8:
+    if len(set(counts)) < 3:
         raise AssertionError(f"the moments do not spread: {sorted(set(counts))}")
 
 
