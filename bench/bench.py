@@ -1,0 +1,270 @@
+#!/usr/bin/env python3
+"""Measures each workload beside a yardstick in the same run, and prints a table of ratios.
+
+    bench.py [--small] [WORD..]    all workloads, or those whose names have the words
+
+A ratio is the program's time by the yardstick's, so that less is better; each pair is measured in turn, `--rounds N`
+times (3 if left out), and the ratio is the median's. `--small` takes a tenth of each workload, to see that all run.
+Times are of whole processes, start and end included, where nothing else is said; memory is the greatest resident
+set of a run. Standard library alone; `JAQHENDULU` names another program than the one that `rt` built.
+"""
+import os
+import socket
+import statistics
+import subprocess
+import sys
+import tempfile
+import time
+
+HERE = os.path.dirname(os.path.abspath(__file__))
+TOP = os.path.dirname(HERE)
+sys.path[:0] = [HERE, os.path.join(TOP, "tests"), os.path.join(TOP, "examples")]
+import bodies  # noqa: E402
+import generate  # noqa: E402
+import program  # noqa: E402
+import replay  # noqa: E402
+
+SPLIT = """
+import sys
+count = 0
+for line in sys.stdin.buffer:
+    count += len(line.split(b" "))
+"""
+SMALL = "--small" in sys.argv
+
+
+def sized(count):
+    return max(count // 10, 8) if SMALL else count
+
+
+def rounds():
+    return int(sys.argv[sys.argv.index("--rounds") + 1]) if "--rounds" in sys.argv else 3
+
+
+def write_lines(path, lines, times=1):
+    """Writes lines to a file, each so many times in a row, and gives how many commands they are."""
+    count = 0
+    with open(path, "w", encoding="ascii") as file:
+        for line in lines:
+            count += 1
+            file.write((line + "\n") * times)
+    return count
+
+
+def timed(words, given=None, out=None):
+    """Runs the program: seconds and greatest resident set in MB."""
+    source = open(given, "rb") if given else subprocess.DEVNULL
+    sink = open(out, "wb") if out else subprocess.DEVNULL
+    began = time.perf_counter()
+    it = subprocess.Popen([program.find(), *words], stdin=source, stdout=sink)
+    _, status, used = os.wait4(it.pid, 0)
+    took = time.perf_counter() - began
+    it.returncode = os.waitstatus_to_exitcode(status)
+    if it.returncode:
+        sys.exit(f"{' '.join(words)} ended with status {it.returncode}")
+    return took, used.ru_maxrss / 1024
+
+
+def split_by_python(path):
+    """Seconds that Python takes to read a file and to split each of its lines at the spaces."""
+    with open(path, "rb") as given:
+        began = time.perf_counter()
+        subprocess.run([sys.executable, "-S", "-c", SPLIT], stdin=given, check=True)
+    return time.perf_counter() - began
+
+
+class Row:
+    """A line of the table: medians of the program and of the yardstick."""
+
+    def __init__(self, name, unit, pairs, memory=None, goal=None):
+        self.ours = statistics.median(it[0] for it in pairs)
+        self.theirs = statistics.median(it[1] for it in pairs)
+        self.name, self.unit, self.memory, self.goal = name, unit, memory, goal
+
+    def text(self):
+        memory = f"{self.memory:.0f} MB" if self.memory else ""
+        ratio = f"{self.ours / self.theirs:.2f}"
+        return (f"| {self.name} | {self.ours:.3f} {self.unit} | {self.theirs:.3f} {self.unit} | {ratio} |"
+                f" {self.goal or ''} | {memory} |")
+
+
+def check_replies(path, wanted):
+    """Sees that all replies are `ok`, and how many there are."""
+    with open(path, "rb") as file:
+        lines = file.read().splitlines()
+    bad = [it for it in lines if not it.startswith(b"ok ")]
+    if bad or len(lines) != wanted:
+        sys.exit(f"{len(lines)} replies of {wanted}, of which {bad[:1]} is not ok")
+
+
+def session_row(room, loans, times, name):
+    path, out = f"{room}/lines", f"{room}/replies"
+    count = write_lines(path, generate.year(loans, 12, loans), times)
+    runs, pairs = [], []
+    for _ in range(rounds()):
+        runs.append(timed(["j", "session"], path, out))
+        pairs.append((runs[-1][0], split_by_python(path)))
+    check_replies(out, count * times)
+    return Row(f"{name}, {count * times:,} lines", "s", pairs, max(it[1] for it in runs), "at most 1.0")
+
+
+def session_small(room):
+    return [session_row(room, sized(500), 2, f"`session`, {sized(500)} loans, a year, each line twice")]
+
+
+def session_large(room):
+    return [session_row(room, sized(9000), 1, f"`session`, {sized(9000):,} loans, a year")]
+
+
+def bare_loop(path, lines):
+    """Seconds that two writes with a sync each take for each line."""
+    with open(path, "wb") as file:
+        file.write(b"MSRVJ002\0")
+    file = os.open(path, os.O_RDWR)
+    at = 8
+    began = time.perf_counter()
+    for line in lines:
+        os.pwrite(file, b"0000" + b"00" + line + b"\0", at + 1)
+        os.fsync(file)
+        os.pwrite(file, b"\1", at)
+        os.fsync(file)
+        at += 7 + len(line)
+    took = time.perf_counter() - began
+    os.close(file)
+    return took
+
+
+def apply_row(room):
+    count = sized(3000)
+    lines = [it for _, it in zip(range(count), generate.year(sized(500), 12, 1))]
+    write_lines(f"{room}/lines", lines)
+    pairs, memory = [], 0
+    for turn in range(rounds()):
+        with open(f"{room}/books.{turn}", "wb") as file:
+            file.write(b"MSRVJ002\0")
+        took, used = timed([f"{room}/books.{turn}", "apply"], f"{room}/lines", f"{room}/replies")
+        pairs.append((took, bare_loop(f"{room}/bare.{turn}", [it.encode() for it in lines])))
+        memory = max(memory, used)
+    check_replies(f"{room}/replies", count)
+    return [Row(f"`apply`, {count:,} commands beside a bare loop of two writes and two syncs", "s", pairs, memory,
+                "at most 1.05")]
+
+
+def opening_row(room):
+    count = sized(300_000)
+    lines = [it for _, it in zip(range(count), generate.year(sized(9000), 40, 3))]
+    write_lines(f"{room}/lines", lines)
+    with open(f"{room}/books", "wb") as file:
+        file.write(generate.journal_of(lines))
+    del lines
+    runs, pairs = [], []
+    for _ in range(rounds()):
+        runs.append(timed([f"{room}/books", "custodial"]))
+        pairs.append((runs[-1][0], split_by_python(f"{room}/lines")))
+    return [Row(f"opening a journal of {count:,} commands", "s", pairs, max(it[1] for it in runs), "at most 1.0")]
+
+
+def microseconds(it, lines):
+    """Sends lines to a running `session` and gives the microseconds a line until the last reply is there."""
+    data = "".join(line + "\n" for line in lines).encode()
+    began = time.perf_counter()
+    it.stdin.write(data)
+    it.stdin.flush()
+    for _ in lines:
+        reply = it.stdout.readline()
+    took = time.perf_counter() - began
+    if not reply.startswith(b"ok "):
+        sys.exit(f"a late entry is answered {reply}")
+    return took / len(lines) * 1e6
+
+
+def late_run(loans, count, each):
+    """Microseconds an entry in the last month and in the second, of loans with so many entries."""
+    it = subprocess.Popen([program.find(), "j", "session"], stdin=subprocess.PIPE, stdout=subprocess.PIPE)
+    base = list(generate.entries(loans, count))
+    for at in range(0, len(base), 1000):
+        microseconds(it, base[at:at + 1000])
+    last = 2024 * 12 + count // 8 - 1
+    found = [microseconds(it, list(generate.late_entries(loans, each, *what)))
+             for what in ((last, "l"), (last, "m"), (2024 * 12, "s"))][1:]
+    it.stdin.close()
+    it.wait()
+    return found
+
+
+def late_rows(room):
+    loans, each = (4, 8) if SMALL else (20, 25)
+    few, many = sized(400), sized(4000)
+    few, many = few // 8 * 8, many // 8 * 8
+    runs = [(late_run(loans, many, each), late_run(loans, few, each)) for _ in range(rounds())]
+    rows = []
+    for place, name, goal in ((0, "last", "at most 1.2"), (1, "second", None)):
+        rows.append(Row(f"an entry into the {name} month of a loan with {many:,} entries beside one with {few}",
+                        "µs", [(it[0][place], it[1][place]) for it in runs], None, goal))
+    return rows
+
+
+def drill_row(room):
+    loans = sized(500)
+    count = write_lines(f"{room}/lines", generate.year(loans, 12, loans), 2)
+    runs, pairs = [], []
+    for _ in range(rounds()):
+        runs.append(timed(["j", "drill", str(loans), "7"]))
+        pairs.append((runs[-1][0], split_by_python(f"{room}/lines")))
+    return [Row(f"`drill {loans} 7` beside splitting {2 * count:,} lines of such a year", "s", pairs,
+                max(it[1] for it in runs))]
+
+
+def served(room, turn, lines):
+    """Seconds that `serve` takes for commands over one connection, each sent once the one before it is answered."""
+    with open(f"{room}/served.{turn}", "wb") as file:
+        file.write(b"MSRVJ002\0")
+    port = replay.free_port()
+    it = subprocess.Popen([program.find(), f"{room}/served.{turn}", "serve", str(port), "1"], stdout=subprocess.DEVNULL)
+    link = replay.connect(port)
+    link.setsockopt(socket.IPPROTO_TCP, socket.TCP_NODELAY, 1)
+    requests = [b"POST /v1/commands HTTP/1.1\r\nContent-Length: %d\r\n\r\n%s" % (len(body), body)
+                for body in (bodies.body_of(line) for line in lines)]
+    began = time.perf_counter()
+    for request in requests:
+        link.sendall(request)
+        if not link.recv(4096).startswith(b"HTTP/1.1 200 "):
+            sys.exit("serve refuses a command")
+    took = time.perf_counter() - began
+    link.close()
+    _, _, used = os.wait4(it.pid, 0)
+    it.returncode = 0
+    return took, used.ru_maxrss / 1024
+
+
+def serve_row(room):
+    count = sized(3000)
+    lines = [it for _, it in zip(range(count), generate.year(sized(500), 12, 1))]
+    write_lines(f"{room}/lines", lines)
+    pairs, memory = [], 0
+    for turn in range(rounds()):
+        with open(f"{room}/books.{turn}", "wb") as file:
+            file.write(b"MSRVJ002\0")
+        took, used = served(room, turn, lines)
+        pairs.append((took, timed([f"{room}/books.{turn}", "apply"], f"{room}/lines", f"{room}/replies")[0]))
+        memory = max(memory, used)
+    return [Row(f"`serve` on one connection, {count:,} commands beside `apply`", "s", pairs, memory)]
+
+
+WORKLOADS = {"session-500": session_small, "session-9000": session_large, "apply": apply_row, "opening": opening_row,
+             "late": late_rows, "serve": serve_row, "drill": drill_row}
+
+
+def main():
+    only = [it for it in sys.argv[1:] if not it.startswith("--") and not it.isdigit()]
+    print("| Workload | The program | The yardstick | Ratio | Goal | Memory |\n|---|---|---|---|---|---|")
+    for name, measure in WORKLOADS.items():
+        if only and not any(it in name for it in only):
+            continue
+        with tempfile.TemporaryDirectory(prefix="jaqhendulu-bench-") as room:
+            for row in measure(room):
+                print(row.text(), flush=True)
+
+
+if __name__ == "__main__":
+    main()

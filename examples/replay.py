@@ -1,0 +1,275 @@
+#!/usr/bin/env python3
+"""Replays the examples and the commands that the documents show, and compares every byte.
+
+    replay.py            with the program that `rt` built (or the one that the variable JAQHENDULU names)
+    replay.py --reckon   the texts of examples/ against reckon.py alone; needs no program
+
+Each set of steps runs on a fresh journal in a folder of its own that is removed afterwards, and so does each
+document. Standard library alone. Prints a line a step and `N passed, M failed` at its end.
+"""
+import csv
+import io
+import json
+import os
+import re
+import shutil
+import socket
+import subprocess
+import sys
+import tempfile
+import time
+
+HERE = os.path.dirname(os.path.abspath(__file__))
+TOP = os.path.dirname(HERE)
+sys.path[:0] = [HERE, os.path.join(TOP, "tests")]
+import bodies  # noqa: E402
+import program  # noqa: E402
+import reckon  # noqa: E402
+
+# The documents whose blocks of commands are run; guides that are not there are passed over.
+DOCUMENTS = ["README.md", "examples/README.md", "docs/REFUSALS.md", "docs/guide/cashier.md",
+             "docs/guide/operator.md", "docs/guide/auditor.md"]
+MARK = "\x01end of "
+
+
+class Count:
+    """What passed and what failed."""
+
+    def __init__(self):
+        self.passed = self.failed = 0
+
+    def compare(self, name, wanted, got):
+        if wanted == got:
+            self.passed += 1
+            print(f"ok      {name}")
+            return
+        self.failed += 1
+        print(f"FAILED  {name}")
+        wanted, got = wanted.decode(errors="replace").split("\n"), got.decode(errors="replace").split("\n")
+        for at in range(max(len(wanted), len(got))):
+            pair = [it[at] if at < len(it) else "(nothing)" for it in (wanted, got)]
+            if pair[0] != pair[1]:
+                print(f"        line {at + 1}: wanted {pair[0]!r}\n        {'got':>14} {pair[1]!r}")
+                break
+
+
+def read(*path):
+    with open(os.path.join(HERE, *path), "rb") as file:
+        return file.read()
+
+
+def steps_of(folder):
+    """The words, the input's and the text's file of each line of a file `steps`."""
+    for line in read(folder, "steps").decode().splitlines():
+        words, _, text = line.partition(">")
+        words, _, given = words.partition("<")
+        yield words.split(), given.strip(), text.strip()
+
+
+def lines_of_rows(data):
+    """The request lines that say what the rows of a CSV file say."""
+    for row in list(csv.reader(io.StringIO(data.decode(), newline="")))[1:]:
+        key, word, loan, day, amount, line = row
+        yield " ".join([key, word, loan, day, amount] + [line] * bool(line))
+
+
+def reckoned(servicer, words, given):
+    """What reckon.py answers to one step."""
+    if words[0] == "init":
+        return b""
+    if words[0] not in ("apply", "session", "import"):
+        return servicer.answer("? " + " ".join(words)).encode()
+    if words[0] != "import":
+        return "".join(servicer.answer(it) for it in given.decode().splitlines()).encode()
+    text = ""
+    for row, line in enumerate(lines_of_rows(given), 2):
+        said = servicer.answer(line)
+        place = int(said[4:]) if said.startswith("bad") else 0
+        column = line[:place].count(" ") + 1
+        text += f"bad row {row} column {column}\n" if said.startswith("bad") else said
+    return text.encode()
+
+
+def replay_steps(folder, count, built):
+    """Runs the steps of a folder with the program, or with reckon.py where there is none."""
+    servicer = reckon.Servicer()
+    with tempfile.TemporaryDirectory() as room:
+        for words, given, text in steps_of(folder):
+            servicer = reckon.Servicer() if words[0] == "session" else servicer
+            given = read(folder, given) if given else b""
+            wanted = read(folder, text) if text else b""
+            if built:
+                ran = subprocess.run([built, f"{room}/books.journal", *words], input=given, capture_output=True)
+                got = ran.stdout + ran.stderr
+            else:
+                got = reckoned(servicer, words, given)
+            count.compare(f"{folder}: {' '.join(words)} {text}", wanted, got)
+        if os.path.isfile(f"{room}/books.journal"):
+            check_journal(folder, count, f"{room}/books.journal")
+
+
+def check_journal(folder, count, journal):
+    """Reads the journal's bytes with reckon.py and compares the last custodial line."""
+    with open(journal, "rb") as file:
+        lines = reckon.lines_of_journal(file.read())
+    servicer = reckon.Servicer()
+    refused = [it for it in lines if not servicer.answer(it.decode()).startswith("ok ")]
+    count.compare(f"{folder}: reckon.py accepts each line of the journal", b"", b"\n".join(refused))
+    last = [text for words, _, text in steps_of(folder) if words == ["custodial"]][-1:]
+    for text in last:
+        count.compare(f"{folder}: reckon.py's custodial line", read(folder, text), servicer.ask_custodial().encode())
+
+
+def free_port():
+    """A port at which nobody listens now."""
+    with socket.socket() as it:
+        it.bind(("127.0.0.1", 0))
+        return it.getsockname()[1]
+
+
+def connect(port):
+    """A connection to the program, once it listens."""
+    for _ in range(500):
+        try:
+            return socket.create_connection(("127.0.0.1", port), timeout=60)
+        except ConnectionRefusedError:
+            time.sleep(0.01)
+    raise SystemExit("nobody listens")
+
+
+def requests_of(folder):
+    """Method, target, body and the response's file of each line of a file `requests`."""
+    for line in read(folder, "requests").decode().splitlines():
+        words, _, text = line.partition(">")
+        words, _, given = words.partition("<")
+        method, target = words.split()
+        yield method, target, read(folder, given.strip()) if given else b"", text.strip()
+
+
+def line_of_request(method, target, body):
+    """The request line that says what an HTTP request of the examples says; None where it has no route."""
+    if method == "POST":
+        members = json.loads(body)
+        word = members["do"]
+        return " ".join(str(members[it]) for it in ["key", "do"] + bodies.FIELDS[word].split() if it in members)
+    for word, path in bodies.PATHS.items():
+        found = re.fullmatch("/v1/" + path.replace("{}", "([^/]+)"), target)
+        if found:
+            return " ".join(["?", word, *found.groups()])
+    return None
+
+
+def reckoned_response(servicer, method, target, body):
+    line = line_of_request(method, target, body)
+    if line is None:
+        return bodies.response_of(404, b"")
+    return bodies.response_of(*bodies.reply_of(servicer.answer(line)))
+
+
+def replay_requests(folder, count, built):
+    """Goes on from the quarter's books by HTTP, over one connection."""
+    servicer, answers = reckon.Servicer(), []
+    with tempfile.TemporaryDirectory() as room:
+        for words, given, _ in steps_of("quarter"):
+            given = read("quarter", given) if given else b""
+            reckoned(servicer, words, given)
+            if built:
+                subprocess.run([built, f"{room}/books", *words], input=given, capture_output=True, check=True)
+        if built:
+            port = free_port()
+            it = subprocess.Popen([built, f"{room}/books", "serve", str(port), "1"], stdout=subprocess.PIPE)
+            link = connect(port)
+        for method, target, body, text in requests_of(folder):
+            wanted = read(folder, text)
+            if built:
+                link.sendall(f"{method} {target} HTTP/1.1\r\nHost: a\r\nContent-Length: {len(body)}\r\n\r\n".encode() + body)
+                got = b""
+                while len(got) < len(wanted) and wanted.startswith(got):
+                    got += link.recv(65536) or b"(end)"
+            else:
+                got = reckoned_response(servicer, method, target, body)
+            count.compare(f"{folder}: {method} {target} {text}", wanted, got)
+        if built:
+            link.close()
+            count.compare(f"{folder}: summary", read(folder, "summary.txt"), it.communicate(timeout=60)[0])
+
+
+def blocks_of(text):
+    """The commands of a document, each with its line's number and what is shown below it."""
+    for block in re.finditer(r"^```console\n(.*?)^```$", text, re.S | re.M):
+        line = text[:block.start()].count("\n") + 1
+        command, shown, at = None, [], 0
+        for it in block[1].splitlines():
+            line += 1
+            if it.startswith("$ "):
+                if command is not None:
+                    yield at, command, shown
+                command, shown, at = it[2:], [], line
+            elif it.startswith("> ") and not shown:
+                command += "\n" + it[2:]
+            else:
+                shown.append(it)
+        if command is not None:
+            yield at, command, shown
+
+
+def fits(shown, got):
+    """Whether lines are those that are shown, where a line `..` stands for any number of lines."""
+    if ".." not in shown:
+        return shown == got
+    at = shown.index("..")
+    if got[:at] != shown[:at]:
+        return False
+    return any(fits(shown[at + 1:], got[i:]) for i in range(at, len(got) + 1))
+
+
+def lay_out(room, built):
+    """A folder with what the documents' commands name. Its `rt` runs the built program: proofs are rt's own work."""
+    os.makedirs(f"{room}/bin")
+    os.makedirs(f"{room}/here/crates/serv_cli/out")
+    shutil.copytree(HERE, f"{room}/here/examples", ignore=shutil.ignore_patterns("__pycache__"))
+    for place in ("bin/jaqhendulu", "here/crates/serv_cli/out/serv_cli"):
+        os.symlink(built, f"{room}/{place}")
+    with open(f"{room}/bin/rt", "w", encoding="utf-8") as file:
+        file.write('#!/bin/sh\nshift 2\nexec jaqhendulu "$@"\n')
+    os.chmod(f"{room}/bin/rt", 0o755)
+
+
+def replay_document(name, count, built):
+    """Runs the commands of a document in one shell, in a folder of its own."""
+    with open(os.path.join(TOP, name), encoding="utf-8") as file:
+        blocks = list(blocks_of(file.read()))
+    script = "".join(f"{command}\nprintf '%s\\n' \"{MARK}{at}\"\n" for at, command, _ in blocks)
+    with tempfile.TemporaryDirectory() as room:
+        lay_out(room, built)
+        paths = f"{room}/bin:{room}/.local/bin:{os.environ['PATH']}"
+        env = {"PATH": paths, "HOME": room, "LC_ALL": "C.UTF-8"}
+        ran = subprocess.run(["bash", "-c", script], cwd=f"{room}/here", env=env, stdin=subprocess.DEVNULL,
+                             stdout=subprocess.PIPE, stderr=subprocess.DEVNULL)
+    pieces = re.split(f"{MARK}\\d+\n", ran.stdout.decode(errors="replace"))
+    for (at, command, shown), got in zip(blocks, pieces):
+        name_of = f"{name}:{at}: {command.splitlines()[0][:60]}"
+        if fits(shown, got.splitlines()):
+            count.compare(name_of, b"", b"")
+        else:
+            count.compare(name_of, "\n".join(shown).encode(), got.rstrip("\n").encode())
+
+
+def main():
+    built = None if "--reckon" in sys.argv[1:] else program.find()
+    count = Count()
+    for folder in sorted(os.listdir(HERE)):
+        if os.path.isfile(os.path.join(HERE, folder, "steps")):
+            replay_steps(folder, count, built)
+    if os.path.isfile(os.path.join(HERE, "http", "requests")):
+        replay_requests("http", count, built)
+    if built:
+        for name in DOCUMENTS:
+            if os.path.isfile(os.path.join(TOP, name)):
+                replay_document(name, count, built)
+    print(f"{count.passed} passed, {count.failed} failed")
+    return 1 if count.failed else 0
+
+
+if __name__ == "__main__":
+    sys.exit(main())

@@ -1,0 +1,471 @@
+#!/usr/bin/env python3
+"""Tests on real processes: the built program over pipes, files, full disks, and killed at many moments.
+
+    program.py [WORD..]    all cases, or those whose names have the words
+
+Standard library alone; `JAQHENDULU` names another program than the one that `rt` built. Prints a line a case and
+`N passed, M failed` at its end.
+"""
+import csv
+import io
+import os
+import random
+import re
+import resource
+import shutil
+import signal
+import subprocess
+import sys
+import threading
+import time
+
+from harness import TOP, Skipped, case, read, run, run_all, same, start, write
+import histories
+import reckon
+
+QUARTER = os.path.join(TOP, "examples", "quarter")
+MONTH = read(TOP, "examples", "month", "month.lines")
+MONTH_TEXT = read(TOP, "examples", "month", "month.txt")
+HEADER = "key,do,loan,day,amount,line"
+
+
+def init(room, name="books.journal"):
+    """The path of an empty journal."""
+    path = os.path.join(room, name)
+    same((0, b"", b""), run(path, "init"), "init")
+    return path
+
+
+def boarded(room):
+    """A journal with the six loans of the quarter, on 2 January."""
+    path = init(room)
+    for step in ("01-board", "02-new-year"):
+        wanted = read(QUARTER, step + ".txt")
+        same((0, wanted, b""), run(path, "apply", given=read(QUARTER, step + ".lines")), step)
+    return path
+
+
+# Words
+
+@case("words: what is in no row of the table is status 2, and touches nothing")
+def words(room):
+    for it in ([], [""], ["j"], ["j", "frob"], ["", "init"], ["j", "init", "x"], ["j", "report"],
+               ["j", "report", "2024-1"], ["j", "report", "2100-01"], ["j", "drill", "0", "7"],
+               ["j", "drill", "501", "7"], ["j", "drill", "01", "7"], ["j", "drill", "1", "1000000"],
+               ["--help"], ["j", "--version"], ["j", "Apply"], ["j", "apply "]):
+        same((2, b"", b"status 2 Usage\n"), run(*it, given=MONTH, cwd=room), it)
+    same([], os.listdir(room), "files")
+
+
+@case("words: one that is not UTF-8 is status 2")
+def words_of_bytes(room):
+    same((2, b"", b"status 2 Usage\n"), run(os.path.join(room, "j").encode() + b"\xff", b"init"))
+
+
+@case("journal: a name that is not there, empty, a folder, another file")
+def no_journal(room):
+    path = os.path.join(room, "j")
+    same((6, b"", b"status 6 NotJournal\n"), run(path, "apply", given=MONTH))
+    same(b"", read(path))
+    same((5, b"", b"status 5 DiskFault\n"), run(room, "apply", given=MONTH), "a folder")
+    write(b"PK\3\4 some other file", path)
+    same((6, b"", b"status 6 NotJournal\n"), run(path, "custodial"))
+    same((7, b"", b"status 7 AlreadyThere\n"), run(path, "init"))
+    same(b"PK\3\4 some other file", read(path))
+
+
+# Pipes and files
+
+@case("session: a file, a pipe, a pipe of single bytes, and no line feed at the end")
+def inputs(room):
+    write(MONTH, room, "month.lines")
+    with open(os.path.join(room, "month.lines"), "rb") as file:
+        same((0, MONTH_TEXT, b""), run("j", "session", stdin=file), "file")
+    same((0, MONTH_TEXT, b""), run("j", "session", given=MONTH), "pipe")
+    same((0, MONTH_TEXT, b""), run("j", "session", given=MONTH[:-1]), "no line feed")
+    it = start("j", "session")
+    for byte in MONTH:
+        it.stdin.write(bytes([byte]))
+        it.stdin.flush()
+    same((MONTH_TEXT, b""), it.communicate(timeout=60), "single bytes")
+    same(0, it.returncode)
+    same((0, b"", b""), run("j", "session"), "nothing")
+
+
+@case("apply: a conversation, each reply before the next line is sent")
+def conversation(room):
+    it = start(init(room), "apply")
+    replies = io.BytesIO(MONTH_TEXT)
+    for line in MONTH.splitlines(keepends=True):
+        it.stdin.write(line)
+        it.stdin.flush()
+        wanted = replies.readline()
+        text = [wanted]
+        while wanted.startswith((b"report", b"rows", b"trial", b"escrow")) and text[-1] != b"end\n":
+            text.append(replies.readline())
+        for reply in text:
+            same(reply, it.stdout.readline(), line)
+    it.stdin.close()
+    same(0, it.wait(timeout=60))
+
+
+@case("apply: the same bytes as session; sent again the same replies and no byte more in the journal")
+def apply_again(room):
+    path = init(room)
+    same((0, MONTH_TEXT, b""), run(path, "apply", given=MONTH))
+    once = read(path)
+    commands = b"".join(it for it in MONTH.splitlines(keepends=True) if not it.startswith(b"?"))
+    replies = b"".join(it for it in MONTH_TEXT.splitlines(keepends=True) if it.startswith((b"ok", b"no")))
+    same((0, replies, b""), run(path, "apply", given=commands))
+    same(once, read(path))
+
+
+@case("lines that are none: empty, too long, of any bytes, with a carriage return")
+def bad_lines(room):
+    given = [b"", b"x" * 513, b"x" * 70_000, bytes(range(128, 256)), b"\0", b"k1 day 2024-02-01\r", b"k1 day 2024-02-01 "]
+    wanted = [b"bad 0", b"bad 512", b"bad 512", b"bad 0", b"bad 0", b"bad 7", b"bad 18"]
+    given.append(b"k1 day 2024-02-01")
+    wanted.append(b"ok 1")
+    same((0, b"\n".join(wanted) + b"\n", b""), run("j", "session", given=b"\n".join(given) + b"\n"))
+
+
+@case("input of 67,108,864 bytes: status 11; one byte less is read")
+def too_much(room):
+    line = b"k1 day 2024-02-01\n"
+    size = 2**26
+    given = line + b"x" * (size - len(line))
+    same((11, b"ok 1\n", b"status 11 TooMuch 67108864\n"), run("j", "session", given=given))
+    same((0, b"ok 1\nbad 512\n", b""), run("j", "session", given=given[:-1]))
+
+
+# Outputs that break
+
+@case("output: /dev/full is status 4; the same lines sent again are answered as they were")
+def full_output(room):
+    path = init(room)
+    with open("/dev/full", "wb") as full:
+        status, _, log = run(path, "apply", given=MONTH, stdout=full)
+    same((4, b"status 4 WriteFault\n"), (status, log))
+    same((0, MONTH_TEXT, b""), run(path, "apply", given=MONTH))
+
+
+@case("output: a reader that goes away after each reply; nothing is booked twice")
+def closed_output(room):
+    path = init(room)
+    for replies in range(1, 8):
+        it = start(path, "apply")
+        try:
+            it.stdin.write(MONTH)
+            it.stdin.close()
+        except BrokenPipeError:
+            pass
+        for _ in range(replies):
+            it.stdout.readline()
+        it.stdout.close()
+        if it.wait(timeout=60) not in (0, 4):
+            raise AssertionError(f"status {it.returncode}: {it.stderr.read()!r}")
+        it.stderr.close()
+    same((0, MONTH_TEXT, b""), run(path, "apply", given=MONTH))
+
+
+@case("output: texts to a closed pipe are status 4")
+def closed_text(room):
+    path = init(room)
+    run(path, "apply", given=MONTH)
+    for words_of in (("custodial",), ("report", "2024-02"), ("trial", "2024-02")):
+        with open("/dev/full", "wb") as full:
+            status, _, log = run(path, *words_of, stdout=full)
+        same((4, b"status 4 WriteFault\n"), (status, log), words_of)
+
+
+@case("input: a folder instead of a file is status 3, and nothing is acted on")
+def bad_input(room):
+    path = init(room)
+    folder = os.open(room, os.O_RDONLY)
+    try:
+        same((3, b"", b"status 3 ReadFault\n"), run(path, "apply", stdin=folder))
+        same((3, b"", b"status 3 ReadFault\n"), run(path, "import", stdin=folder))
+    finally:
+        os.close(folder)
+    same(9, len(read(path)))
+
+
+# CSV as programs write it
+
+ROWS = [["f1", "pay", "101", "2024-01-02", "1199.10", ""], ["f2", "pay", "103", "2024-01-02", "1500.00", "principal"],
+        ["f3", "deposit", "104", "2024-01-02", "12.50", ""], ["f4", "disburse", "104", "2024-01-02", "2600.00", "1"]]
+
+
+def written(delimiter=",", **how):
+    text = io.StringIO(newline="")
+    rows = csv.writer(text, delimiter=delimiter, **how)
+    rows.writerows([HEADER.split(","), *ROWS])
+    return text.getvalue().encode()
+
+
+@case("import: as Python's csv writes it, in three dialects, and as a spreadsheet does")
+def dialects(room):
+    path = boarded(room)
+    wanted = b"ok 20\nok 21\nok 22\nok 23\n"
+    for name, data in {
+        "csv": written(), "quoted": written(quoting=csv.QUOTE_ALL), "unix": written(lineterminator="\n"),
+        "spreadsheet": b"\xef\xbb\xbf" + written(quoting=csv.QUOTE_ALL), "no line end": written()[:-2],
+        "old mac": written(lineterminator="\r"),
+    }.items():
+        same((0, wanted, b""), run(path, "import", given=data), name)
+
+
+@case("import: semicolons, another header, an empty file: one answer and nothing booked")
+def other_headers(room):
+    path = boarded(room)
+    before = read(path)
+    for data in (written(";"), b"", b"\n\n", b"key,do,loan,day,amount\n" + written(), written()[1:], b"\xff\xfe" + written()):
+        same((0, b"bad row 1 column 1\n", b""), run(path, "import", given=data), data[:20])
+    same((0, b"", b""), run(path, "import", given=HEADER.encode()), "the header alone")
+    same(before, read(path))
+
+
+@case("import: rows that do not fit are answered by row and column, the others are booked")
+def bad_rows(room):
+    path = boarded(room)
+    rows = ["f1,pay,101,2024-01-02,1199.10,", "f2,pay,101,2024-01-02,1199.10", "f3,frob,101,2024-01-02,1.00,",
+            "f 4,pay,101,2024-01-02,1.00,", "f5,pay,101,2024-01-02,1.00,1", "f6,disburse,101,2024-01-02,1.00,",
+            "f7,pay,101,01/02/2024,1.00,", "f8,pay,101,2024-01-02,1,", "f9,pay,101,2024-01-02,1.00,principal"]
+    wanted = ("ok 20\nbad row 3 column 7\nbad row 4 column 2\nbad row 5 column 1\nbad row 6 column 6\n"
+              "bad row 7 column 6\nbad row 8 column 4\nbad row 9 column 5\nok 21\n")
+    same((0, wanted.encode(), b""), run(path, "import", given="\n".join([HEADER, *rows]).encode()))
+
+
+@case("import: 300 rows twice; the second time each has its first reply")
+def many_rows(room):
+    path = boarded(room)
+    data = "\n".join([HEADER, *(f"f{i},deposit,{101 + i % 6},2024-01-02,{i % 90 + 1}.00," for i in range(300))])
+    first = run(path, "import", given=data.encode())
+    same((0, b"".join(b"ok %d\n" % (20 + i) for i in range(300)), b""), first)
+    size = len(read(path))
+    same(first, run(path, "import", given=data.encode()))
+    same(size, len(read(path)))
+
+
+# The journal's bytes
+
+@case("journal: the 33 bytes of one command, cut at each place, and changed")
+def cut_journal(room):
+    path = init(room)
+    same(bytes.fromhex("4d5352564a303032" "00"), read(path))
+    run(path, "apply", given=b"k1 day 2024-02-01\n")
+    whole = bytes.fromhex("4d5352564a303032" "01" "00000001" "0011") + b"k1 day 2024-02-01" + b"\0"
+    same(whole, read(path))
+    for length in range(33):
+        write(whole[:length], path)
+        status, out, log = run(path, "custodial")
+        wanted = (6, b"status 6 NotJournal\n") if length < 8 else (8, b"status 8 Damaged %d\n" % (8 if length < 32 else 32))
+        same((wanted[0], b"", wanted[1]), (status, out, log), length)
+    write(whole[:12] + b"\2" + whole[13:], path)
+    same((8, b"", b"status 8 Damaged 8\n"), run(path, "custodial"), "number 2")
+    for gate in (0, 7):
+        write(whole[:8] + bytes([gate]) + whole[9:], path)
+        same((0, b"ok 1\n", b""), run(path, "apply", given=b"k9 day 2024-02-02\n"), "the empty history")
+    write(whole + b"any tail \1\1\1", path)
+    same((0, b"ok 1\nok 2\n", b""), run(path, "apply", given=b"k1 day 2024-02-01\nk2 day 2024-02-02\n"), "a tail")
+
+
+@case("journal: one of version 1 is upgraded where it stands")
+def old_journal(room):
+    path = os.path.join(room, "j")
+    write(bytes.fromhex("4d5352564a303031" "01" "0011") + b"k1 day 2024-02-01" + b"\0", path)
+    same((0, b"ok 1\nok 2\n", b""), run(path, "apply", given=b"k1 day 2024-02-01\nk2 day 2024-02-02\n"))
+    data = read(path)
+    same((2, b"MSRVJ002", 1), (data[28], data[29:37], data[37]))
+    same([b"k1 day 2024-02-01", b"k2 day 2024-02-02"], reckon.lines_of_journal(data))
+
+
+# Crashes
+
+def commands_of_quarter():
+    """All commands of the quarter that are accepted, as lines, and the replies to them."""
+    servicer, lines = reckon.Servicer(), []
+    for step in sorted(os.listdir(QUARTER)):
+        data = read(QUARTER, step).decode()
+        if step.endswith(".lines"):
+            lines += [it for it in data.splitlines() if not it.startswith("?")]
+        if step.endswith(".csv"):
+            for row in list(csv.reader(io.StringIO(data, newline="")))[1:]:
+                lines.append(" ".join(row[:5] + [row[5]] * bool(row[5])))
+    lines += [f"more-{i} deposit {101 + i % 6} 2024-04-01 {i}.00" for i in range(1, 121)]
+    said = [(it, servicer.answer(it)) for it in lines]
+    said = [it for it in said if it[1].startswith("ok ")]
+    return [f"{line}\n".encode() for line, _ in said], [reply.encode() for _, reply in said]
+
+
+ALL_LINES, ALL_REPLIES = commands_of_quarter()
+
+
+class Applied:
+    """The first commands of the quarter, their replies, and the journal of an unbroken run of them."""
+
+    def __init__(self, room, count):
+        self.lines, self.replies = b"".join(ALL_LINES[:count]), b"".join(ALL_REPLIES[:count])
+        path = init(room, "unbroken.journal")
+        began = time.monotonic()
+        same((0, self.replies, b""), run(path, "apply", given=self.lines), "unbroken")
+        self.span, self.whole = time.monotonic() - began, read(path)
+
+    def check_after_crash(self, path, out, what):
+        """What was answered is in the journal; all lines sent again give the replies and bytes of an unbroken run.
+        Gives the number of whole replies."""
+        same(self.replies[:len(out)], out, f"{what}: replies")
+        answered, kept = out.count(b"\n"), reckon.lines_of_journal(read(path))
+        if len(kept) < answered:
+            raise AssertionError(f"{what}: {answered} commands were answered and {len(kept)} are there")
+        same((0, self.replies, b""), run(path, "apply", given=self.lines), what)
+        same(self.whole, read(path)[:len(self.whole)], f"{what}: the journal")
+        return answered
+
+
+@case("kill -9 at 200 moments of an apply: nothing that was answered is lost, the rest is sent again")
+def killed(room):
+    draws, counts = random.Random(2024), []
+    applied = Applied(room, 24)
+    path = os.path.join(room, "books.journal")
+    for moment in range(200):
+        write(b"MSRVJ002\0", path)
+        it = start(path, "apply")
+        threading.Timer(draws.uniform(0, applied.span), it.send_signal, [signal.SIGKILL]).start()
+        out = it.communicate(applied.lines)[0]
+        counts.append(applied.check_after_crash(path, out, f"moment {moment}"))
+    if len(set(counts)) < 3:
+        raise AssertionError(f"the moments do not spread: {sorted(set(counts))}")
+
+
+@case("kill -9 while a journal is opened and while it is made")
+def killed_early(room):
+    whole, path = Applied(room, 24).whole, os.path.join(room, "books.journal")
+    for moment in range(20):
+        write(whole[:8] if moment % 2 else b"", path)
+        if moment % 2:
+            write(whole, path)
+        it = start(path, "apply" if moment % 2 else "init")
+        time.sleep(moment * 0.0005)
+        it.kill()
+        it.communicate()
+        if moment % 2:
+            same(whole, read(path), "opening changed the journal")
+        elif run(path, "init")[0] not in (0, 7):
+            raise AssertionError("init after a killed init")
+
+
+@case("a copy made while the journal grows opens, and has all that was answered before it")
+def copied(room):
+    path, draws, answered = init(room), random.Random(7), [0]
+    it = start(path, "apply")
+
+    def listen():
+        for _ in it.stdout:
+            answered[0] += 1
+
+    def send():
+        it.stdin.write(b"".join(ALL_LINES))
+        it.stdin.close()
+
+    helpers = [threading.Thread(target=listen), threading.Thread(target=send)]
+    for helper in helpers:
+        helper.start()
+    copies = []
+    while it.poll() is None and len(copies) < 60:
+        before = answered[0]
+        shutil.copyfile(path, os.path.join(room, f"copy.{len(copies)}"))
+        copies.append(before)
+        time.sleep(draws.uniform(0, 0.002))
+    it.wait(timeout=120)
+    for helper in helpers:
+        helper.join()
+    for number, before in enumerate(copies):
+        copy = os.path.join(room, f"copy.{number}")
+        same((0, b""), run(copy, "custodial")[::2], f"copy {number}")
+        kept = reckon.lines_of_journal(read(copy))
+        if len(kept) < before or kept != [line[:-1] for line in ALL_LINES[:len(kept)]]:
+            raise AssertionError(f"copy {number} has {len(kept)} commands, and {before} were answered")
+
+
+# Disks that are full
+
+def fill(room, path, **how):
+    """Applies all lines where they do not fit. Gives what they are and the replies before the disk was full."""
+    applied = Applied(room, len(ALL_LINES))
+    status, out, log = run(path, "apply", given=applied.lines, **how)
+    same((5, b"status 5 DiskFault\n"), (status, log))
+    return applied, out
+
+
+@case("a file size limit: status 5, and the same lines go on once there is room")
+def size_limit(room):
+    def limit():
+        signal.signal(signal.SIGXFSZ, signal.SIG_IGN)
+        resource.setrlimit(resource.RLIMIT_FSIZE, (4000, 4000))
+
+    path = init(room)
+    applied, out = fill(room, path, preexec_fn=limit)
+    applied.check_after_crash(path, out, "after the limit")
+
+
+@case("a full tmpfs of 16 kB: status 5, and the same lines go on once there is room")
+def full_disk(room):
+    disk = os.path.join(room, "disk")
+    os.mkdir(disk)
+    mount = ["mount", "-t", "tmpfs", "-o", "size=16k", "tmpfs", disk]
+    if os.geteuid() or subprocess.run(mount, capture_output=True).returncode:
+        raise Skipped("no mount is allowed here")
+    try:
+        path = init(disk)
+        write(b"x" * 11_500, disk, "filler")
+        applied, out = fill(room, path)
+        os.remove(os.path.join(disk, "filler"))
+        applied.check_after_crash(path, out, "after the full disk")
+    finally:
+        subprocess.run(["umount", disk], check=False)
+
+
+# Histories
+
+@case("40 random histories are answered as reckon.py answers them")
+def random_histories(room):
+    for seed in range(40):
+        lines, replies = histories.history(seed, 120)
+        same((0, replies, b""), run("j", "session", given=lines), f"seed {seed}")
+
+
+@case("10 random histories over a journal, in three runs each, leave the bytes of one run")
+def random_journals(room):
+    for seed in range(100, 110):
+        lines, replies = histories.history(seed, 80)
+        one, three = init(room, f"one.{seed}"), init(room, f"three.{seed}")
+        same((0, replies, b""), run(one, "apply", given=lines), f"seed {seed}")
+        pieces, got = lines.splitlines(keepends=True), b""
+        for at in range(0, len(pieces), 30):
+            got += run(three, "apply", given=b"".join(pieces[at:at + 30]))[1]
+        same(replies, got, f"seed {seed}, three runs")
+        same(read(one), read(three), f"seed {seed}, the journals")
+
+
+@case("drill: a year of three loans is that of reckon.py")
+def drilled(room):
+    for number in (0, 7):
+        same((0, histories.drill_text(3, number), b""), run("j", "drill", "3", str(number), cwd=room), number)
+    same([], os.listdir(room), "files")
+
+
+@case("documents: each file that the walk of one payment names is there")
+def walked(room):
+    text = read(TOP, "docs", "ARCHITECTURE.md").decode().split("## One payment")[1]
+    for line in text.splitlines():
+        folder = ""
+        for name in re.findall(r"`([a-z_]+(?:/src)?(?:/[a-z_]+)?(?:\.rt|/src))`", line.split("|")[-2] if "|" in line else ""):
+            folder = os.path.dirname(name) if name.endswith(".rt") and "/" in name else folder
+            path = name if "/" in name else f"{folder}/{name}"
+            if not os.path.exists(os.path.join(TOP, "crates", path)):
+                raise AssertionError(path)
+
+
+if __name__ == "__main__":
+    sys.exit(run_all(sys.argv[1:]))
