@@ -1,0 +1,13 @@
+pub mod Renumbering
+pub mod ShownLoans
+pub mod ShownChanges
+pub mod StepShown
+pub mod ShownRefusals
+pub mod LeastMonth
+pub mod Timely
+pub mod PartPlaces
+pub mod PartWalk
+pub mod PartTheorem
+pub mod SatisfiedLemmas
+pub mod ShownCash
+pub mod PassLemmas
