@@ -44,6 +44,7 @@ fn answer<D: Disk, M: Machine<D>, L: Ledger>(
     ensures disk { OnOk result (OnDisk D.images D.moment D.images_since disk.old disk.new
         (M.history machine.old).commands (M.history machine.new).commands []) }
     ensures ready { result ≢ Err Halt.DiskFault → M.ready machine.new disk.new }
+    ensures failed { result ≡ Err Halt.DiskFault → M.failed machine.new }
     ensures stopped { result ≡ Err Halt.DiskFault → HasRisen (D.faults disk.old) (D.faults disk.new) }
     ensures faults { D.faults disk.old ≤ D.faults disk.new }
 {
@@ -102,6 +103,7 @@ fn answer_one<D: Disk, M: Machine<D>, K: Sink, L: Ledger>(
         (K.held link.old) (K.held link.new) }
     ensures ready { result ≢ Outcome.Disk → M.ready machine.new disk.new }
     ensures broken { result ≡ Outcome.Broken → HasRisen (K.faults link.old) (K.faults link.new) }
+    ensures failed { result ≡ Outcome.Disk → M.failed machine.new }
     ensures stopped { result ≡ Outcome.Disk → HasRisen (D.faults disk.old) (D.faults disk.new) }
     ensures later { K.faults link.old ≤ K.faults link.new }
     ensures faults { D.faults disk.old ≤ D.faults disk.new }
@@ -143,6 +145,7 @@ fn answer_all<D: Disk, M: Machine<D>, K: Sink, L: Ledger>(
     ensures few { result.answered ≤ length asks.now }
     ensures ready { result.outcome ≢ Outcome.Disk → M.ready machine.new disk.new }
     ensures broken { result.outcome ≡ Outcome.Broken → HasRisen (K.faults link.old) (K.faults link.new) }
+    ensures failed { result.outcome ≡ Outcome.Disk → M.failed machine.new }
     ensures stopped { result.outcome ≡ Outcome.Disk → HasRisen (D.faults disk.old) (D.faults disk.new) }
     ensures later { K.faults link.old ≤ K.faults link.new }
     ensures faults { D.faults disk.old ≤ D.faults disk.new }
@@ -183,6 +186,7 @@ pub(crate) fn serve_piece<D: Disk, M: Machine<D>, K: Sink, L: Ledger>(
     ensures few { result.answered ≤ length piece.now }
     ensures ready { result.outcome ≢ Outcome.Disk → M.ready machine.new disk.new }
     ensures broken { result.outcome ≡ Outcome.Broken → HasRisen (K.faults link.old) (K.faults link.new) }
+    ensures failed { result.outcome ≡ Outcome.Disk → M.failed machine.new }
     ensures stopped { result.outcome ≡ Outcome.Disk → HasRisen (D.faults disk.old) (D.faults disk.new) }
     ensures later { K.faults link.old ≤ K.faults link.new }
     ensures faults { D.faults disk.old ≤ D.faults disk.new }

@@ -42,6 +42,7 @@ fn act<D: Disk, M: Machine<D>, L: Ledger>(
     ensures disk { OnOk result (OnDisk D.images D.moment D.images_since disk.old disk.new
         (M.history machine.old).commands (M.history machine.new).commands []) }
     ensures ready { result ≢ Err Halt.DiskFault → M.ready machine.new disk.new }
+    ensures failed { result ≡ Err Halt.DiskFault → M.failed machine.new }
     ensures stopped { result ≡ Err Halt.DiskFault → HasRisen (D.faults disk.old) (D.faults disk.new) }
     ensures faults { D.faults disk.old ≤ D.faults disk.new }
 {
@@ -96,6 +97,7 @@ fn tell<D: Disk, M: Machine<D>, L: Ledger>(
     ensures disk { OnOk result (OnDisk D.images D.moment D.images_since disk.old disk.new
         (M.history machine.old).commands (M.history machine.new).commands []) }
     ensures ready { result ≢ Err Halt.DiskFault → M.ready machine.new disk.new }
+    ensures failed { result ≡ Err Halt.DiskFault → M.failed machine.new }
     ensures stopped { result ≡ Err Halt.DiskFault → HasRisen (D.faults disk.old) (D.faults disk.new) }
     ensures faults { D.faults disk.old ≤ D.faults disk.new }
 {
@@ -127,6 +129,7 @@ pub(crate) fn reply<D: Disk, M: Machine<D>, L: Ledger>(
     ensures disk { OnOk result (OnDisk D.images D.moment D.images_since disk.old disk.new
         (M.history machine.old).commands (M.history machine.new).commands []) }
     ensures ready { result ≢ Err Halt.DiskFault → M.ready machine.new disk.new }
+    ensures failed { result ≡ Err Halt.DiskFault → M.failed machine.new }
     ensures stopped { result ≡ Err Halt.DiskFault → HasRisen (D.faults disk.old) (D.faults disk.new) }
     ensures faults { D.faults disk.old ≤ D.faults disk.new }
 {

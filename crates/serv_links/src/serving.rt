@@ -41,6 +41,7 @@ pub fn serve_link<D: Disk, M: Machine<D>, C: Link, L: Ledger>(
         (C.held link.old) (C.held link.new) }
     ensures few { number_in result ≤ link_limit }
     ensures ready { ¬ (IsDiskEnd result) → M.ready machine.new disk.new }
+    ensures failed { IsDiskEnd result → M.failed machine.new }
     ensures stopped { IsDiskEnd result → HasRisen (D.faults disk.old) (D.faults disk.new) }
     ensures faults { D.faults disk.old ≤ D.faults disk.new }
     ensures read_later { C.Source.faults link.old ≤ C.Source.faults link.new }

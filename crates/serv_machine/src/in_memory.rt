@@ -17,6 +17,8 @@ impl Machine<Nowhere> for Core<Checked> {
 
     ghost ready = { λ _ _. Unit {0} };
 
+    ghost failed = { λ _. ⊥ };
+
     fn act<L: Ledger>(
         &mut self,
         _: &mut Nowhere,

@@ -31,6 +31,9 @@ pub trait Machine<D: Disk> {
     /// The disk has the history, and no call of it has failed.
     ghost ready: { Self → D → Type 0 };
 
+    /// A call of the disk has failed, and no further command is taken.
+    ghost failed: { Self → Type 0 };
+
     /// Acts on a command, and replies to it: with the reply that was kept for its key, or, where it is fresh
     /// and there is room for it, as the next command of the history. It is on the disk then.
     fn act<L: Ledger>(
@@ -54,6 +57,7 @@ pub trait Machine<D: Disk> {
             (history self.old).commands (history self.new).commands
             (pending_at (accepted key.now command.now) result) }
         ensures ready { result ≢ Err ActFault.DiskFault → ready self.new disk.new }
+        ensures failed { result ≡ Err ActFault.DiskFault → failed self.new }
         ensures faults { D.faults disk.old ≤ D.faults disk.new }
         ensures steps { steps.new ≤ steps.old
             + step_bound (history self.old).commands key.now command.now };

@@ -29,7 +29,7 @@ fn act_fault(fault: EngineFault) -> ActFault
 }
 
 impl<D: Disk> Machine<D> for Engine<Checked> {
-    ghost use Rattle.std.specs.Prelude.{◌≡◌, false};
+    ghost use Rattle.std.specs.Prelude.{◌≡◌, false, true};
     ghost use Rattle.serv_journal.specs.declared.format.Version.TheVariants.{Two};
     ghost use Rattle.serv_engine.specs.Engines.{IsDurable};
     ghost use Rattle.serv_machine.specs.Engines.{history_of};
@@ -38,6 +38,8 @@ impl<D: Disk> Machine<D> for Engine<Checked> {
     ghost history = { history_of };
 
     ghost ready = { λ e d. (e.journal.spent ≡ false) × (e.journal.version ≡ Two) × IsDurable (D.images d) e };
+
+    ghost failed = { λ e. e.journal.spent ≡ true };
 
     fn act<L: Ledger>(
         &mut self,

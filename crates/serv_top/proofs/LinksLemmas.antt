@@ -1,7 +1,7 @@
 -- Links that are served over a journal.
-use Rattle.std.proofs.Common.{◌≡◌, ◌⊎◌, ℕ, ◌-◌, ◌<◌, ◌≤◌, List, [], ◌∷◌, ◌++◌, length, refl, sym, ap, subst, ◌∙◌, inl, inr, ⊎_elim, arith, length-append}
-use Rattle.std.specs.Prelude.{Option, Some, None}
-use Rattle.std.specs.Io.KnownBytes.{Appends, Consumes}
+use Rattle.std.proofs.Common.{◌≡◌, ◌⊎◌, ℕ, ◌-◌, ◌<◌, List, [], ◌∷◌, ◌++◌, length, refl, sym, ap, subst, ◌∙◌, inl, inr, ⊎_elim, arith}
+use Rattle.std.specs.Prelude.{Option, Some}
+use Rattle.std.specs.Io.KnownBytes.{Appends}
 use Rattle.std.proofs.KnownBytes.{Appends-nil}
 use Rattle.svc_world.specs.World.{Accepted}
 use Rattle.svc_world.specs.Judging.{IsHistory}
@@ -11,7 +11,6 @@ use Rattle.serv_engine.specs.Histories.{lengths_of, IsGoodFound}
 use Rattle.serv_engine.specs.Engines.{EngineState}
 use Rattle.serv_machine.specs.History.{History}
 use Rattle.serv_machine.specs.Engines.{history_of}
-use Rattle.serv_machine.specs.OnDisk.{OnDisk}
 use Rattle.serv_links.specs.declared.doors.DoorsEnd.{DoorsEnd}
 use Rattle.serv_links.specs.declared.doors.DoorsEnd.TheVariants as doors_end
 use Rattle.serv_links.specs.declared.link_end.LinkEnd.{LinkEnd}
@@ -21,9 +20,9 @@ use Rattle.serv_links.specs.declared.outcome.Outcome.TheVariants as outcome
 use Rattle.serv_links.specs.declared.summary.Summary.{Summary}
 use Rattle.serv_links.specs.Meanings.{Meaning, Asks, Faulty}
 use Rattle.serv_links.specs.Responses as links
-use Rattle.serv_links.specs.Outcomes.{IsAnswered, IsCutOff, IsOne, IsStopped, IsTriedAs, Writes}
+use Rattle.serv_links.specs.Outcomes.{IsAnswered, IsCutOff, IsOne, IsStopped, IsTriedAs}
 use Rattle.serv_links.specs.Links.{IsDiskEnd, IsServed, IsStarved, Serves, link_limit}
-use Rattle.serv_links.specs.Doors.{AreServed, HasServed, IsDoorsEnd, IsSummary, OneServed, ServedLink, ServesDoors, text_of_summary}
+use Rattle.serv_links.specs.Doors.{AreServed, IsDoorsEnd, IsSummary, OneServed, ServedLink, ServesDoors, text_of_summary}
 use Rattle.serv_top.specs.declared.status.Status.{Status}
 use Rattle.serv_top.specs.declared.status.Status.TheVariants as status
 use Rattle.serv_top.specs.Machine.{Stand, stand}

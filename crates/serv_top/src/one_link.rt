@@ -1,7 +1,8 @@
 //! A link that is served over the engine.
 
-ghost use Rattle.std.specs.Prelude.{◌≡◌, ◌≤◌, ◌<◌, ◌⊎◌, ◌×◌, ℕ, List, Some, length, true, false};
+ghost use Rattle.std.specs.Prelude.{◌≡◌, ◌≤◌, ◌<◌, ◌⊎◌, ◌↔◌, ℕ, List, Some, length, true, false};
 ghost use Rattle.serv_disk.specs.Faults.{HasRisen};
+ghost use Rattle.serv_journal.specs.declared.format.Version.TheVariants.{Two};
 ghost use Rattle.serv_engine.specs.Engines.{IsDurable};
 ghost use Rattle.serv_machine.specs.Engines.{history_of};
 ghost use Rattle.serv_links.specs.Responses.{stand};
@@ -26,6 +27,7 @@ pub fn serve_one<D: Disk, C: Link, L: Ledger>(
     steps: &mut Steps<L>,
 ) -> LinkEnd
     requires unspent { engine.old.journal.spent ≡ false }
+    requires version { engine.old.journal.version ≡ Two }
     requires durable { IsDurable (D.images disk.old) engine.old }
     // What was taken, acted on and written, with what a crash leaves on the disk now and at each moment.
     ensures served { Writes D.images D.moment D.images_since disk.old disk.new
@@ -35,8 +37,8 @@ pub fn serve_one<D: Disk, C: Link, L: Ledger>(
         engine.old.history engine.new.history (C.held link.old) (C.held link.new) }
     ensures few { number_in result ≤ link_limit }
     ensures disk { IsDiskEnd result → HasRisen (D.faults disk.old) (D.faults disk.new) }
-    // But for a fault of the disk the engine can be used on.
-    ensures unspent { ¬ (IsDiskEnd result) → engine.new.journal.spent ≡ false }
+    // The engine is spent exactly where the disk failed, and can be used on otherwise.
+    ensures spent { IsDiskEnd result ↔ (engine.new.journal.spent ≡ true) }
     ensures durable { ¬ (IsDiskEnd result) → IsDurable (D.images disk.new) engine.new }
     ensures disk_later { D.faults disk.old ≤ D.faults disk.new }
     ensures read_later { C.Source.faults link.old ≤ C.Source.faults link.new }

@@ -1,4 +1,4 @@
-use Rattle.std.proofs.Common.{refl, sym, ap, subst, arith}
+use Rattle.std.proofs.Common.{[], refl, ap}
 use Rattle.std.proofs.KnownBytes.{Appends-nil}
 use Rattle.serv_top.specs.Machine.{stand}
 use Rattle.serv_top.proofs.LinksLemmas.{ended, counts_written}

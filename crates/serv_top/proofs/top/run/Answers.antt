@@ -1,4 +1,5 @@
 use Rattle.serv_top.proofs.ImportLemmas.{complete_import}
+use Rattle.serv_top.proofs.LinksLemmas.{complete_served}
 use Rattle.serv_top.proofs.ShownLemmas.{complete_shown}
 use Rattle.serv_top.proofs.Applied.{complete_run}
 use Rattle.serv_top.proofs.top.run.Goals as goal
@@ -25,3 +26,9 @@ returns-in-Some-Import-clause-complete_import g c = λ input s h a left short to
     complete_import g.D.Disk.seen g.D.Disk.images g.D.Disk.moment g.D.Disk.images_since g.D.Disk.faults c.args.disk.now c.import.new.disk c.import.result c.args.steps.now c.import.new.steps
     _ _ _ _ input s h a left short told is_history (good s (g.met.D.Disk.reads_image c.args.disk.now s told)) (λ is. reads (c.import.ensures.read is)) (λ is. writes (c.import.ensures.write is))
     (λ is. disks (c.import.ensures.disk is)) disks c.import.ensures.imported
+
+pub returns-in-Some-Serve-clause-complete_serve : goal.returns-in-Some-Serve-clause-complete_serve
+returns-in-Some-Serve-clause-complete_serve g c = λ port most s h a told is_history good writes disks nets task.
+    complete_served g.D.Disk.seen g.D.Disk.images g.D.Disk.moment g.D.Disk.images_since g.D.Disk.faults c.args.disk.now c.serve_over.new.disk _ c.serve_over.result c.in-Some-Serve.most c.args.steps.now c.serve_over.new.steps
+    _ _ _ _ _ _ s h a told is_history (good s (g.met.D.Disk.reads_image c.args.disk.now s told)) (λ is. writes (c.serve_over.ensures.write is)) (λ is. disks (c.serve_over.ensures.disk is))
+    (λ is. nets (c.serve_over.ensures.net is)) disks c.serve_over.ensures.served
