@@ -99,6 +99,22 @@ fn run_given(alloc: Global, given: &Given) -> Result<Ending, Fail> {
     run_over::<Brand>(alloc, Blank::new(1), given)
 }
 
+/// Runs `j` and the word over a journal, with lines or a file.
+fn run_over_journal<'a>(
+    alloc: Global,
+    word: &'a str,
+    journal: &'a [u8],
+    input: &'a [u8],
+) -> Result<Ending, Fail> {
+    let given = Given {
+        word,
+        journal,
+        input,
+        ..SESSION
+    };
+    run_given(alloc, &given)
+}
+
 /// A run with its expected status, output and rest.
 #[derive(Clone, Copy)]
 struct Case<'a> {

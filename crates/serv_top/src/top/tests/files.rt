@@ -1,16 +1,10 @@
 //! Files that are imported: rows that ask nothing, and runs that end early.
 
-use super::{APPLY, Given, case_of, check_cases, run_given};
+use super::{Ending, Given, NEW_JOURNAL, run_given, run_over_journal};
 use crate::Status;
 use std::alloc::Global;
 use std::process::Abort;
 use std::test::Fail;
-
-/// Files over a journal without a command.
-const IMPORT: Given<'static> = Given {
-    word: "import",
-    ..APPLY
-};
 
 /// A file, and the replies to it where no loan is there.
 const ROWS: [(&[u8], &[u8]); 5] = [
@@ -34,9 +28,10 @@ const ROWS: [(&[u8], &[u8]); 5] = [
 
 #[test]
 fn rows_that_ask_nothing_are_answered(rt: HostRuntime) -> Result<(), Fail> {
-    for (input, output) in ROWS {
-        let case = case_of(Given { input, ..IMPORT }, Status::Done, output);
-        check_cases(&rt, &[case])?;
+    for (number, (file, output)) in ROWS.iter().enumerate() {
+        let end = run_over_journal(rt.alloc(), "import", NEW_JOURNAL, file)?;
+        assert_eq!(rt; end.status, Status::Done, "file {number}");
+        assert_eq!(rt; end.output.as_slice(), *output, "file {number}");
     }
     Ok(())
 }
@@ -48,10 +43,10 @@ k3 board 2 2023-12-15 200000.00 6000 250 1199.10 360 2024-02 15 500 2 0.00 SS
 ";
 
 /// A file in which each of them pays.
-const PAYMENTS: Given<'static> = Given {
-    input: b"key,do,loan,day,amount,line\nf1,pay,1,2024-02-01,1199.10,\nf2,pay,2,2024-02-01,1199.10,\n",
-    ..IMPORT
-};
+const PAYMENTS: &[u8] = b"key,do,loan,day,amount,line
+f1,pay,1,2024-02-01,1199.10,
+f2,pay,2,2024-02-01,1199.10,
+";
 
 /// The replies to it.
 const REPLIES: &[u8] = b"ok 4\nok 5\n";
@@ -62,54 +57,50 @@ const CUSTODY: &[u8] =
 
 /// The journal of the two loans.
 fn two_loans(alloc: Global) -> Result<Vec<u8>, Fail> {
-    let given = Given {
-        input: LOANS,
-        ..APPLY
-    };
-    Ok(run_given(alloc, &given)?.journal)
+    let end = run_over_journal(alloc, "apply", NEW_JOURNAL, LOANS)?;
+    Ok(end.journal)
 }
 
-/// The import ends so; then the file comes again, and each row has acted once.
+/// The calls of the disk, the reads and the writes that fail.
+type Faults<'a> = (&'a [u32], &'a [u32], &'a [u32]);
+
+/// Imports a file over a journal.
+fn import<'a>(
+    alloc: Global,
+    journal: &'a [u8],
+    input: &'a [u8],
+    (calls, reads, writes): Faults<'a>,
+) -> Result<Ending, Fail> {
+    let given = Given {
+        word: "import",
+        journal,
+        calls,
+        input,
+        reads,
+        writes,
+    };
+    run_given(alloc, &given)
+}
+
+/// The import ended so; then the file comes again, and each row has acted once.
 fn comes_again(
     rt: &(impl Abort + AllocGlobal),
-    given: &Given,
+    first: &Ending,
     status: Status,
     output: &[u8],
+    number: usize,
 ) -> Result<(), Fail> {
-    let (reads, writes, calls) = (given.reads, given.writes, given.calls);
-    let end = run_given(rt.alloc(), given)?;
-    assert_eq!(rt; end.status, status, "{reads:?} {writes:?} {calls:?}");
-    assert_eq!(rt;
-        end.output.as_slice(),
-        output,
-        "{reads:?} {writes:?} {calls:?}"
-    );
-    let again = Given {
-        journal: &end.journal,
-        ..PAYMENTS
-    };
-    let end = run_given(rt.alloc(), &again)?;
-    assert_eq!(rt; end.status, Status::Done, "{reads:?} {writes:?} {calls:?}");
-    assert_eq!(rt;
-        end.output.as_slice(),
-        REPLIES,
-        "{reads:?} {writes:?} {calls:?}"
-    );
-    let custodial = Given {
-        word: "custodial",
-        journal: &end.journal,
-        ..APPLY
-    };
-    let end = run_given(rt.alloc(), &custodial)?;
-    assert_eq!(rt;
-        end.output.as_slice(),
-        CUSTODY,
-        "{reads:?} {writes:?} {calls:?}"
-    );
+    assert_eq!(rt; first.status, status, "case {number}");
+    assert_eq!(rt; first.output.as_slice(), output, "case {number}");
+    let again = run_over_journal(rt.alloc(), "import", &first.journal, PAYMENTS)?;
+    assert_eq!(rt; again.status, Status::Done, "case {number}");
+    assert_eq!(rt; again.output.as_slice(), REPLIES, "case {number}");
+    let custody = run_over_journal(rt.alloc(), "custodial", &again.journal, b"")?;
+    assert_eq!(rt; custody.output.as_slice(), CUSTODY, "case {number}");
     Ok(())
 }
 
-/// Reads or writes that fail.
+/// Reads and writes that fail.
 const FAULTS: [(&[u32], &[u32], Status, &[u8]); 5] = [
     (&[1], &[], Status::ReadFault, b""),
     (&[2], &[], Status::ReadFault, b""),
@@ -121,14 +112,9 @@ const FAULTS: [(&[u32], &[u32], Status, &[u8]); 5] = [
 #[test]
 fn a_file_goes_on_after_a_read_or_a_write_that_failed(rt: HostRuntime) -> Result<(), Fail> {
     let journal = two_loans(rt.alloc())?;
-    for (reads, writes, status, output) in FAULTS {
-        let given = Given {
-            journal: &journal,
-            reads,
-            writes,
-            ..PAYMENTS
-        };
-        comes_again(&rt, &given, status, output)?;
+    for (number, (reads, writes, status, output)) in FAULTS.iter().enumerate() {
+        let end = import(rt.alloc(), &journal, PAYMENTS, (&[], reads, writes))?;
+        comes_again(&rt, &end, *status, output, number)?;
     }
     Ok(())
 }
@@ -136,12 +122,8 @@ fn a_file_goes_on_after_a_read_or_a_write_that_failed(rt: HostRuntime) -> Result
 /// The first call of the disk that an import of no row does not make.
 fn calls_of_opening(alloc: Global, journal: &[u8]) -> Result<u32, Fail> {
     for call in 1..100 {
-        let given = Given {
-            journal,
-            calls: &[call],
-            ..IMPORT
-        };
-        if run_given(alloc, &given)?.status == Status::Done {
+        let end = import(alloc, journal, b"", (&[call], &[], &[]))?;
+        if end.status == Status::Done {
             return Ok(call);
         }
     }
@@ -161,13 +143,8 @@ fn a_file_goes_on_after_any_call_of_the_disk_that_failed(rt: HostRuntime) -> Res
             12..=15 => (Status::DiskFault, b"ok 4\n"),
             _ => (Status::Done, REPLIES),
         };
-        let calls = &[call];
-        let given = Given {
-            journal: &journal,
-            calls,
-            ..PAYMENTS
-        };
-        comes_again(&rt, &given, status, output)?;
+        let end = import(rt.alloc(), &journal, PAYMENTS, (&[call], &[], &[]))?;
+        comes_again(&rt, &end, status, output, call as usize)?;
     }
     Ok(())
 }

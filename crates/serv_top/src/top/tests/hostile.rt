@@ -1,7 +1,7 @@
 //! Hostile lines and journals.
 
 use super::journals::{ONE_LINE, changed};
-use super::{APPLY, Exchange, Given, LINE, SESSION, Talk, check, run_given};
+use super::{Exchange, LINE, Talk, check, run_over_journal};
 use crate::Status;
 use std::alloc::{AllocError, Global};
 use std::process::Abort;
@@ -156,32 +156,36 @@ fn opened_with(at: usize, value: u8) -> Status {
     }
 }
 
+/// What is left of it where it is refused. A length of 1 ends the record at a byte that is no open gate, and
+/// that byte is made 0.
+fn left_of(alloc: Global, journal: &[u8], at: usize, value: u8) -> Result<Vec<u8>, AllocError> {
+    match (at, value) {
+        (14, 1) => changed(alloc, journal, 16, 0),
+        _ => journal.to_vec(alloc),
+    }
+}
+
 /// A byte of a journal of one line is changed, and the line is applied.
 fn with_a_byte_changed(rt: &(impl Abort + AllocGlobal), at: usize, value: u8) -> Result<(), Fail> {
     let journal = changed(rt.alloc(), ONE_LINE, at, value)?;
-    let given = Given {
-        journal: &journal,
-        input: LINE,
-        ..APPLY
-    };
-    let end = run_given(rt.alloc(), &given)?;
+    let end = run_over_journal(rt.alloc(), "apply", &journal, LINE)?;
     assert_eq!(rt; end.status, opened_with(at, value), "byte {at} is {value}");
-    // A length of 1 ends the record at a byte that is no open gate, and that byte is made 0.
-    let left = match (end.status, at, value) {
-        (Status::Done, _, _) => ONE_LINE.to_vec(rt.alloc())?,
-        (_, 14, 1) => changed(rt.alloc(), &journal, 16, 0)?,
-        _ => journal,
-    };
+    if end.status == Status::Done {
+        assert_eq!(rt;
+            end.output.as_slice(),
+            b"ok 1\n".as_slice(),
+            "byte {at} is {value}"
+        );
+        assert_eq!(rt; end.journal.as_slice(), ONE_LINE, "byte {at} is {value}");
+        return Ok(());
+    }
+    assert_eq!(rt; end.output.len(), 0, "byte {at} is {value}");
+    let left = left_of(rt.alloc(), &journal, at, value)?;
     assert_eq!(rt;
         end.journal.as_slice(),
         left.as_slice(),
         "byte {at} is {value}"
     );
-    let output: &[u8] = match end.status {
-        Status::Done => b"ok 1\n",
-        _ => b"",
-    };
-    assert_eq!(rt; end.output.as_slice(), output, "byte {at} is {value}");
     Ok(())
 }
 
@@ -195,8 +199,8 @@ fn any_byte_of_a_journal_may_change(rt: HostRuntime) -> Result<(), Fail> {
     Ok(())
 }
 
-/// The front of a journal behind which 300 random bytes stand, the greatest of them, and the place of the damage
-/// for each of 16 seeds; or 0, where the journal opens.
+/// The front of a journal behind which 300 random bytes stand, the greatest of them, and the place of the
+/// damage for each of 16 seeds; or 0, where the journal opens.
 const RANDOM: [(&[u8], u8, [u64; 16]); 12] = [
     (b"MSRVJ002", 255, [0; 16]),
     (b"MSRVJ001", 255, [0; 16]),
@@ -253,32 +257,24 @@ fn drawn(alloc: Global, front: &[u8], seed: u64, greatest: u8) -> Result<Vec<u8>
     Ok(bytes)
 }
 
-/// A line is applied to a journal, twice where it opens: that one is not damaged then.
+/// A line is applied to a journal that is damaged at a place; or, where that is 0, opens, twice then.
 fn opens_or_not(
     rt: &(impl Abort + AllocGlobal),
     journal: &[u8],
     place: u64,
     name: (usize, u64),
 ) -> Result<(), Fail> {
-    let given = Given {
-        journal,
-        input: LINE,
-        ..APPLY
-    };
-    let end = run_given(rt.alloc(), &given)?;
+    let end = run_over_journal(rt.alloc(), "apply", journal, LINE)?;
     if place > 0 {
         assert_eq!(rt; end.status, Status::Damaged(place), "{name:?}");
         assert_eq!(rt; end.output.len(), 0, "{name:?}");
         return Ok(());
     }
-    let again = Given {
-        journal: &end.journal,
-        ..given
-    };
-    for end in [&end, &run_given(rt.alloc(), &again)?] {
-        assert_eq!(rt; end.status, Status::Done, "{name:?}");
-        assert_eq!(rt; end.output.as_slice(), b"ok 1\n".as_slice(), "{name:?}");
-    }
+    assert_eq!(rt; end.status, Status::Done, "{name:?}");
+    assert_eq!(rt; end.output.as_slice(), b"ok 1\n".as_slice(), "{name:?}");
+    let again = run_over_journal(rt.alloc(), "apply", &end.journal, LINE)?;
+    assert_eq!(rt; again.status, Status::Done, "{name:?}");
+    assert_eq!(rt; again.output.as_slice(), b"ok 1\n".as_slice(), "{name:?}");
     Ok(())
 }
 

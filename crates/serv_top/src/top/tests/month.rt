@@ -1,8 +1,7 @@
 //! A month of forty loans, by lines and by files.
 
-use super::{Exchange, NEW_JOURNAL, SESSION, Talk, run_given};
+use super::{Exchange, NEW_JOURNAL, Talk, run_over_journal};
 use crate::Status;
-use crate::top::tests::Given;
 use std::alloc::{AllocError, Global};
 use std::process::Abort;
 use std::test::Fail;
@@ -140,13 +139,7 @@ fn a_month_of_forty_loans(rt: HostRuntime) -> Result<(), Fail> {
 fn check_runs(rt: &(impl Abort + AllocGlobal), runs: &[(&str, &Talk)]) -> Result<(), Fail> {
     let mut journal = NEW_JOURNAL.to_vec(rt.alloc())?;
     for (i, (word, talk)) in runs.iter().enumerate() {
-        let given = Given {
-            word,
-            journal: &journal,
-            input: &talk.input,
-            ..SESSION
-        };
-        let end = run_given(rt.alloc(), &given)?;
+        let end = run_over_journal(rt.alloc(), word, &journal, &talk.input)?;
         assert_eq!(rt; end.status, Status::Done, "run {i}");
         let output = String::from_utf8_lossy(rt.alloc(), &end.output)?;
         let expected = String::from_utf8_lossy(rt.alloc(), &talk.replies)?;

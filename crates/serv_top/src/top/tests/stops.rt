@@ -203,8 +203,8 @@ fn any_call_that_fails_ends_the_run_with_the_replies_before_it(
     Ok(())
 }
 
-/// Where a request for memory is refused (`rt try --test --fail-alloc N`), here or in the run, the run ends so, and
-/// the lines that are applied again give all replies.
+/// Where a request for memory is refused (`rt try --test --fail-alloc N`), here or in the run, the run ends so,
+/// and the lines that are applied again give all replies.
 #[test]
 fn a_run_that_lacked_memory_is_made_good(rt: HostRuntime) -> Result<(), Fail> {
     let alloc = rt.alloc();
