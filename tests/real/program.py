@@ -455,6 +455,15 @@ def drilled(room):
     same([], os.listdir(room), "files")
 
 
+@case("documents: each line of FORMATS.md that is no request is answered with its place")
+def places(room):
+    rows = re.findall(r"^\| `([^`|]+)`(?: \([^|]*\))? \| `(bad \d+)` \|$", read(TOP, "docs", "FORMATS.md").decode(), re.M)
+    if len(rows) < 6:
+        raise AssertionError(f"{len(rows)} rows")
+    given = "".join(line + "\n" for line, _ in rows).encode()
+    same((0, "".join(reply + "\n" for _, reply in rows).encode(), b""), run("j", "session", given=given))
+
+
 @case("documents: each file that the walk of one payment names is there")
 def walked(room):
     text = read(TOP, "docs", "ARCHITECTURE.md").decode().split("## One payment")[1]
