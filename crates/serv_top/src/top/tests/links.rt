@@ -146,80 +146,87 @@ fn check(rt: &(impl Abort + AllocGlobal), case: &Case, number: usize) -> Result<
     Ok(())
 }
 
+/// A link that asks for the day, and can be told nothing.
+const UNHEARD: Peer<'static> = Peer {
+    writes: &[1],
+    said: b"",
+    ..ASKING
+};
+
+/// A link that has sent half a head where its second read fails.
+const BROKEN: Peer<'static> = Peer {
+    bytes: b"POST /v1/comm",
+    reads: &[2],
+    said: b"",
+    ..ASKING
+};
+
+/// A link that asks for the day where the disk fails.
+const FAILING: Peer<'static> = Peer {
+    said: FAILED,
+    ..ASKING
+};
+
+/// One link comes, and no more.
+const ONE: Case<'static> = Case {
+    given: TEN,
+    peers: &[ASKING],
+    doors: &[],
+    status: Status::Done,
+    output: b"served 1 requests 1 broken 0 cut 0 memory 0\n",
+    journal: ONE_LINE,
+};
+
+const CASES: [Case<'static>; 7] = [
+    ONE,
+    // As many as were asked for.
+    Case {
+        given: Given { links: "1", ..TEN },
+        ..ONE
+    },
+    // The first one's command was accepted, and the second one gets the kept reply.
+    Case {
+        peers: &[UNHEARD, ASKING],
+        output: b"served 2 requests 1 broken 1 cut 0 memory 0\n",
+        ..ONE
+    },
+    Case {
+        peers: &[BROKEN],
+        output: b"served 1 requests 0 broken 1 cut 0 memory 0\n",
+        journal: NEW_JOURNAL,
+        ..ONE
+    },
+    // The doors fail at the second link.
+    Case {
+        doors: &[2],
+        status: Status::NetFault,
+        output: b"",
+        ..ONE
+    },
+    // The sink fails.
+    Case {
+        given: Given {
+            writes: &[1],
+            ..TEN
+        },
+        status: Status::WriteFault,
+        output: b"",
+        ..ONE
+    },
+    // The first call of the append fails.
+    Case {
+        given: Given { calls: &[4], ..TEN },
+        peers: &[FAILING, ASKING],
+        status: Status::DiskFault,
+        output: b"",
+        journal: CLOSED,
+        ..ONE
+    },
+];
+
 #[test]
 fn links_are_served_and_counted(rt: HostRuntime) -> Result<(), Fail> {
-    let served = Case {
-        given: TEN,
-        peers: &[ASKING],
-        doors: &[],
-        status: Status::Done,
-        output: b"served 1 requests 1 broken 0 cut 0 memory 0\n",
-        journal: ONE_LINE,
-    };
-    let unheard = Peer {
-        writes: &[1],
-        said: b"",
-        ..ASKING
-    };
-    // It has sent half a head where its second read fails.
-    let broken = Peer {
-        bytes: b"POST /v1/comm",
-        reads: &[2],
-        said: b"",
-        ..ASKING
-    };
-    let failing = Peer {
-        said: FAILED,
-        ..ASKING
-    };
-    let cases = [
-        // As many as were asked for.
-        Case {
-            given: Given { links: "1", ..TEN },
-            ..served
-        },
-        // No more come.
-        served,
-        // The first one's command was accepted, and the second one gets the kept reply.
-        Case {
-            peers: &[unheard, ASKING],
-            output: b"served 2 requests 1 broken 1 cut 0 memory 0\n",
-            ..served
-        },
-        Case {
-            peers: &[broken],
-            output: b"served 1 requests 0 broken 1 cut 0 memory 0\n",
-            journal: NEW_JOURNAL,
-            ..served
-        },
-        // The doors fail at the second link.
-        Case {
-            doors: &[2],
-            status: Status::NetFault,
-            output: b"",
-            ..served
-        },
-        // The sink fails.
-        Case {
-            given: Given {
-                writes: &[1],
-                ..TEN
-            },
-            status: Status::WriteFault,
-            output: b"",
-            ..served
-        },
-        // The first call of the append fails.
-        Case {
-            given: Given { calls: &[4], ..TEN },
-            peers: &[failing, ASKING],
-            status: Status::DiskFault,
-            output: b"",
-            journal: CLOSED,
-            ..served
-        },
-    ];
-    for (i, case) in cases.iter().enumerate() {
+    for (i, case) in CASES.iter().enumerate() {
         check(&rt, case, i)?;
     }
     Ok(())
