@@ -5,7 +5,8 @@
 
 A ratio is the program's time by the yardstick's, so that less is better; each pair is measured in turn, `--rounds N`
 times (3 if left out), and the ratio is the median's. `--small` takes a tenth of each workload, to see that all run.
-Times are of whole processes, start and end included, where nothing else is said; memory is the greatest resident
+Times are processor times of whole processes, start and end included, so that other work on the machine changes them
+little; of `apply` and `serve`, which wait for the disk, they are times on the clock. Memory is the greatest resident
 set of a run. Standard library alone; `JAQHENDULU` names another program than the one that `rt` built.
 """
 import os
@@ -51,26 +52,31 @@ def write_lines(path, lines, times=1):
     return count
 
 
-def timed(words, given=None, out=None):
-    """Runs the program: seconds and greatest resident set in MB."""
-    source = open(given, "rb") if given else subprocess.DEVNULL
-    sink = open(out, "wb") if out else subprocess.DEVNULL
-    began = time.perf_counter()
-    it = subprocess.Popen([program.find(), *words], stdin=source, stdout=sink)
-    _, status, used = os.wait4(it.pid, 0)
-    took = time.perf_counter() - began
-    it.returncode = os.waitstatus_to_exitcode(status)
-    if it.returncode:
-        sys.exit(f"{' '.join(words)} ended with status {it.returncode}")
-    return took, used.ru_maxrss / 1024
+class Run:
+    """A process run to its end: seconds on the clock and of the processor, and its greatest resident set in MB."""
+
+    def __init__(self, words, given=None, out=None):
+        source = open(given, "rb") if given else subprocess.DEVNULL
+        sink = open(out, "wb") if out else subprocess.DEVNULL
+        began = time.perf_counter()
+        it = subprocess.Popen(words, stdin=source, stdout=sink)
+        _, status, used = os.wait4(it.pid, 0)
+        self.clock = time.perf_counter() - began
+        self.processor = used.ru_utime + used.ru_stime
+        self.memory = used.ru_maxrss / 1024
+        it.returncode = os.waitstatus_to_exitcode(status)
+        if it.returncode:
+            sys.exit(f"{' '.join(words)} ended with status {it.returncode}")
+
+
+def ours(*words, given=None, out=None):
+    """Runs the program."""
+    return Run([program.find(), *words], given, out)
 
 
 def split_by_python(path):
-    """Seconds that Python takes to read a file and to split each of its lines at the spaces."""
-    with open(path, "rb") as given:
-        began = time.perf_counter()
-        subprocess.run([sys.executable, "-S", "-c", SPLIT], stdin=given, check=True)
-    return time.perf_counter() - began
+    """Runs Python, which reads a file and splits each of its lines at the spaces."""
+    return Run([sys.executable, "-S", "-c", SPLIT], path)
 
 
 class Row:
@@ -102,10 +108,10 @@ def session_row(room, loans, times, name):
     count = write_lines(path, generate.year(loans, 12, loans), times)
     runs, pairs = [], []
     for _ in range(rounds()):
-        runs.append(timed(["j", "session"], path, out))
-        pairs.append((runs[-1][0], split_by_python(path)))
+        runs.append(ours("j", "session", given=path, out=out))
+        pairs.append((runs[-1].processor, split_by_python(path).processor))
     check_replies(out, count * times)
-    return Row(f"{name}, {count * times:,} lines", "s", pairs, max(it[1] for it in runs), "at most 1.0")
+    return Row(f"{name}, {count * times:,} lines", "s", pairs, max(it.memory for it in runs), "at most 1.0")
 
 
 def session_small(room):
@@ -142,9 +148,9 @@ def apply_row(room):
     for turn in range(rounds()):
         with open(f"{room}/books.{turn}", "wb") as file:
             file.write(b"MSRVJ002\0")
-        took, used = timed([f"{room}/books.{turn}", "apply"], f"{room}/lines", f"{room}/replies")
-        pairs.append((took, bare_loop(f"{room}/bare.{turn}", [it.encode() for it in lines])))
-        memory = max(memory, used)
+        it = ours(f"{room}/books.{turn}", "apply", given=f"{room}/lines", out=f"{room}/replies")
+        pairs.append((it.clock, bare_loop(f"{room}/bare.{turn}", [it.encode() for it in lines])))
+        memory = max(memory, it.memory)
     check_replies(f"{room}/replies", count)
     return [Row(f"`apply`, {count:,} commands beside a bare loop of two writes and two syncs", "s", pairs, memory,
                 "at most 1.05")]
@@ -159,23 +165,29 @@ def opening_row(room):
     del lines
     runs, pairs = [], []
     for _ in range(rounds()):
-        runs.append(timed([f"{room}/books", "custodial"]))
-        pairs.append((runs[-1][0], split_by_python(f"{room}/lines")))
-    return [Row(f"opening a journal of {count:,} commands", "s", pairs, max(it[1] for it in runs), "at most 1.0")]
+        runs.append(ours(f"{room}/books", "custodial"))
+        pairs.append((runs[-1].processor, split_by_python(f"{room}/lines").processor))
+    return [Row(f"opening a journal of {count:,} commands", "s", pairs, max(it.memory for it in runs), "at most 1.0")]
+
+
+def processor_time(pid):
+    """Microseconds that a process has been on a processor."""
+    with open(f"/proc/{pid}/schedstat", encoding="ascii") as file:
+        return int(file.read().split()[0]) / 1000
 
 
 def microseconds(it, lines):
-    """Sends lines to a running `session` and gives the microseconds a line until the last reply is there."""
+    """Sends lines to a running `session` and gives the processor's microseconds a line until the last reply is there."""
     data = "".join(line + "\n" for line in lines).encode()
-    began = time.perf_counter()
+    began = processor_time(it.pid)
     it.stdin.write(data)
     it.stdin.flush()
     for _ in lines:
         reply = it.stdout.readline()
-    took = time.perf_counter() - began
+    took = processor_time(it.pid) - began
     if not reply.startswith(b"ok "):
         sys.exit(f"a late entry is answered {reply}")
-    return took / len(lines) * 1e6
+    return took / len(lines)
 
 
 def late_run(loans, count, each):
@@ -209,10 +221,10 @@ def drill_row(room):
     count = write_lines(f"{room}/lines", generate.year(loans, 12, loans), 2)
     runs, pairs = [], []
     for _ in range(rounds()):
-        runs.append(timed(["j", "drill", str(loans), "7"]))
-        pairs.append((runs[-1][0], split_by_python(f"{room}/lines")))
+        runs.append(ours("j", "drill", str(loans), "7"))
+        pairs.append((runs[-1].processor, split_by_python(f"{room}/lines").processor))
     return [Row(f"`drill {loans} 7` beside splitting {2 * count:,} lines of such a year", "s", pairs,
-                max(it[1] for it in runs))]
+                max(it.memory for it in runs))]
 
 
 def served(room, turn, lines):
@@ -246,7 +258,8 @@ def serve_row(room):
         with open(f"{room}/books.{turn}", "wb") as file:
             file.write(b"MSRVJ002\0")
         took, used = served(room, turn, lines)
-        pairs.append((took, timed([f"{room}/books.{turn}", "apply"], f"{room}/lines", f"{room}/replies")[0]))
+        beside = ours(f"{room}/books.{turn}", "apply", given=f"{room}/lines", out=f"{room}/replies")
+        pairs.append((took, beside.clock))
         memory = max(memory, used)
     return [Row(f"`serve` on one connection, {count:,} commands beside `apply`", "s", pairs, memory)]
 
