@@ -163,7 +163,8 @@ fn a_fault_of_the_link_breaks_it(rt: HostRuntime) -> Result<(), Fail> {
     assert_eq!(rt; served(alloc, &mut link)?, LinkEnd::Broken(1));
     assert_eq!(rt; link.content(), DAY_SAID);
     // So does it after half a head.
-    let mut link = link_of(alloc, &DAY[..30], &[2], &[])?;
+    let (half, _) = DAY.split_at(30);
+    let mut link = link_of(alloc, half, &[2], &[])?;
     assert_eq!(rt; served(alloc, &mut link)?, LinkEnd::Broken(0));
     assert_eq!(rt; link.content(), b"".as_slice());
     // The first write fails.

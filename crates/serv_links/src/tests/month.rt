@@ -130,7 +130,7 @@ fn a_month_of_forty_loans_in_pieces_of_one_byte(rt: HostRuntime) -> Result<(), F
     talk.add(alloc, 82, "\"do\":\"day\",\"day\":\"2024-03-05\"", "")?;
     add_payments(&mut talk, alloc, 82, 30, "2024-03-05")?;
     talk.add(alloc, 113, "\"do\":\"day\",\"day\":\"2024-04-01\"", "")?;
-    for (number, (word, month, found)) in (114..).zip(CLOSED) {
+    for (number, (word, month, found)) in (114..).zip(&CLOSED) {
         let members = format!(in alloc; "\"do\":\"{word}\",\"period\":\"{month}\"")?;
         talk.add(alloc, number, &members, found)?;
     }
