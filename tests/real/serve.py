@@ -165,19 +165,29 @@ HOSTILE = [
 ]
 
 
+def sent_in_pieces(link, given, size):
+    """What a connection answers, and whether all could be sent: a response that ends it may come before that."""
+    try:
+        for at in range(0, len(given), size):
+            link.sendall(given[at:at + size])
+        link.shutdown(socket.SHUT_WR)
+        return take_all(link), True
+    except OSError:
+        return b"", False
+    finally:
+        link.close()
+
+
 @case("serve: hostile requests, whole and byte by byte; none is acted on")
 def hostile(room):
     it = Served(room, 2 * len(HOSTILE))
     for given, status, ends in HOSTILE:
         for size in (len(given), 1):
-            link = it.plain()
-            for at in range(0, len(given), size):
-                link.sendall(given[at:at + size])
-            link.shutdown(socket.SHUT_WR)
             close = b"Connection: close\r\n" if ends else b""
             wanted = b"HTTP/1.1 " + status + b"\r\n" + close + b"Content-Length: 0\r\n\r\n"
-            same(wanted, take_all(link), given[:60])
-            link.close()
+            got, is_whole = sent_in_pieces(it.plain(), given, size)
+            if is_whole or got:
+                same(wanted, got, given[:60])
     it.ends(summary(2 * len(HOSTILE), 2 * len(HOSTILE)))
     same([], it.commands())
 
