@@ -22,7 +22,7 @@ use svc_core::Core;
 
 /// A day is asked for, twice; another day under its key; a path that is no route; a method that is not the
 /// route's.
-const EXCHANGE: &[u8] = b"POST /v1/commands HTTP/1.1\r\nHost: a\r\nContent-Length: 42\r\n\r\n\
+const EXCHANGE: &str = "POST /v1/commands HTTP/1.1\r\nHost: a\r\nContent-Length: 42\r\n\r\n\
     {\"key\":\"k1\",\"do\":\"day\",\"day\":\"2024-02-01\"}\
     POST /v1/commands HTTP/1.1\r\nHost: a\r\nContent-Length: 42\r\n\r\n\
     {\"key\":\"k1\",\"do\":\"day\",\"day\":\"2024-02-01\"}\
@@ -32,8 +32,7 @@ const EXCHANGE: &[u8] = b"POST /v1/commands HTTP/1.1\r\nHost: a\r\nContent-Lengt
     GET /v1/commands HTTP/1.1\r\n\r\n";
 
 /// What is said to it.
-const SAID: &[u8] =
-    b"HTTP/1.1 200 OK\r\nContent-Length: 35\r\nContent-Type: application/json\r\n\r\n\
+const SAID: &str = "HTTP/1.1 200 OK\r\nContent-Length: 35\r\nContent-Type: application/json\r\n\r\n\
     {\"code\":0,\"number\":1,\"text\":\"ok 1\"}\
     HTTP/1.1 200 OK\r\nContent-Length: 35\r\nContent-Type: application/json\r\n\r\n\
     {\"code\":0,\"number\":1,\"text\":\"ok 1\"}\
@@ -43,16 +42,16 @@ const SAID: &[u8] =
     HTTP/1.1 405 Method Not Allowed\r\nAllow: POST\r\nContent-Length: 0\r\n\r\n";
 
 /// A day is asked for, and what is said to it.
-const DAY: &[u8] = b"POST /v1/commands HTTP/1.1\r\nHost: a\r\nContent-Length: 42\r\n\r\n\
+const DAY: &str = "POST /v1/commands HTTP/1.1\r\nHost: a\r\nContent-Length: 42\r\n\r\n\
     {\"key\":\"k1\",\"do\":\"day\",\"day\":\"2024-02-01\"}";
 
-const DAY_SAID: &[u8] =
-    b"HTTP/1.1 200 OK\r\nContent-Length: 35\r\nContent-Type: application/json\r\n\r\n\
+const DAY_SAID: &str =
+    "HTTP/1.1 200 OK\r\nContent-Length: 35\r\nContent-Type: application/json\r\n\r\n\
     {\"code\":0,\"number\":1,\"text\":\"ok 1\"}";
 
 /// What is said where the disk fails.
-const FAILED: &[u8] =
-    b"HTTP/1.1 500 Internal Server Error\r\nConnection: close\r\nContent-Length: 0\r\n\r\n";
+const FAILED: &str =
+    "HTTP/1.1 500 Internal Server Error\r\nConnection: close\r\nContent-Length: 0\r\n\r\n";
 
 /// Serves a link over books in memory that begin with nothing.
 fn served_over<L: Ledger, C: Link>(
@@ -140,18 +139,18 @@ fn link_of(
 #[test]
 fn requests_are_answered_in_order(rt: HostRuntime) -> Result<(), Fail> {
     let alloc = rt.alloc();
-    let mut link = link_of(alloc, EXCHANGE, &[], &[])?;
+    let mut link = link_of(alloc, EXCHANGE.as_bytes(), &[], &[])?;
     assert_eq!(rt; served(alloc, &mut link)?, LinkEnd::Ended(5));
-    assert_eq!(rt; link.content(), SAID);
+    assert_eq!(rt; link.content(), SAID.as_bytes());
     Ok(())
 }
 
 #[test]
 fn pieces_do_not_matter(rt: HostRuntime) -> Result<(), Fail> {
     let alloc = rt.alloc();
-    let mut link = Pieces::new(link_of(alloc, EXCHANGE, &[], &[])?);
+    let mut link = Pieces::new(link_of(alloc, EXCHANGE.as_bytes(), &[], &[])?);
     assert_eq!(rt; served(alloc, &mut link)?, LinkEnd::Ended(5));
-    assert_eq!(rt; link.content(), SAID);
+    assert_eq!(rt; link.content(), SAID.as_bytes());
     Ok(())
 }
 
@@ -159,16 +158,16 @@ fn pieces_do_not_matter(rt: HostRuntime) -> Result<(), Fail> {
 fn a_fault_of_the_link_breaks_it(rt: HostRuntime) -> Result<(), Fail> {
     let alloc = rt.alloc();
     // The second read fails.
-    let mut link = link_of(alloc, DAY, &[2], &[])?;
+    let mut link = link_of(alloc, DAY.as_bytes(), &[2], &[])?;
     assert_eq!(rt; served(alloc, &mut link)?, LinkEnd::Broken(1));
-    assert_eq!(rt; link.content(), DAY_SAID);
+    assert_eq!(rt; link.content(), DAY_SAID.as_bytes());
     // So does it after half a head.
-    let (half, _) = DAY.split_at(30);
+    let (half, _) = DAY.as_bytes().split_at(30);
     let mut link = link_of(alloc, half, &[2], &[])?;
     assert_eq!(rt; served(alloc, &mut link)?, LinkEnd::Broken(0));
     assert_eq!(rt; link.content(), b"".as_slice());
     // The first write fails.
-    let mut link = link_of(alloc, DAY, &[], &[1])?;
+    let mut link = link_of(alloc, DAY.as_bytes(), &[], &[1])?;
     assert_eq!(rt; served(alloc, &mut link)?, LinkEnd::Broken(0));
     assert_eq!(rt; link.content(), b"".as_slice());
     Ok(())
@@ -177,17 +176,17 @@ fn a_fault_of_the_link_breaks_it(rt: HostRuntime) -> Result<(), Fail> {
 #[test]
 fn a_fault_of_the_disk_is_told(rt: HostRuntime) -> Result<(), Fail> {
     let alloc = rt.alloc();
-    let mut link = link_of(alloc, DAY, &[], &[])?;
+    let mut link = link_of(alloc, DAY.as_bytes(), &[], &[])?;
     assert_eq!(rt; served_by_engine(alloc, &[], &mut link)?, LinkEnd::Ended(1));
-    assert_eq!(rt; link.content(), DAY_SAID);
+    assert_eq!(rt; link.content(), DAY_SAID.as_bytes());
     // The first call of an append fails, and the last one.
     for call in [4, 7] {
-        let mut link = link_of(alloc, DAY, &[], &[])?;
+        let mut link = link_of(alloc, DAY.as_bytes(), &[], &[])?;
         assert_eq!(rt;
             served_by_engine(alloc, &[call], &mut link)?,
             LinkEnd::Disk(0)
         );
-        assert_eq!(rt; link.content(), FAILED);
+        assert_eq!(rt; link.content(), FAILED.as_bytes());
     }
     Ok(())
 }
@@ -204,8 +203,8 @@ fn a_response_is_written_before_the_next_read(rt: HostRuntime) -> Result<(), Fai
 fn links_are_served_in_order(rt: HostRuntime) -> Result<(), Fail> {
     let alloc = rt.alloc();
     let mut links = Vec::new(alloc);
-    links.push(link_of(alloc, DAY, &[], &[1])?)?;
-    links.push(link_of(alloc, DAY, &[], &[])?)?;
+    links.push(link_of(alloc, DAY.as_bytes(), &[], &[1])?)?;
+    links.push(link_of(alloc, DAY.as_bytes(), &[], &[])?)?;
     let mut doors = MemDoors::new(alloc, links, Vec::new(alloc))?;
     let service = served_all(alloc, &mut doors)?;
     let text = write_summary(alloc, &service.summary)?;
@@ -217,7 +216,7 @@ fn links_are_served_in_order(rt: HostRuntime) -> Result<(), Fail> {
     let back = doors.links_back();
     assert_eq!(rt; back.len(), 2);
     for link in back.iter().skip(1) {
-        assert_eq!(rt; link.content(), DAY_SAID);
+        assert_eq!(rt; link.content(), DAY_SAID.as_bytes());
     }
     Ok(())
 }
@@ -226,7 +225,7 @@ fn links_are_served_in_order(rt: HostRuntime) -> Result<(), Fail> {
 fn calm_links_are_served(rt: HostRuntime) -> Result<(), Fail> {
     let alloc = rt.alloc();
     let mut links = Vec::new(alloc);
-    links.push(CalmLink::new(Vec::from_slice(alloc, DAY)?))?;
+    links.push(CalmLink::new(Vec::from_slice(alloc, DAY.as_bytes())?))?;
     let mut doors = CalmDoors::new(alloc, links)?;
     let service = served_all(alloc, &mut doors)?;
     assert_eq!(rt; service.summary.requests, 1);
