@@ -168,6 +168,7 @@ pub fn run<S: Source, K: Sink, D: Disk, G: Doors, L: Ledger>(
     ensures write_later { K.faults snk.old ≤ K.faults snk.new }
     ensures disk_later { D.faults disk.old ≤ D.faults disk.new }
     ensures net_later { G.faults doors.old ≤ G.faults doors.new }
+    ensures out { G.out doors.new ≡ 0 }
 
     // Where no count rises and the input is shorter than the limit, lines end in Done or for want of memory; over
     // a disk that is good for a history and a command also where the journal cannot be written anew.
