@@ -31,6 +31,14 @@ count = 0
 for line in sys.stdin.buffer:
     count += len(line.split(b" "))
 """
+MEASURE = """
+import os, sys, time
+began = time.perf_counter()
+it = os.posix_spawn(sys.argv[1], sys.argv[1:], os.environ)
+_, status, used = os.wait4(it, 0)
+took = time.perf_counter() - began
+print(took, used.ru_utime + used.ru_stime, used.ru_maxrss / 1024, os.waitstatus_to_exitcode(status), file=sys.stderr)
+"""
 SMALL = "--small" in sys.argv
 
 
@@ -53,30 +61,32 @@ def write_lines(path, lines, times=1):
 
 
 class Run:
-    """A process run to its end: seconds on the clock and of the processor, and its greatest resident set in MB."""
+    """A process run to its end: seconds on the clock and of the processor, and its greatest resident set in MB. A small
+    process starts it and measures it, since a process begins with the resident set of the one that starts it."""
 
     def __init__(self, words, given=None, out=None):
         source = open(given, "rb") if given else subprocess.DEVNULL
         sink = open(out, "wb") if out else subprocess.DEVNULL
-        began = time.perf_counter()
-        it = subprocess.Popen(words, stdin=source, stdout=sink)
-        _, status, used = os.wait4(it.pid, 0)
-        self.clock = time.perf_counter() - began
-        self.processor = used.ru_utime + used.ru_stime
-        self.memory = used.ru_maxrss / 1024
-        it.returncode = os.waitstatus_to_exitcode(status)
-        if it.returncode:
-            sys.exit(f"{' '.join(words)} ended with status {it.returncode}")
+        self.it = subprocess.Popen([sys.executable, "-S", "-c", MEASURE, *words], stdin=source, stdout=sink,
+                                   stderr=subprocess.PIPE, text=True)
+
+    def end(self):
+        """Waits for the end, and takes what was measured."""
+        said = self.it.communicate()[1]
+        self.clock, self.processor, self.memory, status = map(float, said.split("\n")[-2].split())
+        if status:
+            sys.exit(f"a run ended with status {status:.0f}: {said}")
+        return self
 
 
 def ours(*words, given=None, out=None):
     """Runs the program."""
-    return Run([program.find(), *words], given, out)
+    return Run([program.find(), *words], given, out).end()
 
 
 def split_by_python(path):
     """Runs Python, which reads a file and splits each of its lines at the spaces."""
-    return Run([sys.executable, "-S", "-c", SPLIT], path)
+    return Run([sys.executable, "-S", "-c", SPLIT], path).end()
 
 
 class Row:
@@ -141,11 +151,11 @@ def bare_loop(path, lines):
 
 
 def apply_row(room):
-    count = sized(3000)
+    count = sized(500)
     lines = [it for _, it in zip(range(count), generate.year(sized(500), 12, 1))]
     write_lines(f"{room}/lines", lines)
     pairs, memory = [], 0
-    for turn in range(rounds()):
+    for turn in range(5 * rounds()):
         with open(f"{room}/books.{turn}", "wb") as file:
             file.write(b"MSRVJ002\0")
         it = ours(f"{room}/books.{turn}", "apply", given=f"{room}/lines", out=f"{room}/replies")
@@ -232,7 +242,7 @@ def served(room, turn, lines):
     with open(f"{room}/served.{turn}", "wb") as file:
         file.write(b"MSRVJ002\0")
     port = replay.free_port()
-    it = subprocess.Popen([program.find(), f"{room}/served.{turn}", "serve", str(port), "1"], stdout=subprocess.DEVNULL)
+    it = Run([program.find(), f"{room}/served.{turn}", "serve", str(port), "1"])
     link = replay.connect(port)
     link.setsockopt(socket.IPPROTO_TCP, socket.TCP_NODELAY, 1)
     requests = [b"POST /v1/commands HTTP/1.1\r\nContent-Length: %d\r\n\r\n%s" % (len(body), body)
@@ -244,17 +254,15 @@ def served(room, turn, lines):
             sys.exit("serve refuses a command")
     took = time.perf_counter() - began
     link.close()
-    _, _, used = os.wait4(it.pid, 0)
-    it.returncode = 0
-    return took, used.ru_maxrss / 1024
+    return took, it.end().memory
 
 
 def serve_row(room):
-    count = sized(3000)
+    count = sized(500)
     lines = [it for _, it in zip(range(count), generate.year(sized(500), 12, 1))]
     write_lines(f"{room}/lines", lines)
     pairs, memory = [], 0
-    for turn in range(rounds()):
+    for turn in range(5 * rounds()):
         with open(f"{room}/books.{turn}", "wb") as file:
             file.write(b"MSRVJ002\0")
         took, used = served(room, turn, lines)

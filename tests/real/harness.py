@@ -11,6 +11,7 @@ sys.path[:0] = [os.path.join(TOP, "tests"), os.path.join(TOP, "examples")]
 import program  # noqa: E402
 
 CASES = []
+STARTED = []
 
 
 class Skipped(Exception):
@@ -23,6 +24,15 @@ def case(name):
         CASES.append((name, function))
         return function
     return mark
+
+
+def end_started():
+    """Ends what a case that failed left running."""
+    for it in STARTED:
+        if it.poll() is None:
+            it.kill()
+            it.wait()
+    STARTED.clear()
 
 
 def run_all(only):
@@ -45,6 +55,8 @@ def run_all(only):
                 print(f"FAILED  {name}: {type(error).__name__} at {os.path.basename(where.filename)}:{where.lineno}: "
                       f"{str(error)[:600]}", flush=True)
                 continue
+            finally:
+                end_started()
         passed += 1
         print(f"ok      {name} ({time.monotonic() - began:.1f} s)", flush=True)
     print(f"{passed} passed, {failed} failed")
@@ -63,7 +75,8 @@ def run(*words, given=b"", **how):
 def start(*words, **how):
     """Starts the program with pipes on all sides."""
     how = {"stdin": subprocess.PIPE, "stdout": subprocess.PIPE, "stderr": subprocess.PIPE, **how}
-    return subprocess.Popen([program.find(), *words], **how)
+    STARTED.append(subprocess.Popen([program.find(), *words], **how))
+    return STARTED[-1]
 
 
 def same(wanted, got, what=""):
