@@ -1,16 +1,13 @@
 -- The least month in which a loan of a set was boarded: over commands and over loans.
-use Rattle.std.proofs.Common.{◌≡◌, ℕ, suc, ◌+◌, ◌-◌, ◌≤◌, ◌<◌, Bool, true, false, cond, not, List, [], ◌∷◌, ◌++◌, map, length, get_or, arith, refl, sym, ap, subst, ◌∙◌}
-use Rattle.std.specs.Prelude.{◌==◌, nat_lt, nat_le, min, fold, if◌then◌else◌, Option, Some, None, IfSome, ⊤}
+use Rattle.std.proofs.Common.{◌≡◌, ℕ, ◌+◌, ◌≤◌, ◌<◌, Bool, true, false, List, [], ◌∷◌, map, arith, refl, sym, ap, subst, ◌∙◌}
+use Rattle.std.specs.Prelude.{◌==◌, nat_lt, nat_le, min, fold, if◌then◌else◌, Option, Some, None, IfSome}
 use Rattle.std.specs.List.{All}
-use Rattle.std.specs.Option.{option_map_or}
 use Rattle.std.proofs.lemmas.List.Elements.{All-head, All-tail}
 use Rattle.std.proofs.lemmas.Bool.Decides.{nat_tests}
 use Rattle.svc_base.specs.Calendar.{month_of}
 use Rattle.svc_types.specs.declared.account.Act.TheVariants as act
 use Rattle.svc_types.specs.declared.requests.Command.{Command}
 use Rattle.svc_types.specs.declared.requests.Command.TheVariants as command
-use Rattle.svc_types.specs.declared.replies.Refusal.{Refusal}
-use Rattle.period_adjust.specs.Sealed.{Sealed, reporting}
 use Rattle.period_adjust.specs.Sums.{report_of}
 use Rattle.period_adjust.specs.Conditions.{last_month}
 use Rattle.period_adjust.proofs.KeptLemmas.{last_month-push}

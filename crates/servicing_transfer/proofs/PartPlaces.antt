@@ -1,20 +1,19 @@
 -- The places of commands in a part count its commands, and its keys are new there.
 use Rattle.std.proofs.Common.{◌≡◌, ℕ, zero, suc, ◌+◌, ◌-◌, ◌≤◌, ◌<◌, Bool, true, false, cond, not, List, [], ◌∷◌, ◌++◌, map, length, take, arith, refl, sym, ap, subst, ◌∙◌, length-append, append-nil}
 use Rattle.std.specs.Prelude.{◌||◌, if◌then◌else◌, Option, Some, None}
-use Rattle.std.specs.List.{All, filter, list_any}
+use Rattle.std.specs.List.{filter, list_any}
 use Rattle.std.proofs.Math.Seq.{take-append_seam}
 use Rattle.std.proofs.lemmas.List.Elements.{filter-append}
-use Rattle.std.proofs.lemmas.Bool.Decides.{nat_tests}
 use Rattle.svc_types.specs.declared.requests.Command.{Command}
 use Rattle.svc_types.specs.declared.replies.Reply.{Reply}
 use Rattle.svc_types.specs.declared.replies.Refusal.{Refusal}
 use Rattle.svc_types.specs.declared.replies.Refusal.TheVariants.{KeyReused}
 use Rattle.svc_types.specs.Same.{is_same}
-use Rattle.svc_world.specs.World.{World, Accepted, accepted, first_world, after, world}
+use Rattle.svc_world.specs.World.{World, Accepted, first_world, after, world}
 use Rattle.svc_world.specs.Refusals.{refusal_of}
 use Rattle.svc_world.specs.Judging.{Kept, Refused, Fresh, by_refusal, by_key, is_key, reply_of, Known, known_from, known, judged, IsHistoryFrom}
-use Rattle.servicing_transfer.specs.Parts.{is_part, moved_to, place_in, months_for}
-use Rattle.servicing_transfer.proofs.Renumbering.{Counts, IsCounted}
+use Rattle.servicing_transfer.specs.Parts.{is_part, place_in, months_for}
+use Rattle.servicing_transfer.proofs.Renumbering.{Counts}
 
 -- ---- places
 

@@ -1,35 +1,30 @@
 -- The part of a history is a history with the loans of its set, and its reports have their lines.
-use Rattle.std.proofs.Common.{◌≡◌, ℕ, zero, suc, ◌+◌, ◌-◌, ◌^◌, ◌≤◌, ◌<◌, Bool, true, false, cond, not, List, [], ◌∷◌, ◌++◌, map, length, take, get_or, arith, refl, sym, ap, subst, ◌∙◌}
+use Rattle.std.proofs.Common.{◌≡◌, ℕ, ◌≤◌, ◌<◌, Bool, true, false, cond, List, [], ◌∷◌, map, length, get_or, arith, refl, sym, ap, subst, ◌∙◌}
 use Rattle.std.specs.Prelude.{◌==◌, nat_le, if◌then◌else◌, Option, Some, None, ⊤, ℤ, pos, ◌+ℤ◌}
 use Rattle.std.specs.List.{All, filter, find}
 use Rattle.std.specs.Option.{option_map, option_map_or}
-use Rattle.std.proofs.lemmas.Int.{ints}
 use Rattle.std.proofs.lemmas.List.Elements.{All-cons, All-head, All-tail, All-nil}
 use Rattle.std.proofs.lemmas.Bool.Decides.{nat_tests}
-use Rattle.svc_base.specs.Sums.{total_by}
-use Rattle.svc_types.specs.declared.books.Books.{Books}
 use Rattle.svc_types.specs.declared.requests.Command.{Command}
 use Rattle.svc_types.specs.declared.requests.Command.TheVariants as command
 use Rattle.svc_types.specs.Keys.{IsKey}
-use Rattle.svc_types.specs.Requests.{IsReadNumber, IsCommand}
-use Rattle.advance_book.specs.Positions.{escrow_advanced}
+use Rattle.svc_types.specs.Requests.{IsCommand}
 use Rattle.period_adjust.specs.declared.report_line.ReportLine.{ReportLine}
 use Rattle.period_adjust.specs.Sealed.{Sealed}
-use Rattle.svc_world.specs.Held.{Held, find_loan, boarded_month, books_now}
-use Rattle.svc_world.specs.World.{World, Accepted, accepted, first_world, world_from, after, world}
-use Rattle.svc_world.specs.Judging.{report_for, IsHistoryFrom, AreWellFormed, IsHistory}
-use Rattle.svc_world.specs.Custody.{borrower_cash, custody_of}
+use Rattle.svc_world.specs.Held.{Held, find_loan}
+use Rattle.svc_world.specs.World.{World, Accepted, first_world, world_from, world}
+use Rattle.svc_world.specs.Judging.{report_for, AreWellFormed, IsHistory}
 use Rattle.svc_world.specs.Worlds.{IsListed, IsWorld, AreWorlds}
 use Rattle.svc_world.proofs.HistoryLemmas.{history_accepted, are_worlds, is_world}
 use Rattle.svc_world.proofs.LoanListLemmas.{found_id, found_all}
-use Rattle.servicing_transfer.specs.Parts.{is_part, is_since, least_month, months_for, place_in, renumbered, moved_to, part_of}
-use Rattle.servicing_transfer.specs.Splits.{IsSameLoan, IsSameFound, loan_in, KeepsLoans, lines_for, KeepsLines, IsKeptPart}
-use Rattle.servicing_transfer.proofs.Renumbering.{Counts, AreCounted, books_of_at}
-use Rattle.servicing_transfer.proofs.ShownLoans.{loan_at, loans_shown, IsShown, due_of_at, find_shown, shown_all, now_shown}
+use Rattle.servicing_transfer.specs.Parts.{is_part, least_month, months_for, place_in, renumbered, moved_to, part_of}
+use Rattle.servicing_transfer.specs.Splits.{IsSameFound, loan_in, KeepsLoans, lines_for, KeepsLines, IsKeptPart}
+use Rattle.servicing_transfer.proofs.Renumbering.{Counts, books_of_at}
+use Rattle.servicing_transfer.proofs.ShownLoans.{loan_at, loans_shown, IsShown, due_of_at, find_shown}
 use Rattle.servicing_transfer.proofs.ShownChanges.{lines_in, report_shown, reports_shown}
 use Rattle.servicing_transfer.proofs.StepShown.{shown, All_shown}
 use Rattle.servicing_transfer.proofs.PartPlaces.{place_counts, place_most, are_placed, are_new}
-use Rattle.servicing_transfer.proofs.PartWalk.{IsBefore, IsSplitAt, IsFollowed, walk}
+use Rattle.servicing_transfer.proofs.PartWalk.{IsFollowed, walk}
 
 -- ---- both ends of the walk
 

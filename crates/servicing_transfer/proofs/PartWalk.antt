@@ -1,25 +1,22 @@
 -- The whole history, seen from a part: its world shows the world of the part, and each command of the part is
 -- fresh there.
-use Rattle.std.proofs.Common.{◌≡◌, ℕ, zero, suc, ◌+◌, ◌-◌, ◌≤◌, ◌<◌, Bool, true, false, cond, not, List, [], ◌∷◌, ◌++◌, map, length, take, arith, refl, sym, ap, subst, ◌∙◌, length-append, append-nil, append_assoc}
-use Rattle.std.specs.Prelude.{◌||◌, if◌then◌else◌, Option, Some, None, ⊤}
-use Rattle.std.specs.List.{All, filter}
+use Rattle.std.proofs.Common.{◌≡◌, ℕ, ◌+◌, ◌-◌, ◌≤◌, Bool, true, false, cond, List, [], ◌∷◌, ◌++◌, map, length, arith, refl, sym, ap, subst, ◌∙◌, length-append, append-nil, append_assoc}
+use Rattle.std.specs.Prelude.{◌||◌, if◌then◌else◌, Option, None}
+use Rattle.std.specs.List.{filter}
 use Rattle.svc_base.specs.Calendar.{month_of}
 use Rattle.svc_types.specs.declared.requests.Command.{Command}
 use Rattle.svc_types.specs.declared.requests.Command.TheVariants as command
-use Rattle.svc_types.specs.Requests.{IsCommand}
-use Rattle.period_adjust.specs.Sealed.{Sealed}
 use Rattle.period_adjust.specs.Sums.{report_of}
 use Rattle.period_adjust.specs.Conditions.{last_month}
 use Rattle.period_adjust.proofs.KeptLemmas.{last_month-push}
-use Rattle.svc_world.specs.Held.{Held}
 use Rattle.svc_world.specs.Reports.{lines_of}
-use Rattle.svc_world.specs.World.{World, Accepted, accepted, first_world, loans_after, seals_after, after, world}
-use Rattle.svc_world.specs.Refusals.{full_of_commands, on_loan, reversal_cases, cases_by_command, refusal_of}
+use Rattle.svc_world.specs.World.{World, Accepted, loans_after, seals_after, after, world}
+use Rattle.svc_world.specs.Refusals.{full_of_commands, reversal_cases, cases_by_command, refusal_of}
 use Rattle.svc_world.specs.Judging.{Fresh, judged, IsHistoryFrom}
 use Rattle.svc_world.specs.Worlds.{IsWorld}
 use Rattle.svc_world.proofs.CaseLemmas.{past, past_loan}
 use Rattle.svc_world.proofs.HistoryLemmas.{AreAccepted, accepted_keeps, world-push}
-use Rattle.svc_world.proofs.LoanListLemmas.{rises, found_id, found_all}
+use Rattle.svc_world.proofs.LoanListLemmas.{found_id, found_all}
 use Rattle.servicing_transfer.specs.Parts.{is_for, is_part, is_since, renumbered, moved_to, with_board, earlier}
 use Rattle.servicing_transfer.proofs.Renumbering.{Counts, IsCounted}
 use Rattle.servicing_transfer.proofs.ShownLoans.{IsShown}

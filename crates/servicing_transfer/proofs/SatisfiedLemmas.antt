@@ -1,11 +1,10 @@
 -- A loan is satisfied on its boarded day at the earliest.
-use Rattle.std.proofs.Common.{◌≡◌, ℕ, zero, suc, ◌+◌, ◌-◌, ◌≤◌, ◌<◌, Bool, true, false, List, [], ◌∷◌, ◌++◌, map, arith, refl, sym, ap, subst, ◌∙◌}
-use Rattle.std.specs.Prelude.{ℤ, pos, ◌+ℤ◌, ◌≤ℤ◌, ◌&&◌, not, int_lt, int_le, nat_le, is_none, Option, Some, None, IfSome, if◌then◌else◌}
+use Rattle.std.proofs.Common.{◌≡◌, ℕ, zero, suc, ◌+◌, ◌-◌, ◌≤◌, true, false, List, [], ◌∷◌, map, arith, refl, sym, subst, ◌∙◌}
+use Rattle.std.specs.Prelude.{ℤ, pos, ◌+ℤ◌, ◌&&◌, not, int_lt, int_le, nat_le, is_none, Some, IfSome, if◌then◌else◌}
 use Rattle.std.specs.Int.{int_min}
 use Rattle.std.specs.List.{All}
 use Rattle.std.proofs.lemmas.List.Elements.{All-head, All-tail, All-map, All-filter}
 use Rattle.svc_base.specs.Calendar.{month_of}
-use Rattle.svc_base.specs.DayLemmas.{month_length_most}
 use Rattle.svc_base.specs.Money.{share_bp}
 use Rattle.svc_types.specs.declared.terms.Terms.{Terms}
 use Rattle.svc_types.specs.declared.books.Books.{Books}
@@ -23,7 +22,7 @@ use Rattle.svc_spec.specs.Settling.{moved, moved_one, moves, late_paid, late_tak
 use Rattle.svc_spec.specs.Payoff.{payoff_sum}
 use Rattle.svc_spec.specs.Step.{paid_in, charged, to_principal, to_escrow, applied, rest_applied, paid, curtailed, paid_off, payoff_tried, deposited, refunded, analysed, happened, step}
 use Rattle.svc_spec.specs.Books.{start}
-use Rattle.svc_spec.specs.Events.{month_marks, late_marks, late_marks_from, late_day, event_of, entry_events, events_to, folded, books_at}
+use Rattle.svc_spec.specs.Events.{late_marks_from, late_day, event_of, events_to, folded, books_at}
 use Rattle.svc_spec.specs.Accounts.{Account, live_of, books_of, IsAccount}
 use Rattle.svc_spec.proofs.EventLemmas.{months_since, lates_since, events_all}
 

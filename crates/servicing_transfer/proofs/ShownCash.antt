@@ -1,10 +1,10 @@
 -- What is held for the loans of a set and for all others is what is held for all.
-use Rattle.std.proofs.Common.{◌≡◌, ℕ, suc, ◌+◌, ◌-◌, ◌≤◌, ◌<◌, Bool, true, false, cond, not, List, [], ◌∷◌, ◌++◌, map, length, get_or, arith, refl, sym, ap, subst, ◌∙◌}
+use Rattle.std.proofs.Common.{◌≡◌, ℕ, ◌≤◌, ◌<◌, Bool, true, false, cond, not, List, [], ◌∷◌, map, get_or, arith, refl, sym, ap, subst, ◌∙◌}
 use Rattle.std.specs.Prelude.{◌==◌, ◌&&◌, nat_le, if◌then◌else◌, Option, Some, None, IfSome, ℤ, pos, ◌+ℤ◌}
 use Rattle.std.specs.Ordering.{int_eq}
 use Rattle.std.specs.List.{All, filter}
 use Rattle.std.proofs.lemmas.Int.{ints}
-use Rattle.std.proofs.lemmas.List.Elements.{All-cons, All-head, All-tail, All-nil}
+use Rattle.std.proofs.lemmas.List.Elements.{All-head, All-tail}
 use Rattle.std.proofs.lemmas.Bool.Decides.{nat_tests}
 use Rattle.svc_base.specs.Calendar.{month_of}
 use Rattle.svc_base.specs.Sums.{total_by}
@@ -13,17 +13,17 @@ use Rattle.remit_types.specs.declared.dues.MonthDue.{MonthDue}
 use Rattle.advance_book.specs.Positions.{pi_held, escrow_advanced}
 use Rattle.period_adjust.specs.declared.report_line.ReportLine.{ReportLine}
 use Rattle.period_adjust.specs.Sealed.{Sealed}
-use Rattle.svc_world.specs.Held.{Held, boarded_month, books_now}
+use Rattle.svc_world.specs.Held.{Held, books_now}
 use Rattle.svc_world.specs.LoanDues.{due_of}
 use Rattle.svc_world.specs.Reports.{months_of}
 use Rattle.svc_world.specs.World.{World, Accepted, world}
 use Rattle.svc_world.specs.Judging.{IsHistory}
 use Rattle.svc_world.specs.Custody.{sent_of_line, sent_for, remitted_reports, remitted_for, collected, due_sum, dues_sum, is_remitted_by, is_settled, held_for, borrower_cash, custody_of}
-use Rattle.svc_world.specs.Worlds.{IsListed, IsWorld}
+use Rattle.svc_world.specs.Worlds.{IsListed}
 use Rattle.svc_world.proofs.ChangesLemmas.{due_before}
 use Rattle.svc_world.proofs.HistoryLemmas.{is_world}
 use Rattle.servicing_transfer.specs.Parts.{in_range, out_of_range, is_since, months_for, place_in, part_of}
-use Rattle.servicing_transfer.specs.Splits.{IsKeptPart, SharesCash, Splits}
+use Rattle.servicing_transfer.specs.Splits.{IsKeptPart, Splits}
 use Rattle.servicing_transfer.proofs.Renumbering.{Counts, AreCounted}
 use Rattle.servicing_transfer.proofs.ShownLoans.{loan_at, loans_shown, IsShown, now_shown, due_of_at}
 use Rattle.servicing_transfer.proofs.ShownChanges.{lines_in, report_shown, reports_shown, months_shown}

@@ -1,5 +1,5 @@
 -- What a command does to the loans of a set is what it does to them in the part of the history.
-use Rattle.std.proofs.Common.{◌≡◌, ℕ, suc, ◌+◌, ◌≤◌, ◌<◌, Bool, true, false, cond, not, List, [], ◌∷◌, ◌++◌, map, length, arith, refl, sym, ap, ◌∙◌}
+use Rattle.std.proofs.Common.{◌≡◌, ℕ, suc, ◌+◌, ◌≤◌, ◌<◌, Bool, true, false, cond, List, [], ◌∷◌, map, length, arith, refl, sym, ap, ◌∙◌}
 use Rattle.std.specs.Prelude.{◌==◌, nat_lt, nat_le, if◌then◌else◌, Option, Some, None, min}
 use Rattle.std.specs.List.{All, AllPairs}
 use Rattle.std.specs.Option.{option_map}
@@ -10,7 +10,6 @@ use Rattle.std.proofs.lemmas.Bool.Decides.{nat_tests}
 use Rattle.svc_base.specs.Calendar.{last_day}
 use Rattle.svc_types.specs.declared.account.Act.{Act}
 use Rattle.svc_types.specs.declared.account.Act.TheVariants as act
-use Rattle.svc_types.specs.declared.account.Entry.{Entry}
 use Rattle.svc_types.specs.declared.escrow.Plan.{Plan}
 use Rattle.svc_types.specs.declared.escrow.Settled.{Settled}
 use Rattle.svc_types.specs.declared.books.Books.{Books}
@@ -21,12 +20,12 @@ use Rattle.escrow_resolve.specs.Parts.{escrow_parts}
 use Rattle.escrow_resolve.specs.Settlement.{settled_plan}
 use Rattle.escrow_analysis.specs.AggregateAnalysis.{base}
 use Rattle.svc_world.specs.Held.{Held, find_loan, boarded_month, books_now, with_entry, with_reversal, with_loan, changed}
-use Rattle.svc_world.specs.LoanDues.{due_of, carry_of, kind_in}
+use Rattle.svc_world.specs.LoanDues.{due_of, carry_of}
 use Rattle.svc_world.specs.Analysing.{settlement_of, opening_of, year_of_loan, year_begins}
 use Rattle.svc_world.specs.World.{entry, with_analysis}
 use Rattle.svc_world.proofs.AgreeLemmas.{AgreeBefore, AgreeTo, same_due, same_carried}
 use Rattle.svc_world.proofs.LoanListLemmas.{rises, KeepsNumber}
-use Rattle.servicing_transfer.proofs.Renumbering.{Counts, IsCounted, AreCounted, entry_at, pair_at, account_at, books_of_at}
+use Rattle.servicing_transfer.proofs.Renumbering.{Counts, AreCounted, entry_at, pair_at, account_at, books_of_at}
 
 -- ---- one loan
 

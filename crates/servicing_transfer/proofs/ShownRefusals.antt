@@ -1,13 +1,12 @@
 -- A command of the part is accepted there where it is accepted here.
 use Rattle.std.proofs.Common.{◌≡◌, ℕ, suc, ◌+◌, ◌-◌, ◌≤◌, ◌<◌, Bool, true, false, cond, not, List, [], ◌∷◌, ◌++◌, map, length, get_or, arith, refl, sym, ap, subst, ◌∙◌}
-use Rattle.std.specs.Prelude.{◌==◌, ◌&&◌, ◌||◌, nat_lt, nat_le, int_lt, is_some, if◌then◌else◌, Option, Some, None, IfSome, ⊤, ℤ, pos}
-use Rattle.std.specs.List.{All, AllPairs, filter, find}
+use Rattle.std.specs.Prelude.{◌==◌, nat_lt, nat_le, int_lt, is_some, if◌then◌else◌, Option, Some, None, ⊤, ℤ}
+use Rattle.std.specs.List.{All, filter, find}
 use Rattle.std.specs.Option.{option_map, option_map_or}
 use Rattle.std.proofs.lemmas.List.{length-map}
-use Rattle.std.proofs.lemmas.List.Elements.{All-cons, All-head, All-tail, All-nil}
+use Rattle.std.proofs.lemmas.List.Elements.{All-head, All-tail}
 use Rattle.std.proofs.lemmas.Bool.Decides.{nat_tests}
 use Rattle.svc_base.specs.Calendar.{month_of, last_day}
-use Rattle.svc_types.specs.declared.account.Act.{Act}
 use Rattle.svc_types.specs.declared.account.Entry.{Entry}
 use Rattle.svc_types.specs.declared.books.Books.{Books}
 use Rattle.svc_types.specs.declared.escrow.Plan.{Plan}
@@ -18,24 +17,23 @@ use Rattle.svc_types.specs.declared.replies.Refusal.TheVariants as why
 use Rattle.svc_types.specs.declared.replies.Limit.TheVariants as limit
 use Rattle.svc_types.specs.declared.terms.Terms.{Terms}
 use Rattle.svc_types.specs.Terms.{term_fault}
-use Rattle.svc_spec.specs.Accounts.{Account, books_of, entry_of, reverser_of}
+use Rattle.svc_spec.specs.Accounts.{entry_of, reverser_of}
 use Rattle.svc_spec.specs.Payoff.{payoff_due, available, is_current}
 use Rattle.escrow_analysis.specs.AggregateAnalysis.{base}
 use Rattle.escrow_resolve.specs.Parts.{escrow_parts}
 use Rattle.escrow_resolve.specs.Lawful.{plan_fault}
-use Rattle.period_adjust.specs.declared.adjustment.Adjustment.{Adjustment}
-use Rattle.period_adjust.specs.Sealed.{Sealed, Reporting, reporting}
-use Rattle.period_adjust.specs.Conditions.{first_month, last_month, count_sent, count_held}
+use Rattle.period_adjust.specs.Sealed.{Sealed}
+use Rattle.period_adjust.specs.Conditions.{last_month, count_sent, count_held}
 use Rattle.period_adjust.specs.Kept.{AreConsecutive}
-use Rattle.svc_world.specs.Held.{Held, find_loan, boarded_month, books_now}
+use Rattle.svc_world.specs.Held.{Held, find_loan, boarded_month}
 use Rattle.svc_world.specs.Analysing.{opening_of, year_of_loan, loan_plan_fault}
 use Rattle.svc_world.specs.World.{World}
-use Rattle.svc_world.specs.Refusals.{Case, case, case_of, first_of, on_loan, full_of_commands, full_of_entries, bad_amount, future_dated, before_boarding, closed_from, adjustments_full, is_closed_by, with_last, not_closed, dated_cases, present_cases, asks_no_more, over_principal, payoff_due_on, payoff_short, no_such_line, over_refund, over_waiver, analyse_cases, is_analysis, entry_reversal_cases, reversal_cases, retype_cases, line_cases, board_cases, expected_close, close_cases, expected_remit, remit_cases, cases_by_command, refusal_of}
-use Rattle.svc_world.proofs.CaseLemmas.{past, past_of, past_loan}
+use Rattle.svc_world.specs.Refusals.{Case, case, case_of, first_of, on_loan, full_of_commands, full_of_entries, bad_amount, future_dated, before_boarding, closed_from, adjustments_full, is_closed_by, with_last, not_closed, dated_cases, present_cases, asks_no_more, over_principal, payoff_short, no_such_line, over_refund, over_waiver, analyse_cases, is_analysis, entry_reversal_cases, reversal_cases, retype_cases, line_cases, board_cases, expected_close, close_cases, expected_remit, remit_cases, cases_by_command, refusal_of}
+use Rattle.svc_world.proofs.CaseLemmas.{past, past_loan}
 use Rattle.servicing_transfer.specs.Parts.{is_for, renumbered}
-use Rattle.servicing_transfer.proofs.Renumbering.{Counts, IsCounted, IsCountedEntry, IsCountedPair, AreCounted, entry_at, pair_at, account_at, counted_eq, books_of_at}
+use Rattle.servicing_transfer.proofs.Renumbering.{Counts, IsCounted, IsCountedEntry, IsCountedPair, AreCounted, entry_at, pair_at, counted_eq, books_of_at}
 use Rattle.servicing_transfer.proofs.ShownLoans.{loan_at, loans_shown, IsShown, now_shown, find_shown, fewer_loans}
-use Rattle.servicing_transfer.proofs.ShownChanges.{adjustments_shown, reports_shown, report_shown, fewer_adjustments}
+use Rattle.servicing_transfer.proofs.ShownChanges.{reports_shown, report_shown, fewer_adjustments}
 use Rattle.servicing_transfer.proofs.StepShown.{remitted_shown, shown, All_shown}
 
 -- from a month on all are the part's

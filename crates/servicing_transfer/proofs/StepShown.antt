@@ -1,6 +1,6 @@
 -- One command of a history, seen from a part: a command of the part does there what it does here, and any
 -- other shows nothing.
-use Rattle.std.proofs.Common.{◌≡◌, ℕ, suc, ◌+◌, ◌-◌, ◌≤◌, ◌<◌, Bool, true, false, cond, not, List, [], ◌∷◌, ◌++◌, map, length, arith, refl, sym, ap, subst, ◌∙◌, append-nil}
+use Rattle.std.proofs.Common.{◌≡◌, ℕ, ◌<◌, Bool, true, false, List, [], ◌∷◌, ◌++◌, map, arith, refl, sym, ap, subst, ◌∙◌, append-nil}
 use Rattle.std.specs.Prelude.{◌==◌, nat_lt, nat_le, if◌then◌else◌, Option, Some, None, ⊤}
 use Rattle.std.specs.List.{All, AllPairs, filter, find}
 use Rattle.std.proofs.lemmas.List.Elements.{All-cons, All-head, All-tail, All-nil, All-append}
@@ -8,24 +8,22 @@ use Rattle.std.proofs.lemmas.Bool.Decides.{nat_tests}
 use Rattle.svc_base.specs.Calendar.{month_of}
 use Rattle.svc_types.specs.declared.account.Act.{Act}
 use Rattle.svc_types.specs.declared.account.Act.TheVariants as act
-use Rattle.svc_types.specs.declared.account.Entry.{Entry}
-use Rattle.svc_types.specs.declared.escrow.Plan.{Plan}
 use Rattle.svc_types.specs.declared.requests.Command.{Command}
 use Rattle.svc_types.specs.declared.requests.Command.TheVariants as command
 use Rattle.period_adjust.specs.declared.adjustment.Adjustment.{Adjustment}
 use Rattle.period_adjust.specs.declared.report_line.ReportLine.{ReportLine}
-use Rattle.period_adjust.specs.Sealed.{Sealed, reporting}
-use Rattle.period_adjust.specs.Sums.{report_of, line_with}
-use Rattle.svc_world.specs.Held.{Held, find_loan, boarded_month, boarded, with_entry, with_reversal, on_day, with_bill, without_bill, with_type, with_loan, changed}
+use Rattle.period_adjust.specs.Sealed.{reporting}
+use Rattle.period_adjust.specs.Sums.{report_of}
+use Rattle.svc_world.specs.Held.{Held, boarded_month, boarded, with_entry, with_reversal, on_day, with_bill, without_bill, with_type, changed}
 use Rattle.svc_world.specs.LoanDues.{type_change}
 use Rattle.svc_world.specs.Reports.{lines_of, months_of, changes_of}
 use Rattle.svc_world.specs.World.{World, entry, with_analysis, loans_after, seals_after, after}
-use Rattle.svc_world.proofs.LoanListLemmas.{rises, KeepsNumber, IsFound, all_found, found_all, changed_all, with_loan_all}
+use Rattle.svc_world.proofs.LoanListLemmas.{rises, KeepsNumber, all_found, with_loan_all}
 use Rattle.svc_world.proofs.ChangesLemmas.{changes_kept}
 use Rattle.servicing_transfer.specs.Parts.{is_for, renumbered}
-use Rattle.servicing_transfer.proofs.Renumbering.{Counts, IsCounted, IsCountedEntry, IsCountedPair, AreCounted}
-use Rattle.servicing_transfer.proofs.ShownLoans.{loan_at, loans_shown, IsShown, Commutes, entry_shown, reversal_shown, analysis_shown, shown_mapped, shown_changed, shown_unchanged, shown_boarded, shown_not_boarded, rising_shown}
-use Rattle.servicing_transfer.proofs.ShownChanges.{adjustments_shown, reports_shown, report_shown, lines_in, shown_append, changes_shown, months_shown, reports_append, lines_shown}
+use Rattle.servicing_transfer.proofs.Renumbering.{Counts, IsCounted, IsCountedEntry, IsCountedPair}
+use Rattle.servicing_transfer.proofs.ShownLoans.{loans_shown, IsShown, entry_shown, reversal_shown, analysis_shown, shown_mapped, shown_changed, shown_unchanged, shown_boarded, shown_not_boarded, rising_shown}
+use Rattle.servicing_transfer.proofs.ShownChanges.{adjustments_shown, reports_shown, report_shown, shown_append, changes_shown, months_shown, reports_append, lines_shown}
 
 -- the month remitted last, where it is one of the part's
 abbrev pub remitted_shown : (ℕ → Bool) → Option ℕ → Option ℕ

@@ -1,29 +1,28 @@
 -- The months that a part closes and remits are those that it expects; other closings and remittances show
 -- nothing.
-use Rattle.std.proofs.Common.{◌≡◌, ℕ, suc, ◌+◌, ◌-◌, ◌≤◌, ◌<◌, Bool, true, false, cond, not, List, [], ◌∷◌, ◌++◌, map, length, get_or, arith, refl, sym, ap, subst, ◌∙◌}
-use Rattle.std.specs.Prelude.{◌==◌, nat_lt, nat_le, if◌then◌else◌, Option, Some, None, IfSome, ⊤}
-use Rattle.std.specs.List.{All, Any}
+use Rattle.std.proofs.Common.{◌≡◌, ℕ, ◌+◌, ◌≤◌, ◌<◌, Bool, true, false, not, List, [], ◌∷◌, get_or, arith, refl, sym, ap, ◌∙◌}
+use Rattle.std.specs.Prelude.{◌==◌, nat_lt, nat_le, if◌then◌else◌, Option, Some, None, IfSome}
+use Rattle.std.specs.List.{All}
 use Rattle.std.specs.Option.{option_map_or}
 use Rattle.std.proofs.lemmas.List.Elements.{All-head, All-tail}
 use Rattle.std.proofs.lemmas.Bool.Decides.{nat_tests}
-use Rattle.svc_base.specs.Calendar.{month_of, last_day}
-use Rattle.svc_types.specs.declared.requests.Command.{Command}
+use Rattle.svc_base.specs.Calendar.{month_of}
 use Rattle.svc_types.specs.declared.requests.Command.TheVariants as command
 use Rattle.svc_types.specs.declared.replies.Refusal.TheVariants as why
 use Rattle.period_adjust.specs.declared.adjustment.Adjustment.{Adjustment}
-use Rattle.period_adjust.specs.Sealed.{Sealed, Reporting, reporting}
-use Rattle.period_adjust.specs.Conditions.{first_month, last_month, IsClosed}
+use Rattle.period_adjust.specs.Sealed.{Sealed}
+use Rattle.period_adjust.specs.Conditions.{last_month, IsClosed}
 use Rattle.period_adjust.specs.Kept.{AreConsecutive, IsBefore, month_after, next_remit}
 use Rattle.period_adjust.proofs.KeptLemmas.{closed_from_first}
-use Rattle.svc_world.specs.Held.{Held, find_loan, boarded_month}
+use Rattle.svc_world.specs.Held.{Held, boarded_month}
 use Rattle.svc_world.specs.World.{World}
-use Rattle.svc_world.specs.Refusals.{case, first_of, full_of_commands, is_closed_by, not_closed, first_expected, expected_close, expected_remit, remit_cases, refusal_of}
-use Rattle.svc_world.specs.Worlds.{IsThere, IsOwned, IsWorld}
+use Rattle.svc_world.specs.Refusals.{case, full_of_commands, is_closed_by, not_closed, first_expected, expected_close, expected_remit, remit_cases, refusal_of}
+use Rattle.svc_world.specs.Worlds.{IsOwned, IsWorld}
 use Rattle.svc_world.proofs.CaseLemmas.{past}
 use Rattle.svc_world.proofs.ClosedWorlds.{IsClosing, closing, after_last}
 use Rattle.svc_world.proofs.LoanListLemmas.{found_id, found_all}
 use Rattle.servicing_transfer.specs.Parts.{is_since}
-use Rattle.servicing_transfer.proofs.ShownLoans.{loan_at, loans_shown, IsShown}
+use Rattle.servicing_transfer.proofs.ShownLoans.{loans_shown, IsShown}
 use Rattle.servicing_transfer.proofs.ShownChanges.{adjustments_shown, adjustment_at, reports_shown, report_shown}
 use Rattle.servicing_transfer.proofs.StepShown.{remitted_shown, shown, All_shown}
 use Rattle.servicing_transfer.proofs.ShownRefusals.{IsUpward, last_shown}

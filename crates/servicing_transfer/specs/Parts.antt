@@ -1,5 +1,5 @@
 -- The part of a history that a set of loans keeps: what a receiving servicer is handed, and what stays.
-use Rattle.std.specs.Prelude.{ℕ, ◌&&◌, not, nat_le, min, Bool, true, false, fold, map, take, length, List, [], ◌∷◌, Option, Some, None, if◌then◌else◌}
+use Rattle.std.specs.Prelude.{ℕ, ◌&&◌, not, nat_le, min, Bool, true, false, fold, map, take, length, List, Option, Some, None, if◌then◌else◌}
 use Rattle.std.specs.List.{filter}
 use Rattle.svc_base.specs.Calendar.{month_of}
 use Rattle.svc_types.specs.declared.requests.Command.{Command}

@@ -1,5 +1,5 @@
 -- What a transfer keeps: loans, reports and cash of a part are those of the whole.
-use Rattle.std.specs.Prelude.{◌≡◌, ℕ, Bool, if◌then◌else◌, not, List, [], Option, Some, None, ⊤, ◌+ℤ◌}
+use Rattle.std.specs.Prelude.{◌≡◌, ℕ, Bool, if◌then◌else◌, List, [], Option, Some, None, ⊤, ◌+ℤ◌}
 use Rattle.std.specs.List.{filter}
 use Rattle.std.specs.Option.{option_map_or}
 use Rattle.svc_spec.specs.Accounts.{books_of}

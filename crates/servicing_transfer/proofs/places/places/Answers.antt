@@ -1,5 +1,4 @@
-use Rattle.std.proofs.Common.{◌≡◌, ◌≤◌, ◌+◌, true, false, ◌∷◌, ◌++◌, [], arith, sym, ap, ◌∙◌}
-use Rattle.std.specs.Prelude.{Bool}
+use Rattle.std.proofs.Common.{◌≡◌, ◌+◌, ◌∷◌, ◌++◌, [], arith, sym, ap, ◌∙◌}
 use Rattle.svc_world.specs.Judging.{nth_accepted}
 use Rattle.servicing_transfer.specs.Parts.{is_since, place_in}
 use Rattle.servicing_transfer.specs.Passes.{keeps}

@@ -1,9 +1,9 @@
-use Rattle.std.proofs.Common.{◌≡◌, ◌+◌, ◌++◌, sym, ap, ◌∙◌}
+use Rattle.std.proofs.Common.{◌+◌, ◌++◌, ap, ◌∙◌}
 use Rattle.svc_world.specs.Judging.{nth_accepted}
 use Rattle.servicing_transfer.specs.Parts.{is_since, months_for, place_in}
 use Rattle.servicing_transfer.specs.Passes.{part_with, place_among}
 use Rattle.servicing_transfer.specs.Sets.{set_of}
-use Rattle.servicing_transfer.proofs.PassLemmas.{part_to, among_is, with_same, part_more, part_whole}
+use Rattle.servicing_transfer.proofs.PassLemmas.{part_to, among_is, with_same, part_more}
 use Rattle.servicing_transfer.proofs.splitting.part.Goals as goal
 
 pub loop-done-preserved : goal.loop-done-preserved

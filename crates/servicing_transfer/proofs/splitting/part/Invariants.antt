@@ -1,5 +1,4 @@
-use Rattle.std.proofs.Common.{◌≡◌, map, take}
-use Rattle.std.specs.List.{filter}
+use Rattle.std.proofs.Common.{◌≡◌}
 use Rattle.svc_core.specs.Posted.{history_of}
 use Rattle.servicing_transfer.specs.Sets.{set_of}
 use Rattle.servicing_transfer.proofs.PassLemmas.{part_to}
