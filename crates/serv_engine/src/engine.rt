@@ -211,6 +211,13 @@ impl<B: LoanBooks> Engine<B> {
         &self.core
     }
 
+    /// What holds of the engine's journal: it is of version 2, as `open` and `submit` leave it. The call does nothing.
+    pub fn version_holds(&self)
+        ensures version { self.now.journal.version ≡ Version.Two }
+    {
+        let _ = &self.journal;
+    }
+
     /// Whether a call of the disk failed in a submit. Then the engine is used no more.
     pub fn is_spent(&self) -> bool
         ensures { result ≡ self.now.journal.spent }

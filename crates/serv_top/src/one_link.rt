@@ -2,7 +2,6 @@
 
 ghost use Rattle.std.specs.Prelude.{◌≡◌, ◌≤◌, ◌<◌, ◌⊎◌, ◌↔◌, ℕ, List, Some, length, true, false};
 ghost use Rattle.serv_disk.specs.Faults.{HasRisen};
-ghost use Rattle.serv_journal.specs.declared.format.Version.TheVariants.{Two};
 ghost use Rattle.serv_engine.specs.Engines.{IsDurable};
 ghost use Rattle.serv_machine.specs.Engines.{history_of};
 ghost use Rattle.serv_links.specs.Responses.{stand};
@@ -27,7 +26,6 @@ pub fn serve_one<D: Disk, C: Link, L: Ledger>(
     steps: &mut Steps<L>,
 ) -> LinkEnd
     requires unspent { engine.old.journal.spent ≡ false }
-    requires version { engine.old.journal.version ≡ Two }
     requires durable { IsDurable (D.images disk.old) engine.old }
     // What was taken, acted on and written, with what a crash leaves on the disk now and at each moment.
     ensures served { Writes D.images D.moment D.images_since disk.old disk.new
@@ -51,5 +49,6 @@ pub fn serve_one<D: Disk, C: Link, L: Ledger>(
         → ¬ HasRisen (D.faults disk.old) (D.faults disk.new)
         → ((n : ℕ) × (result ≡ LinkEnd.Ended n)) ⊎ ((n : ℕ) × (result ≡ LinkEnd.NoMemory n)) }
 {
+    engine.version_holds();
     serve_link(alloc, engine, disk, link, steps)
 }
