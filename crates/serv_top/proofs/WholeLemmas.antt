@@ -1,10 +1,10 @@
 -- Where no reply may wait, all replies but the last are whole.
-use Rattle.std.proofs.Common.{◌≡◌, ℕ, ◌+◌, ◌<◌, ◌≤◌, List, [], ◌∷◌, ◌++◌, length, take, drop, arith, refl, sym, ap, subst, ◌∙◌, length-append, append_assoc, append-nil, take-append-drop}
+use Rattle.std.proofs.Common.{◌≡◌, ℕ, ◌+◌, ◌<◌, ◌≤◌, List, [], ◌∷◌, ◌++◌, length, take, drop, arith, refl, sym, ap, ◌∙◌, length-append, append_assoc, append-nil, take-append-drop}
 use Rattle.std.proofs.lemmas.List.{take_at, take-append-le, drop_at, drop-append-le}
 use Rattle.svc_world.specs.World.{Accepted}
 use Rattle.serv_machine.specs.History.{History}
-use Rattle.serv_top.specs.Machine.{Said, Says, reply_to, history_after, bound_of, Stand, stand, Stays}
-use Rattle.serv_top.specs.Replies.{Say, MovesAll, Answers, replies_to, history_after_all, bound_of_all, before_last, IsCutIn, IsHeldUp, IsBegun}
+use Rattle.serv_top.specs.Machine.{Said, Says, reply_to, history_after, bound_of, Stand, stand}
+use Rattle.serv_top.specs.Replies.{Say, replies_to, history_after_all, bound_of_all, before_last, IsCutIn, IsHeldUp, IsBegun}
 use Rattle.serv_top.specs.Whole.{IsCutOff, IsStopped, IsAnswered}
 use Rattle.serv_top.proofs.Cutting.{replies_to-push, history_after_all-push, bound_of_all-push}
 

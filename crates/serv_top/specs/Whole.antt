@@ -1,5 +1,5 @@
 -- What is written where no reply may wait: the reply to each line is whole before the next line is acted on.
-use Rattle.std.specs.Prelude.{◌≡◌, ℕ, ◌⊎◌, List, [], ◌∷◌, ◌++◌}
+use Rattle.std.specs.Prelude.{◌≡◌, ℕ, ◌⊎◌, List, ◌∷◌, ◌++◌}
 use Rattle.serv_disk.specs.Faults.{IsProperPrefix}
 use Rattle.svc_world.specs.World.{Accepted}
 use Rattle.serv_top.specs.Machine.{Said, Says, reply_to, Stand, Stays, Moves, IsStuck}
