@@ -1,12 +1,12 @@
 -- Amounts that may be below zero, from their texts.
-use Rattle.std.proofs.Common.{◌≡◌, ◌≢◌, ℕ, zero, suc, ◌+◌, ◌^◌, ◌<◌, ◌≤◌, ◌/◌, ◌%◌, ◌*◌, List, [], ◌∷◌, ◌++◌, length, get_or, Option, Some, None, IfSome, IfNone, refl, sym, ap, subst, ◌∙◌, arith}
+use Rattle.std.proofs.Common.{◌≡◌, ◌≢◌, ℕ, zero, suc, ◌+◌, ◌^◌, ◌<◌, ◌≤◌, ◌/◌, ◌%◌, List, ◌∷◌, ◌++◌, length, get_or, refl, sym, ap, subst, ◌∙◌, arith}
 use Rattle.std.specs.Prelude.{ℤ, pos, negsuc, neg_ℤ, ◌<ℤ◌}
 use Rattle.std.specs.Fmt.{decimal}
 use Rattle.std.proofs.lemmas.Fmt.{decimal_injective, decimal_is_IsNumeral}
 use Rattle.std.proofs.lemmas.Str.Parse.{digit_at}
 use Rattle.std.proofs.lemmas.List.{get_or_append_left}
 use Rattle.std.proofs.lemmas.Int.{ints}
-use Rattle.svc_base.specs.Text.{text_of_number, two_digits, text_of_cents, text_of_signed}
+use Rattle.svc_base.specs.Text.{two_digits, text_of_cents, text_of_signed}
 use Rattle.svc_base.proofs.TextLemmas.{front_and_pair, cents_injective}
 use Rattle.bank_recon.specs.Rows.{IsItemAmount, IsAmountWord}
 use Rattle.bank_recon.specs.SomeCents.{IsSomeCents}

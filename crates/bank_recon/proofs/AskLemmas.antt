@@ -1,6 +1,6 @@
 -- What a query for the rows of a command is answered.
-use Rattle.std.proofs.Common.{◌≡◌, ℕ, ◌≤◌, Bool, true, false, List, [], ◌∷◌, length, refl, sym, ap, ◌∙◌, subst, arith}
-use Rattle.std.specs.Prelude.{Option, Some, None, ◌||◌, ◌==◌, nat_lt}
+use Rattle.std.proofs.Common.{◌≡◌, ℕ, ◌≤◌, false, List, refl, sym, ◌∙◌, subst, arith}
+use Rattle.std.specs.Prelude.{Some, None, ◌==◌, nat_lt}
 use Rattle.std.proofs.lemmas.Bool.Decides.{nat_tests}
 use Rattle.svc_types.specs.declared.requests.Query.TheVariants as query
 use Rattle.svc_types.specs.declared.replies.Refusal.{Refusal}

@@ -1,5 +1,5 @@
 -- What is noted for a line, item by item.
-use Rattle.std.proofs.Common.{◌≡◌, ℕ, ◌+◌, ◌<◌, Bool, true, false, cond, List, [], ◌∷◌, ◌++◌, length, get_or, take, map, refl, sym, ap, subst, ◌∙◌, arith}
+use Rattle.std.proofs.Common.{◌≡◌, ℕ, ◌+◌, ◌<◌, Bool, true, false, cond, List, [], ◌∷◌, ◌++◌, length, get_or, take, refl, sym, ap, ◌∙◌}
 use Rattle.std.specs.Prelude.{Option, Some, None, ◌||◌, if◌then◌else◌, IsSome, unwrap_or}
 use Rattle.std.specs.List.{find, list_any}
 use Rattle.std.specs.Option.{option_map, option_or}
@@ -10,7 +10,7 @@ use Rattle.bank_recon.specs.declared.item.BankItem.{BankItem}
 use Rattle.bank_recon.specs.declared.recon.Reason.{Reason}
 use Rattle.bank_recon.specs.declared.recon.Reason.TheVariants.{NoSuch, Extra, Amount}
 use Rattle.bank_recon.specs.Items.{is_near}
-use Rattle.bank_recon.specs.Matching.{has_partner, left_from, open_of, reason_of, amount_of}
+use Rattle.bank_recon.specs.Matching.{has_partner, left_from, reason_of, amount_of}
 use Rattle.bank_recon.specs.Finding.{noted, first_amount, or_extra}
 
 -- ---- one open item more

@@ -1,15 +1,13 @@
 -- Each item is matched or open, each line is matched or not booked, and the sums follow.
-use Rattle.std.proofs.Common.{◌≡◌, ℕ, ◌+◌, ◌<◌, ◌≤◌, Bool, true, false, cond, List, [], ◌∷◌, ◌++◌, map, min, refl, sym, ap, subst, ◌∙◌, arith}
+use Rattle.std.proofs.Common.{◌≡◌, ℕ, ◌+◌, Bool, true, false, cond, List, [], ◌∷◌, ◌++◌, map, min, refl, sym, ap, subst, arith}
 use Rattle.std.specs.Prelude.{ℤ, ◌+ℤ◌, ◌-ℤ◌, nat_lt, if◌then◌else◌}
 use Rattle.std.specs.List.Sorted.{IsPermutation}
 use Rattle.std.proofs.lemmas.Int.{ints}
 use Rattle.std.proofs.lemmas.Bool.Decides.{nat_tests}
 use Rattle.std.proofs.lemmas.List.Sorted.{IsPermutation-refl, IsPermutation-sym, IsPermutation-cons, IsPermutation-trans, IsPermutation-middle, IsPermutation-append_left}
 use Rattle.svc_base.specs.Sums.{total_by}
-use Rattle.svc_base.proofs.SumLemmas.{total_by-append, total_by-insert}
 use Rattle.custodial_book.specs.declared.part.Account.{Account}
 use Rattle.bank_recon.specs.declared.item.BankItem.{BankItem}
-use Rattle.bank_recon.specs.declared.recon.Reason.{Reason}
 use Rattle.bank_recon.specs.Items.{is_same, count_of}
 use Rattle.bank_recon.specs.Matching.{has_partner, matched_from, left_from, matched_of, open_of, unbooked_of, with_reason, reasons_of}
 use Rattle.bank_recon.specs.Reconciling.{cents_in, sum_in, lines_of}

@@ -1,5 +1,5 @@
 -- What a bank's list says, row by row; a list says one thing.
-use Rattle.std.proofs.Common.{◌≡◌, ◌≢◌, ◌<◌, ◌≤◌, ◌+◌, ◌^◌, ◌⊎◌, inl, inr, ℕ, zero, suc, Bool, true, false, List, [], ◌∷◌, ◌++◌, length, map, get_or, refl, sym, ap, ◌∙◌, subst, arith, append-nil, append_assoc}
+use Rattle.std.proofs.Common.{◌≡◌, ◌≢◌, ◌<◌, ◌+◌, ◌^◌, ◌⊎◌, inl, inr, ℕ, zero, suc, List, [], ◌∷◌, ◌++◌, length, map, get_or, refl, sym, ap, ◌∙◌, subst, arith, append_assoc}
 use Rattle.std.specs.Prelude.{Result, Ok, Err, IfOk, IfErr, filter}
 use Rattle.std.specs.List.{AllZip}
 use Rattle.std.proofs.lemmas.List.{map-append}
@@ -9,7 +9,6 @@ use Rattle.csv.specs.declared.parser.State.{State}
 use Rattle.csv.specs.declared.parser.State.TheVariants.{StartRecord}
 use Rattle.svc_base.specs.Text.{text_of_number, text_of_signed}
 use Rattle.svc_base.proofs.TextLemmas.{number_injective}
-use Rattle.svc_types.specs.Requests.{IsReadNumber}
 use Rattle.custodial_book.specs.declared.part.Account.{Account}
 use Rattle.custodial_book.specs.declared.part.Account.TheVariants.{T, P}
 use Rattle.serv_import.specs.Batches.{records_of}
@@ -20,9 +19,9 @@ use Rattle.bank_recon.specs.declared.line.Line.{Line}
 use Rattle.bank_recon.specs.declared.fault.ReconFault.{ReconFault}
 use Rattle.bank_recon.specs.declared.fault.ReconFault.TheVariants.{Bad, OutOfMemory}
 use Rattle.bank_recon.specs.declared.statement.Statement.{Statement}
-use Rattle.bank_recon.specs.Rows.{header, text_of_kind, text_of_account, row_of, IsLine, IsKindWord, Fits, IsFirstMisfit, IsBadAt, count, column}
-use Rattle.bank_recon.specs.Reading.{is_kind, items_of_kind, HasHeader, IsStatement, IsBadRow, headless, misfit, Reading, Lists, BadRow, IsReading, IsAnswered, IsFault}
-use Rattle.bank_recon.specs.Taking.{TakesLine, TakesRow, TakesHeader, IsWrong, IsRowFault}
+use Rattle.bank_recon.specs.Rows.{header, text_of_kind, text_of_account, row_of, IsLine, Fits, IsFirstMisfit, IsBadAt, count, column}
+use Rattle.bank_recon.specs.Reading.{is_kind, items_of_kind, IsStatement, IsBadRow, headless, misfit, Reading, Lists, BadRow, IsReading, IsAnswered, IsFault}
+use Rattle.bank_recon.specs.Taking.{TakesRow, TakesHeader, IsWrong, IsRowFault}
 use Rattle.bank_recon.proofs.AmountLemmas.{signed_injective}
 use Rattle.bank_recon.proofs.RecordLemmas.{rows_begin}
 

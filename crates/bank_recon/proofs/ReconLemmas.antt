@@ -1,5 +1,5 @@
 -- What is found of the items of a span is its reconciliation.
-use Rattle.std.proofs.Common.{◌≡◌, ◌≤◌, ℕ, List, [], ◌++◌, sym, ap, ◌∙◌, subst, arith}
+use Rattle.std.proofs.Common.{◌≡◌, ◌≤◌, ℕ, List, [], ◌++◌, sym, ap, ◌∙◌, subst}
 use Rattle.std.specs.Prelude.{Result, Ok, Err, IfOk, ◌+ℤ◌, ◌-ℤ◌}
 use Rattle.std.specs.List.Sorted.{IsPermutation}
 use Rattle.custodial_book.specs.declared.part.Account.{Account}
@@ -9,7 +9,7 @@ use Rattle.bank_recon.specs.declared.recon.Recon.{Recon}
 use Rattle.bank_recon.specs.declared.recon.Reason.{Reason}
 use Rattle.bank_recon.specs.Items.{items_in}
 use Rattle.bank_recon.specs.Matching.{matched_of, open_of, unbooked_of, reasons_of}
-use Rattle.bank_recon.specs.Reconciling.{sum_in, book_of, lines_of, AgreesIn, IsRecon}
+use Rattle.bank_recon.specs.Reconciling.{sum_in, lines_of, AgreesIn, IsRecon}
 use Rattle.bank_recon.proofs.PairLemmas.{once, bank_once, lines_are, sums_agree}
 use Rattle.bank_recon.proofs.SpanLemmas.{book_is}
 

@@ -1,5 +1,5 @@
 -- What is noted of an account and a number: the first of some reasons.
-use Rattle.std.specs.Prelude.{Bool, List, Option, Some, None, if◌then◌else◌}
+use Rattle.std.specs.Prelude.{List, Option, Some, None, if◌then◌else◌}
 use Rattle.std.specs.List.{find, list_any}
 use Rattle.std.specs.Option.{option_map, option_or}
 use Rattle.bank_recon.specs.declared.item.BankItem.{BankItem}

@@ -45,7 +45,8 @@ item_at (Custodial account) number cents = item account number cents ∷ []
 -- go to
 abbrev pub items_of : Row → List BankItem
 items_of row =
-    item_at (paid_from row.part) row.number (pos 0 -ℤ row.cents) ++ item_at (paid_to row.part) row.number row.cents
+    item_at (paid_from row.part) row.number (pos 0 -ℤ row.cents)
+    ++ item_at (paid_to row.part) row.number row.cents
 
 -- the rows of a span of commands, from the first number to the last; numbers after the last command have none
 abbrev pub rows_of_span : ℕ → ℕ → List Accepted → List Row

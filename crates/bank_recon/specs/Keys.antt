@@ -25,4 +25,5 @@ key_of x = record { in_t = is_t x.account; number = x.number; cents = x.cents }
 
 abbrev pub key_cmp : ItemKey → ItemKey → Ordering
 key_cmp x y =
-    ordering_then (bool_cmp x.in_t y.in_t) (ordering_then (nat_cmp x.number y.number) (int_cmp x.cents y.cents))
+    ordering_then (bool_cmp x.in_t y.in_t)
+    (ordering_then (nat_cmp x.number y.number) (int_cmp x.cents y.cents))

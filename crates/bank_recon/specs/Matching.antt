@@ -1,5 +1,5 @@
 -- Which items and which lines of the bank go together.
-use Rattle.std.specs.Prelude.{ℕ, nat_lt, Bool, List, [], ◌∷◌, map, Option, Some, None, if◌then◌else◌}
+use Rattle.std.specs.Prelude.{nat_lt, Bool, List, [], ◌∷◌, map, Option, Some, None, if◌then◌else◌}
 use Rattle.std.specs.List.{find, list_any}
 use Rattle.bank_recon.specs.declared.item.BankItem.{BankItem}
 use Rattle.bank_recon.specs.declared.recon.Reason.{Reason}

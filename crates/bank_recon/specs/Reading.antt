@@ -1,5 +1,5 @@
 -- What a bank's list says: its items and lines, or the first row and column that do not fit.
-use Rattle.std.specs.Prelude.{◌≡◌, ℕ, ◌+◌, Bool, true, false, List, [], ◌∷◌, ◌++◌, length, map, ⊤, Result, Ok, Err}
+use Rattle.std.specs.Prelude.{◌≡◌, ℕ, ◌+◌, Bool, true, false, List, ◌∷◌, ◌++◌, length, map, ⊤, Result, Ok, Err}
 use Rattle.std.specs.List.{AllZip, filter}
 use Rattle.serv_import.specs.Batches.{records_of}
 use Rattle.bank_recon.specs.declared.item.BankItem.{BankItem}
@@ -39,7 +39,8 @@ pub record IsStatement (bytes : List ℕ) (carried bank : List BankItem) : Type 
 pub data IsBadRow (bytes : List ℕ) : ℕ → ℕ → Type 0 where
   headless : (HasHeader bytes → ⊥) → IsBadRow bytes 1 1
   misfit : (before after : List (List (List ℕ))) (lines : List Line) (row : List (List ℕ)) (column : ℕ)
-      → records_of bytes ≡ header ∷ (before ++ row ∷ after) → AllZip IsLine before lines → IsBadAt row column
+      → records_of bytes ≡ header ∷ (before ++ row ∷ after)
+      → AllZip IsLine before lines → IsBadAt row column
       → IsBadRow bytes (length before + 2) column
 
 -- what is read of a list: open items and lines of the bank, or the row and the column that do not fit

@@ -1,5 +1,5 @@
 -- What a reconciliation says: books and bank agree but for what stands open and what is not booked.
-use Rattle.std.specs.Prelude.{◌≡◌, ℕ, ◌-◌, Bool, if◌then◌else◌, List, ◌++◌, map, take, ℤ, pos, ◌+ℤ◌, ◌-ℤ◌}
+use Rattle.std.specs.Prelude.{◌≡◌, ℕ, ◌-◌, if◌then◌else◌, List, ◌++◌, map, take, ℤ, pos, ◌+ℤ◌, ◌-ℤ◌}
 use Rattle.std.specs.List.Sorted.{IsPermutation}
 use Rattle.svc_base.specs.Sums.{total_by}
 use Rattle.custodial_book.specs.declared.part.Account.{Account}
@@ -37,11 +37,13 @@ lines_of unbooked = map (λ l. l.0) unbooked
 abbrev pub AgreesIn : Account → List BankItem → List BankItem → ℕ → ℕ → List Accepted → Recon → Type 0
 AgreesIn account carried bank first last h r =
     book_of account carried first last h
-    ≡ sum_in account bank +ℤ sum_in account r.outstanding.items -ℤ sum_in account (lines_of r.unbooked.items)
+    ≡ sum_in account bank +ℤ sum_in account r.outstanding.items
+    -ℤ sum_in account (lines_of r.unbooked.items)
 
--- what is found of the items that were carried, those of a span, and the lines of the bank. Each item is matched
--- or open, and each line is matched or not booked
-pub record IsRecon (carried bank : List BankItem) (first last : ℕ) (h : List Accepted) (r : Recon) : Type 0 where
+-- what is found of the items that were carried, those of a span, and the lines of the bank. Each item is
+-- matched or open, and each line is matched or not booked
+pub record IsRecon (carried bank : List BankItem) (first last : ℕ) (h : List Accepted) (r : Recon)
+    : Type 0 where
   pub outstanding : r.outstanding.items ≡ open_of (items_in carried first last h) bank
   pub unbooked : r.unbooked.items ≡ reasons_of (items_in carried first last h) bank
   pub matched : r.matched.items ≡ matched_of (items_in carried first last h) bank

@@ -1,5 +1,5 @@
 -- The text of a reconciliation.
-use Rattle.std.specs.Prelude.{◌≡◌, ℕ, ℤ, List, [], ◌∷◌, ◌++◌, codes}
+use Rattle.std.specs.Prelude.{◌≡◌, ℕ, ℤ, List, ◌∷◌, ◌++◌, codes}
 use Rattle.std.specs.List.{flat_map}
 use Rattle.svc_base.specs.Text.{text_of_number, text_of_signed}
 use Rattle.custodial_book.specs.declared.part.Account.{Account}
@@ -21,7 +21,8 @@ spaced word = 32 ∷ word
 
 -- an account, a number and an amount
 unfoldable pub text_of_item : BankItem → List ℕ
-text_of_item x = text_of_account x.account ++ spaced (text_of_number x.number) ++ spaced (text_of_signed x.cents)
+text_of_item x =
+    text_of_account x.account ++ spaced (text_of_number x.number) ++ spaced (text_of_signed x.cents)
 
 abbrev pub text_of_reason : Reason → List ℕ
 text_of_reason NoSuch = codes "NoSuch"
@@ -71,7 +72,8 @@ text_of_recon carried bank first last h =
 
 -- the row and the column of a list that do not fit
 unfoldable pub text_of_bad_row : ℕ → ℕ → List ℕ
-text_of_bad_row row column = ended (codes "bad row " ++ text_of_number row ++ codes " column " ++ text_of_number column)
+text_of_bad_row row column = ended
+    (codes "bad row " ++ text_of_number row ++ codes " column " ++ text_of_number column)
 
 abbrev pub text_of_reading : Reading → ℕ → ℕ → List Accepted → List ℕ
 text_of_reading (Lists carried bank) first last h = text_of_recon carried bank first last h

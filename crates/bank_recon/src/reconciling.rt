@@ -12,10 +12,10 @@ use svc_base::{OutOfMemory, Steps};
 use svc_core::Core;
 use svc_replay::LoanBooks;
 
-/// Compares the items that were carried, and those of the commands from one number to another, with the lines
-/// of the bank: the j-th item of an account, number and amount is matched with the j-th such line. Each item is
-/// matched or outstanding, each line is matched or not booked, and the books differ from the bank by just
-/// these. Errs only where memory is short.
+/// Compares the items that were carried, and those of the commands from one number to another, with the
+/// lines of the bank: the j-th item of an account, number and amount is matched with the j-th such line.
+/// Each item is matched or outstanding, each line is matched or not booked, and the books differ from the
+/// bank by just these. Errs only where memory is short.
 pub fn reconcile<B: LoanBooks, L: Ledger>(
     alloc: Global,
     core: &Core<B>,

@@ -131,8 +131,8 @@ fn movements_are_matched(rt: HostRuntime) -> Result<(), Fail> {
     check(&rt, rt.alloc(), FIRST_PAYMENT.as_bytes(), &rows)
 }
 
-/// A line that comes twice is matched once: it is extra where all items of its number are matched, and else has
-/// another amount. Of three items of one amount two lines leave one, and of three lines one item leaves two.
+/// A line that comes twice is matched once: it is extra where all items of its number are matched, and else
+/// has another amount. Of three items of one amount two lines leave one, and of three lines one item two.
 #[test]
 fn lines_are_matched_once(rt: HostRuntime) -> Result<(), Fail> {
     let rows = [

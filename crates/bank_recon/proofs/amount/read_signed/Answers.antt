@@ -1,5 +1,5 @@
-use Rattle.std.proofs.Common.{◌≡◌, arith, to_z, of_z, rules}
-use Rattle.std.specs.Prelude.{pos, neg_ℤ, ◌-ℤ◌}
+use Rattle.std.proofs.Common.{arith, to_z, of_z}
+use Rattle.std.specs.Prelude.{pos, ◌-ℤ◌}
 use Rattle.std.specs.Int.{w64}
 use Rattle.std.proofs.lemmas.Int.{ints}
 use Rattle.svc_base.proofs.TextLemmas.{on_none}

@@ -1,5 +1,4 @@
-use Rattle.std.proofs.Common.{◌≡◌, ℕ, arith, sym, ◌∙◌}
-use Rattle.svc_base.specs.Text.{text_of_cents}
+use Rattle.std.proofs.Common.{◌≡◌, arith, sym, ◌∙◌}
 use Rattle.svc_base.proofs.TextLemmas.{cents_injective}
 use Rattle.bank_recon.proofs.amount.read_some.Goals as goal
 

@@ -1,8 +1,8 @@
-use Rattle.std.proofs.Common.{◌≡◌, ◌+◌, ◌-◌, true, false, length, get_or, take, pos, arith, sym, ap, ◌∙◌, rules, refl}
+use Rattle.std.proofs.Common.{◌≡◌, get_or, take, pos, arith}
 use Rattle.std.proofs.lemmas.List.{get_or_default, length-take}
 use Rattle.custodial_book.specs.declared.part.Account.TheVariants.{T}
 use Rattle.bank_recon.specs.declared.item.BankItem.{BankItem}
-use Rattle.bank_recon.specs.Items.{item, count_of}
+use Rattle.bank_recon.specs.Items.{item}
 use Rattle.bank_recon.proofs.CountLemmas.{added_more, count_few}
 use Rattle.bank_recon.proofs.counts.counts_of.Goals as goal
 

@@ -1,8 +1,8 @@
-use Rattle.std.proofs.Common.{◌≡◌, ◌+◌, ◌-◌, ◌++◌, ◌∷◌, [], true, false, length, get_or, take, pos, arith, sym, ap, ◌∙◌, rules, refl}
+use Rattle.std.proofs.Common.{◌≡◌, ◌++◌, ◌∷◌, [], get_or, pos, sym, ap, ◌∙◌}
 use Rattle.std.proofs.lemmas.List.{get_or_default}
 use Rattle.custodial_book.specs.declared.part.Account.TheVariants.{T}
 use Rattle.bank_recon.specs.declared.item.BankItem.{BankItem}
-use Rattle.bank_recon.specs.Items.{item, count_of}
+use Rattle.bank_recon.specs.Items.{item}
 use Rattle.bank_recon.specs.declared.matching.Parted.{Parted}
 use Rattle.bank_recon.proofs.MatchLemmas.{matched_yes, matched_no, counts_more}
 use Rattle.bank_recon.proofs.matching.part_items.Goals as goal

@@ -1,4 +1,4 @@
-use Rattle.std.proofs.Common.{◌≡◌, ◌+◌, ◌-◌, true, false, length, get_or, take, pos, arith, sym, ap, ◌∙◌, rules, refl}
+use Rattle.std.proofs.Common.{◌≡◌, get_or, pos, ◌∙◌}
 use Rattle.std.proofs.lemmas.List.{get_or_default}
 use Rattle.custodial_book.specs.declared.part.Account.TheVariants.{T}
 use Rattle.bank_recon.specs.declared.item.BankItem.{BankItem}

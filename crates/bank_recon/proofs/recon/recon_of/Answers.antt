@@ -1,6 +1,6 @@
-use Rattle.std.proofs.Common.{◌≡◌, [], true, ap, subst, ◌∙◌, sym}
+use Rattle.std.proofs.Common.{[], subst, ◌∙◌}
 use Rattle.std.specs.Prelude.{List, IsSome}
-use Rattle.std.specs.List.{find, list_any}
+use Rattle.std.specs.List.{find}
 use Rattle.bank_recon.specs.declared.item.BankItem.{BankItem}
 use Rattle.bank_recon.specs.Items.{is_near}
 use Rattle.bank_recon.proofs.FindLemmas.{left_is_near}

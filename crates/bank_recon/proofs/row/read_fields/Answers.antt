@@ -1,4 +1,4 @@
-use Rattle.std.proofs.Common.{◌≡◌, ap, ◌∙◌, sym, rules}
+use Rattle.std.proofs.Common.{rules}
 use Rattle.bank_recon.specs.Rows.{IsKindWord, IsAccountWord, IsNumberWord, IsAmountWord}
 use Rattle.bank_recon.proofs.ColumnLemmas.{bad_kind, bad_account, bad_number, bad_amount}
 use Rattle.bank_recon.proofs.row.read_fields.Goals as goal

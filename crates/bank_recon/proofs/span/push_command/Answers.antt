@@ -1,4 +1,4 @@
-use Rattle.std.proofs.Common.{◌≡◌, ap, sym, subst, ◌∙◌, filter, List, eqb}
+use Rattle.std.proofs.Common.{sym, subst, ◌∙◌, List, eqb}
 use Rattle.std.specs.List.{All}
 use Rattle.std.proofs.lemmas.List.Elements.{All-filter}
 use Rattle.custodial_book.specs.declared.row.Row.{Row}

@@ -1,4 +1,4 @@
-use Rattle.std.proofs.Common.{◌≡◌, length, rules}
+use Rattle.std.proofs.Common.{length}
 use Rattle.svc_world.specs.World.{world}
 use Rattle.svc_world.specs.Custody.{rows_in}
 use Rattle.bank_recon.proofs.AskLemmas.{rows_answered, rows_are, not_refused}

@@ -1,4 +1,3 @@
-use Rattle.std.proofs.Common.{rules}
 use Rattle.bank_recon.proofs.ReadingLemmas.{answered}
 use Rattle.bank_recon.proofs.statement.items.Goals as goal
 

@@ -3,10 +3,8 @@ use Rattle.std.specs.Int.{w128}
 use Rattle.std.proofs.lemmas.Int.{ints}
 use Rattle.custodial_book.specs.declared.part.Account.TheVariants.{T}
 use Rattle.bank_recon.specs.declared.item.BankItem.{BankItem}
-use Rattle.bank_recon.specs.declared.recon.Reason.{Reason}
-use Rattle.bank_recon.specs.declared.recon.Reason.TheVariants.{NoSuch}
 use Rattle.bank_recon.specs.Items.{item}
-use Rattle.bank_recon.specs.Reconciling.{cents_in, sum_in, lines_of}
+use Rattle.bank_recon.specs.Reconciling.{cents_in, sum_in}
 use Rattle.bank_recon.proofs.RowLemmas.{sum_more}
 use Rattle.bank_recon.proofs.sums.sum_of_items.Goals as goal
 

@@ -1,6 +1,6 @@
 use Rattle.std.proofs.Common.{◌≡◌, ◌*◌, ◌^◌, take}
 use Rattle.std.specs.Prelude.{pos, neg_ℤ, ◌≤ℤ◌}
-use Rattle.bank_recon.specs.Reconciling.{sum_in, lines_of}
+use Rattle.bank_recon.specs.Reconciling.{sum_in}
 use Rattle.bank_recon.proofs.sums.sum_of_items.Given as goal
 
 abbrev pub invariant-loop-item : goal.invariant-loop-item

@@ -1,4 +1,4 @@
-use Rattle.std.proofs.Common.{◌≡◌, subst}
+use Rattle.std.proofs.Common.{subst}
 use Rattle.bank_recon.specs.declared.fault.ReconFault.{ReconFault}
 use Rattle.bank_recon.specs.Reading.{Lists, BadRow, IsFault}
 use Rattle.bank_recon.proofs.TextLemmas.{texts_told}

@@ -1,9 +1,9 @@
-use Rattle.std.proofs.Common.{◌≡◌, ℕ, ◌+◌, arith, refl, sym, ap, ◌∙◌}
+use Rattle.std.proofs.Common.{◌≡◌, ℕ, ◌+◌, arith, refl, ap, ◌∙◌}
 use Rattle.std.specs.Prelude.{Option, unwrap_or}
 use Rattle.std.specs.BTreeMap.{get}
 use Rattle.bank_recon.specs.declared.key.ItemKey.{ItemKey}
 use Rattle.bank_recon.specs.Counting.{count_in}
-use Rattle.bank_recon.specs.Keys.{key_of, key_cmp}
+use Rattle.bank_recon.specs.Keys.{key_cmp}
 use Rattle.bank_recon.proofs.KeyLemmas.{counted_after}
 use Rattle.bank_recon.proofs.counts.Counts.add.Goals as goal
 

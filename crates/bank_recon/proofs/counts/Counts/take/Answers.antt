@@ -1,7 +1,7 @@
-use Rattle.std.proofs.Common.{◌≡◌, ◌-◌, ℕ, true, rules, sym, ap, ◌∙◌}
+use Rattle.std.proofs.Common.{◌≡◌, ◌-◌, ℕ, rules, sym, ap}
 use Rattle.std.specs.Prelude.{Option, is_some, unwrap_or}
 use Rattle.std.specs.BTreeMap.{get}
-use Rattle.bank_recon.specs.Keys.{key_of, key_cmp}
+use Rattle.bank_recon.specs.Keys.{key_cmp}
 use Rattle.bank_recon.proofs.KeyLemmas.{counted_after}
 use Rattle.bank_recon.proofs.counts.Counts.take.Goals as goal
 

@@ -1,4 +1,4 @@
-use Rattle.std.proofs.Common.{◌≡◌, false, sym, ap, ◌∙◌}
+use Rattle.std.proofs.Common.{sym}
 use Rattle.std.specs.BTreeMap.{get}
 use Rattle.bank_recon.specs.Keys.{place_cmp}
 use Rattle.bank_recon.proofs.KeyLemmas.{noted_after, noted_before}
