@@ -290,7 +290,7 @@ rows_end (status.NoReport last) saids s s' pending written writes disks is = abs
 rows_end (status.TooMuch bytes) saids s s' pending written writes disks is = absurd is
 rows_end (status.JournalFull bytes) saids s s' pending written writes disks is = absurd is
 
-unread_ends : (st : Status) (taken input : List ℕ) → length taken ≤ length input → length input < input_limit → (st ≡ status.ReadFault → ⊥) → IsUnread st taken → Completes st
+pub unread_ends : (st : Status) (taken input : List ℕ) → length taken ≤ length input → length input < input_limit → (st ≡ status.ReadFault → ⊥) → IsUnread st taken → Completes st
 unread_ends status.ReadFault taken input few short reads is = absurd (reads refl)
 unread_ends (status.TooMuch n) taken input few short reads is = absurd (omega (arith, few, short, is.0, is.1))
 unread_ends status.OutOfMemory taken input few short reads is = inr (inl refl)

@@ -11,4 +11,5 @@ pub mod ShownLemmas
 pub mod WrittenLemmas
 pub mod WordLemmas
 pub mod ImportLemmas
+pub mod ReviewLemmas
 pub mod LinksLemmas

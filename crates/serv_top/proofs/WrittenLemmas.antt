@@ -27,7 +27,7 @@ all_lines_of i ps all =
     ∙ sym (flat_map-map (λ (a : Accepted). ended (line_of_command a)) (λ (p : List ℕ × Command). accepted p.0 p.1) ps)
 
 -- a text that is one of those that are wanted
-pub written_of : (st : Status) (T : List ℕ → Type 0) (text written : List ℕ) → T text → IsWrittenAs st (λ t. t ≡ text) written → IsWrittenAs st T written
+written_of : (st : Status) (T : List ℕ → Type 0) (text written : List ℕ) → T text → IsWrittenAs st (λ t. t ≡ text) written → IsWrittenAs st T written
 written_of status.Done T text written is says = subst T (sym says) is
 written_of status.WriteFault T text written is says = record { text = text; whole = is; cut = subst (IsProperPrefix written) says.whole says.cut }
 written_of status.OutOfMemory T text written is says = says

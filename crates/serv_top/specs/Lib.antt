@@ -11,6 +11,7 @@ pub mod Journal
 pub mod Shown
 pub mod Written
 pub mod Extracts
+pub mod Reviews
 pub mod Imported
 pub mod Drilled
 pub mod Served

@@ -7,9 +7,11 @@ use Rattle.svc_base.specs.Text.{IsReadMonth, text_of_month, text_of_number}
 use Rattle.svc_types.specs.declared.requests.Query.{Query}
 use Rattle.svc_types.specs.declared.requests.Query.TheVariants as query
 use Rattle.serv_top.specs.declared.extracts.Extract.TheVariants as extract
+use Rattle.serv_top.specs.declared.reviews.Review.TheVariants as review
 use Rattle.serv_top.specs.Extracts.{IsAskedExtract}
+use Rattle.serv_top.specs.Reviews.{IsAskedReview}
 use Rattle.serv_top.specs.declared.words.Task.{Task}
-use Rattle.serv_top.specs.declared.words.Task.TheVariants.{Init, Apply, Session, Import, Show, Drill, Serve, Extract}
+use Rattle.serv_top.specs.declared.words.Task.TheVariants.{Init, Apply, Session, Import, Show, Drill, Serve, Extract, Review}
 
 -- two digits as a number
 abbrev pub number_of_pair : ℕ → ℕ → ℕ
@@ -37,13 +39,17 @@ number_in most text =
     if nat_le (digits_value 10 text) most && bytes_eq text (text_of_number (digits_value 10 text)) then
     Some (digits_value 10 text) else None
 
+-- the texts that a word asks for
+abbrev pub text_of_word : List ℕ → Option Task
+text_of_word word = if bytes_eq word (codes "statement") then Some (Extract extract.Statement) else None
+
 abbrev pub task_of_word : List ℕ → Option Task
 task_of_word word =
     if bytes_eq word (codes "init") then Some Init
     else (if bytes_eq word (codes "apply") then Some Apply
     else (if bytes_eq word (codes "session") then Some Session
     else (if bytes_eq word (codes "import") then Some Import
-    else (if bytes_eq word (codes "custodial") then Some (Show query.Custodial) else None))))
+    else (if bytes_eq word (codes "custodial") then Some (Show query.Custodial) else text_of_word word))))
 
 -- what a word asks for about a month
 abbrev pub task_about : List ℕ → Option ℕ → Option Task
@@ -73,12 +79,17 @@ range_of (Some from) (Some to) = if nat_le from to then Some (from, to) else Non
 abbrev pub range_in : List ℕ → List ℕ → Option (ℕ × ℕ)
 range_in from to = range_of (number_in 4294967295 from) (number_in 4294967295 to)
 
--- what a word asks for about a range of loans
+-- a span of commands begins at 1 or behind it
+abbrev pub span : ℕ → ℕ → Option Task
+span first last = if nat_le 1 first then Some (Review (review.Reconcile first last)) else None
+
+-- what a word asks for about a range of loans, or of commands
 abbrev pub task_over : List ℕ → Option (ℕ × ℕ) → Option Task
 task_over word None = None
 task_over word (Some (from, to)) =
     if bytes_eq word (codes "transfer") then Some (Extract (extract.Transfer from to))
-    else (if bytes_eq word (codes "remain") then Some (Extract (extract.Remain from to)) else None)
+    else (if bytes_eq word (codes "remain") then Some (Extract (extract.Remain from to))
+    else (if bytes_eq word (codes "reconcile") then span from to else None))
 
 -- what a word asks for about two numbers
 abbrev pub task_with : List ℕ → List ℕ → List ℕ → Option Task
@@ -98,7 +109,7 @@ IsShowing (query.Payoff l d) = ⊥
 IsShowing (query.Escrow l) = ⊥
 IsShowing (query.Rows number) = ⊥
 
--- words ask no other query, no year of more loans, no further port or connections, and no range that goes down
+-- words ask no other query, no year of more loans, no further port or connections, no range that goes down, and no span from 0
 abbrev pub IsTask : Task → Type 0
 IsTask Init = Unit {0}
 IsTask Apply = Unit {0}
@@ -108,6 +119,7 @@ IsTask (Show q) = IsShowing q
 IsTask (Drill loans number) = loans ≤ 500
 IsTask (Serve port links) = (port ≤ 65535) × (links ≤ 1000000)
 IsTask (Extract x) = IsAskedExtract x
+IsTask (Review x) = IsAskedReview x
 
 -- a journal's name, which is not empty, and what is to be done, for two of these a month, and for two of these two numbers
 abbrev pub task_in : List (List ℕ) → Option Task

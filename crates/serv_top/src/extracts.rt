@@ -14,7 +14,7 @@ use crate::status::Status;
 use crate::writing::write_text;
 use serv_disk::{Disk, Sink};
 use serv_line::{push_bytes, push_line};
-use servicing_transfer::split;
+use servicing_transfer::{split, statement};
 use std::alloc::Global;
 use std::sync::ledger::Ledger;
 use svc_base::{OutOfMemory, Steps};
@@ -29,6 +29,8 @@ pub(crate) enum Extract {
     Transfer(u32, u32),
     /// The lines of the commands on all other loans, which stay.
     Remain(u32, u32),
+    /// The statement of all loans.
+    Statement,
 }
 
 /// Opens the journal of the disk, and writes the text over its commands in one go.
@@ -79,6 +81,7 @@ fn text_of<L: Ledger>(
             let halves = split(alloc, core, from, to)?;
             lines_of(alloc, &halves.outside)
         }
+        Extract::Statement => statement(alloc, core, steps),
     }
 }
 

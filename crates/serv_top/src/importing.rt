@@ -80,7 +80,7 @@ fn import_by<D: Disk, M: Machine<D>, S: Source, K: Sink, L: Ledger>(
 }
 
 /// The whole source. Errs where it has too many bytes, a read fails or memory is short.
-fn read_all<S: Source>(alloc: Global, src: &mut S) -> Result<Vec<u8>, Status>
+pub(crate) fn read_all<S: Source>(alloc: Global, src: &mut S) -> Result<Vec<u8>, Status>
     ensures whole { IfOk result (λ v. Consumes (S.left src.old) (S.left src.new) v.items
         × IsAtEnd (S.left src.new) × (length v.items < input_limit)) }
     ensures unread { IfErr result (λ status. (taken : List ℕ)

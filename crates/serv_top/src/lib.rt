@@ -9,6 +9,7 @@ mod laws;
 mod one_link;
 mod over_doors;
 mod over_journal;
+mod reviews;
 mod serving;
 mod showing;
 mod status;

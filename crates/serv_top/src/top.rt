@@ -19,6 +19,8 @@ ghost use Rattle.serv_links.specs.Doors.{ServedLink};
 ghost use Rattle.serv_top.specs.Shown.{IsShown};
 ghost use Rattle.serv_top.specs.declared.extracts.Extract.{Extract};
 ghost use Rattle.serv_top.specs.Extracts.{IsExtracted};
+ghost use Rattle.serv_top.specs.declared.reviews.Review.{Review};
+ghost use Rattle.serv_top.specs.Reviews.{IsReviewed};
 ghost use Rattle.serv_top.specs.Served.{IsServedOver};
 ghost use Rattle.serv_top.specs.Outcome.{Ran, input_limit};
 ghost use Rattle.serv_top.specs.Words.{task_in};
@@ -28,6 +30,7 @@ use crate::extracts::write_extract;
 use crate::importing::import;
 use crate::over_doors::serve_over;
 use crate::over_journal::{apply, make_journal};
+use crate::reviews::write_review;
 use crate::showing::show;
 use crate::status::Status;
 use crate::stream::serve;
@@ -70,11 +73,13 @@ fn session<S: Source, K: Sink, L: Ledger>(
 /// over books in memory that begin empty. `<journal> report <month>`, `<journal> trial <month>` and `<journal>
 /// custodial` write that text over the journal. `<journal> transfer <from> <to>` writes the lines of the part of its
 /// commands that is of the loans with these numbers, which a servicer who takes them over applies to a new journal;
-/// `<journal> remain <from> <to>` writes those of the part that is of all other loans. `<journal> drill <loans>
-/// <number>` writes the summary of the generated year, which is made in memory. `<journal> serve <port> <connections>`
-/// serves so many links, one after another, over the journal, each of which is handed back to the doors, and writes
-/// their summary; the doors listen at the port. A last piece without a line feed is a line too. All lines that a line
-/// feed ended in the bytes taken are answered before the source is read again.
+/// `<journal> remain <from> <to>` writes those of the part that is of all other loans. `<journal> statement` writes the
+/// statement of all loans. `<journal> reconcile <first> <last>` reads a bank's movements and writes how the rows of
+/// the commands with these numbers match them. `<journal> drill <loans> <number>` writes the summary of the generated
+/// year, which is made in memory. `<journal> serve <port> <connections>` serves so many links, one after another,
+/// over the journal, each of which is handed back to the doors, and writes their summary; the doors listen at the
+/// port. A last piece without a line feed is a line too. All lines that a line feed ended in the bytes taken are
+/// answered before the source is read again.
 pub fn run<S: Source, K: Sink, D: Disk, G: Doors, L: Ledger>(
     alloc: Global,
     words: &[&str],
@@ -143,6 +148,15 @@ pub fn run<S: Source, K: Sink, D: Disk, G: Doors, L: Ledger>(
     ensures extract_source { (x : Extract) → task_in (map (λ w. w.now) words.now) ≡ Some (task.Extract x)
         → src.new ≡ src.old }
     ensures extract_file { (x : Extract) → task_in (map (λ w. w.now) words.now) ≡ Some (task.Extract x)
+        → HasFileFaults (D.seen disk.old) result }
+
+    // A text about the input and the commands of a journal is written: the whole input is taken first.
+    ensures review { (x : Review) → task_in (map (λ w. w.now) words.now) ≡ Some (task.Review x)
+        → (IsUnopened D.seen D.images D.moment D.images_since D.faults disk.old disk.new result
+        steps.old steps.new × (src.new ≡ src.old) × (snk.new ≡ snk.old))
+        ⊎ IsReviewed D.seen D.images D.moment D.images_since disk.old disk.new result x
+        steps.old steps.new (S.left src.old) (S.left src.new) (K.held snk.old) (K.held snk.new) }
+    ensures review_file { (x : Review) → task_in (map (λ w. w.now) words.now) ≡ Some (task.Review x)
         → HasFileFaults (D.seen disk.old) result }
 
     // The summary of a generated year is written, which is made in memory.
@@ -221,6 +235,14 @@ pub fn run<S: Source, K: Sink, D: Disk, G: Doors, L: Ledger>(
         → task_in (map (λ w. w.now) words.now) ≡ Some (task.Extract x)
         → (result ≡ Status.Done) ⊎ ((result ≡ Status.OutOfMemory)
         ⊎ ((bytes : ℕ) × (result ≡ Status.JournalFull bytes))) }
+    ensures complete_review { (x : Review) (input s : List ℕ) (h : List Accepted) (a : Accepted)
+        → S.left src.old ≡ Some input → length input < input_limit
+        → D.seen disk.old ≡ Some s → IsHistory (h ++ a ∷ []) → Each (D.images disk.old) (IsGoodFound h a)
+        → ¬ HasRisen (S.faults src.old) (S.faults src.new) → ¬ HasRisen (K.faults snk.old) (K.faults snk.new)
+        → ¬ HasRisen (D.faults disk.old) (D.faults disk.new)
+        → task_in (map (λ w. w.now) words.now) ≡ Some (task.Review x)
+        → (result ≡ Status.Done) ⊎ ((result ≡ Status.OutOfMemory)
+        ⊎ ((bytes : ℕ) × (result ≡ Status.JournalFull bytes))) }
     ensures complete_drill { (loans number : ℕ) → ¬ HasRisen (K.faults snk.old) (K.faults snk.new)
         → task_in (map (λ w. w.now) words.now) ≡ Some (task.Drill loans number)
         → (result ≡ Status.Done) ⊎ (result ≡ Status.OutOfMemory) }
@@ -245,6 +267,7 @@ pub fn run<S: Source, K: Sink, D: Disk, G: Doors, L: Ledger>(
         Some(Task::Import) => import(alloc, src, snk, disk, steps),
         Some(Task::Session) => session(alloc, src, snk, steps),
         Some(Task::Extract(extract)) => write_extract(alloc, extract, snk, disk, steps),
+        Some(Task::Review(review)) => write_review(alloc, review, src, snk, disk, steps),
     }
 }
 

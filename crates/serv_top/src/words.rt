@@ -2,9 +2,11 @@
 
 ghost use Rattle.std.specs.Prelude.{◌≡◌, ◌≤◌, IfSome, map};
 ghost use Rattle.svc_base.specs.Text.{IsReadMonth};
-ghost use Rattle.serv_top.specs.Words.{IsTask, month_in, number_in, port_of_task, range_in, served_at, task_about, task_in, task_of_word, task_over, task_with, year_of};
+ghost use Rattle.serv_top.specs.Words.{IsTask, month_in, number_in, port_of_task, range_in, served_at, task_about, task_in, task_of_word, task_over, task_with, text_of_word, year_of};
+ghost use Rattle.serv_top.specs.Words as words;
 
 use crate::extracts::Extract;
+use crate::reviews::Review;
 use serv_links::MOST_LINKS;
 use svc_base::{Month, read_month, read_number};
 use svc_types::Query;
@@ -29,6 +31,8 @@ pub(crate) enum Task {
     Serve(u16, u32),
     /// Writes a text over the journal's commands.
     Extract(Extract),
+    /// Writes a text about the input, which is read whole, over the journal's commands.
+    Review(Review),
 }
 
 /// The most loans of a generated year.
@@ -39,6 +43,17 @@ const LAST_NUMBER: u32 = 999_999;
 
 /// The last port.
 const LAST_PORT: u32 = 65_535;
+
+/// The text that a word asks for.
+fn text_of(word: &str) -> Option<Task>
+    ensures task { result ≡ text_of_word word.now }
+    ensures well { IfSome result IsTask }
+{
+    if word == "statement" {
+        return Some(Task::Extract(Extract::Statement));
+    }
+    None
+}
 
 /// What a word asks for.
 fn task_of(word: &str) -> Option<Task>
@@ -60,7 +75,7 @@ fn task_of(word: &str) -> Option<Task>
     if word == "custodial" {
         return Some(Task::Show(Query::Custodial));
     }
-    None
+    text_of(word)
 }
 
 /// The month that a text spells.
@@ -138,7 +153,20 @@ fn range(from: &str, to: &str) -> Option<(u32, u32)>
     if from <= to { Some((from, to)) } else { None }
 }
 
-/// What a word asks for about a range of loans.
+/// The span of commands from one number, which is not 0, to another.
+fn span(first: u32, last: u32) -> Option<Task>
+    requires up { first ≤ last }
+    ensures task { result ≡ words.span first last }
+    ensures well { IfSome result IsTask }
+{
+    if first >= 1 {
+        Some(Task::Review(Review::Reconcile(first, last)))
+    } else {
+        None
+    }
+}
+
+/// What a word asks for about a range of loans, or of commands.
 fn task_of_range(word: &str, from: &str, to: &str) -> Option<Task>
     ensures task { result ≡ task_over word.now (range_in from.now to.now) }
     ensures well { IfSome result IsTask }
@@ -149,6 +177,9 @@ fn task_of_range(word: &str, from: &str, to: &str) -> Option<Task>
     }
     if word == "remain" {
         return Some(Task::Extract(Extract::Remain(from, to)));
+    }
+    if word == "reconcile" {
+        return span(from, to);
     }
     None
 }

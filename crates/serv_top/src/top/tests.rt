@@ -3,6 +3,7 @@ mod hostile;
 mod journals;
 mod links;
 mod month;
+mod reviews;
 mod sharing;
 mod stops;
 mod tables;

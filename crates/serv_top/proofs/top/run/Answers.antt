@@ -2,6 +2,7 @@ use Rattle.serv_top.proofs.ImportLemmas.{complete_import}
 use Rattle.serv_top.proofs.LinksLemmas.{complete_served}
 use Rattle.serv_top.proofs.ShownLemmas.{complete_shown}
 use Rattle.serv_top.proofs.WrittenLemmas.{complete_extract}
+use Rattle.serv_top.proofs.ReviewLemmas.{complete_review}
 use Rattle.serv_top.proofs.Applied.{complete_run}
 use Rattle.serv_top.proofs.top.run.Goals as goal
 
@@ -38,3 +39,9 @@ pub returns-in-Some-Extract-clause-complete_extract : goal.returns-in-Some-Extra
 returns-in-Some-Extract-clause-complete_extract g c = λ x s h a told is_history good writes disks task.
     complete_extract g.D.Disk.seen g.D.Disk.images g.D.Disk.moment g.D.Disk.images_since g.D.Disk.faults c.args.disk.now c.write_extract.new.disk c.write_extract.result c.in-Some-Extract.extract c.args.steps.now c.write_extract.new.steps
     _ _ s h a told is_history (good s (g.met.D.Disk.reads_image c.args.disk.now s told)) (λ is. writes (c.write_extract.ensures.write is)) disks c.write_extract.ensures.extracted
+
+pub returns-in-Some-Review-clause-complete_review : goal.returns-in-Some-Review-clause-complete_review
+returns-in-Some-Review-clause-complete_review g c = λ x input s h a left short told is_history good reads writes disks task.
+    complete_review g.D.Disk.seen g.D.Disk.images g.D.Disk.moment g.D.Disk.images_since g.D.Disk.faults c.args.disk.now c.write_review.new.disk c.write_review.result c.in-Some-Review.review c.args.steps.now c.write_review.new.steps
+    _ _ _ _ input s h a left short told is_history (good s (g.met.D.Disk.reads_image c.args.disk.now s told)) (λ is. reads (c.write_review.ensures.read is)) (λ is. writes (c.write_review.ensures.write is))
+    disks c.write_review.ensures.reviewed

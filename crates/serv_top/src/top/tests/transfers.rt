@@ -8,13 +8,13 @@ use std::process::Abort;
 use std::test::Fail;
 
 /// The journal of a servicer who applies the lines.
-fn journal_of(alloc: Global, lines: &[u8]) -> Result<Vec<u8>, Fail> {
+pub(super) fn journal_of(alloc: Global, lines: &[u8]) -> Result<Vec<u8>, Fail> {
     let end = run_over_journal(alloc, &["j", "apply"], NEW_JOURNAL, lines)?;
     Ok(end.journal)
 }
 
 /// Runs the words over the journal; they write the text.
-fn writes(
+pub(super) fn writes(
     rt: &(impl Abort + AllocGlobal),
     words: &[&str],
     journal: &[u8],
@@ -31,7 +31,7 @@ fn writes(
 
 const DAY: &str = "k1 day 2024-06-15\n";
 
-const TWO_LOANS: &str = "k1 day 2024-06-15
+pub(super) const TWO_LOANS: &str = "k1 day 2024-06-15
 k2 board 2 2024-06-01 200000.00 6000 250 1199.10 360 2024-07 15 500 2 130.00 AA
 k3 board 3 2024-06-01 200000.00 6000 250 1199.10 360 2024-07 15 500 2 130.00 AA
 k4 line 2 1 tax 7 12 2000.00
@@ -41,7 +41,7 @@ k7 disburse 2 2024-06-12 2000.00 1
 k8 deposit 2 2024-06-14 600.00
 ";
 
-const LOAN_2: &str = "k1 day 2024-06-15
+pub(super) const LOAN_2: &str = "k1 day 2024-06-15
 k2 board 2 2024-06-01 200000.00 6000 250 1199.10 360 2024-07 15 500 2 130.00 AA
 k4 line 2 1 tax 7 12 2000.00
 k5 deposit 2 2024-06-10 1500.00
