@@ -1,6 +1,6 @@
 -- A text about the input that is written over a journal.
 use Rattle.std.proofs.Common.{◌≡◌, ◌⊎◌, ℕ, ◌<◌, List, [], ◌∷◌, ◌++◌, length, ⊎_elim}
-use Rattle.std.specs.Prelude.{Option, Some}
+use Rattle.std.specs.Prelude.{Option, Some, Result, Ok, Err, IfOk}
 use Rattle.svc_world.specs.World.{Accepted}
 use Rattle.svc_world.specs.Judging.{IsHistory}
 use Rattle.serv_disk.specs.Faults.{HasRisen}
@@ -14,6 +14,11 @@ use Rattle.serv_top.specs.Reviews.{IsReviewed}
 use Rattle.serv_top.proofs.Applied.{Completes, unopened_ends, few_taken}
 use Rattle.serv_top.proofs.ImportLemmas.{unread_ends}
 use Rattle.serv_top.proofs.WrittenLemmas.{written_ends}
+
+-- a fact of a value, where one is there
+pub ok_map : {A E : Type 0} (r : Result A E) {P Q : A → Type 0} → ((a : A) → P a → Q a) → IfOk r P → IfOk r Q
+ok_map (Ok a) f is = f a is
+ok_map (Err e) f is = tt
 
 -- ---- completeness
 

@@ -41,7 +41,11 @@ number_in most text =
 
 -- the texts that a word asks for
 abbrev pub text_of_word : List ℕ → Option Task
-text_of_word word = if bytes_eq word (codes "statement") then Some (Extract extract.Statement) else None
+text_of_word word =
+    if bytes_eq word (codes "statement") then Some (Extract extract.Statement)
+    else (if bytes_eq word (codes "confirm") then Some (Review review.Confirm)
+    else (if bytes_eq word (codes "pmi") then Some (Review review.Pmi)
+    else (if bytes_eq word (codes "pmi-drops") then Some (Review review.PmiDrops) else None)))
 
 abbrev pub task_of_word : List ℕ → Option Task
 task_of_word word =

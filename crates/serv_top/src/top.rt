@@ -74,12 +74,14 @@ fn session<S: Source, K: Sink, L: Ledger>(
 /// custodial` write that text over the journal. `<journal> transfer <from> <to>` writes the lines of the part of its
 /// commands that is of the loans with these numbers, which a servicer who takes them over applies to a new journal;
 /// `<journal> remain <from> <to>` writes those of the part that is of all other loans. `<journal> statement` writes the
-/// statement of all loans. `<journal> reconcile <first> <last>` reads a bank's movements and writes how the rows of
-/// the commands with these numbers match them. `<journal> drill <loans> <number>` writes the summary of the generated
-/// year, which is made in memory. `<journal> serve <port> <connections>` serves so many links, one after another,
-/// over the journal, each of which is handed back to the doors, and writes their summary; the doors listen at the
-/// port. A last piece without a line feed is a line too. All lines that a line feed ended in the bytes taken are
-/// answered before the source is read again.
+/// statement of all loans, and `<journal> confirm` reads one and writes how it differs from the books. `<journal> pmi`
+/// reads a file of insured loans and writes whether and when each insurance ends, and `<journal> pmi-drops` the
+/// commands that drop the premiums of those that do. `<journal> reconcile <first> <last>` reads a bank's movements and
+/// writes how the rows of the commands with these numbers match them. `<journal> drill <loans> <number>` writes the
+/// summary of the generated year, which is made in memory. `<journal> serve <port> <connections>` serves so many
+/// links, one after another, over the journal, each of which is handed back to the doors, and writes their summary;
+/// the doors listen at the port. A last piece without a line feed is a line too. All lines that a line feed ended in
+/// the bytes taken are answered before the source is read again.
 pub fn run<S: Source, K: Sink, D: Disk, G: Doors, L: Ledger>(
     alloc: Global,
     words: &[&str],

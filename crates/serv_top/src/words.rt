@@ -52,6 +52,15 @@ fn text_of(word: &str) -> Option<Task>
     if word == "statement" {
         return Some(Task::Extract(Extract::Statement));
     }
+    if word == "confirm" {
+        return Some(Task::Review(Review::Confirm));
+    }
+    if word == "pmi" {
+        return Some(Task::Review(Review::Pmi));
+    }
+    if word == "pmi-drops" {
+        return Some(Task::Review(Review::PmiDrops));
+    }
     None
 }
 

@@ -49,7 +49,7 @@ k7 disburse 2 2024-06-12 2000.00 1
 k8 deposit 2 2024-06-14 600.00
 ";
 
-const LOAN_3: &str = "k1 day 2024-06-15
+pub(super) const LOAN_3: &str = "k1 day 2024-06-15
 k3 board 3 2024-06-01 200000.00 6000 250 1199.10 360 2024-07 15 500 2 130.00 AA
 k6 deposit 3 2024-06-10 300.00
 ";
