@@ -1,0 +1,14 @@
+pub mod KeyLemmas
+pub mod CountLemmas
+pub mod MatchLemmas
+pub mod PairLemmas
+pub mod FindLemmas
+pub mod RowLemmas
+pub mod SpanLemmas
+pub mod AmountLemmas
+pub mod ColumnLemmas
+pub mod RecordLemmas
+pub mod ReadingLemmas
+pub mod TextLemmas
+pub mod AskLemmas
+pub mod ReconLemmas

@@ -1,0 +1,13 @@
+pub mod Items
+pub mod Matching
+pub mod Reconciling
+pub mod Rows
+pub mod Fields
+pub mod Reading
+pub mod Taking
+pub mod SomeCents
+pub mod Keys
+pub mod Counting
+pub mod Finding
+pub mod Moving
+pub mod Texts
