@@ -1,0 +1,14 @@
+pub mod ScheduleLemmas
+pub mod RangeLemmas
+pub mod RowLemmas
+pub mod TextLemmas
+pub mod FieldLemmas
+pub mod LoanLemmas
+pub mod TermsLemmas
+pub mod EndingLemmas
+pub mod FileLemmas
+pub mod PassLemmas
+pub mod OutcomeLemmas
+pub mod RequestLemmas
+pub mod WholeLemmas
+pub mod EndsLemmas

@@ -1,0 +1,22 @@
+use Rattle.svc_world.specs.World.{world}
+use Rattle.pmi_track.specs.Texts.{insurance_line, row_cost}
+use Rattle.pmi_track.proofs.WholeLemmas.{text_more, steps_more, steps_within}
+use Rattle.pmi_track.proofs.files.push_lines.Goals as goal
+
+pub returns-in_err-push_line-clause-steps : goal.returns-in_err-push_line-clause-steps
+returns-in_err-push_line-clause-steps g c =
+    let w = world c.args.core.now.history in
+    let inv = c.loop-row.invariant in
+    steps_within (row_cost g.B.LoanBooks.cost w) c.args.rows.now c.loop-row.row-index c.row-item.result c.args.steps.now c.loop-row.steps c.push_line.new.steps c.loop-row-test.true
+    c.row-item.is inv.steps c.push_line.ensures.steps
+
+pub loop-row-preserved : goal.loop-row-preserved
+loop-row-preserved g c =
+    let w = world c.args.core.now.history in
+    let inv = c.loop-row.invariant in
+    record {
+      text = text_more (insurance_line w) c.args.rows.now c.loop-row.row-index c.row-item.result c.args.out.now.items c.loop-row.out.items c.push_line.new.out.items c.loop-row-test.true c.row-item.is
+          inv.text c.in_ok-push_line.ensures.pushed;
+      steps = steps_more (row_cost g.B.LoanBooks.cost w) c.args.rows.now c.loop-row.row-index c.row-item.result c.args.steps.now c.loop-row.steps c.push_line.new.steps c.loop-row-test.true
+          c.row-item.is inv.steps c.push_line.ensures.steps;
+    }

@@ -1,0 +1,9 @@
+pub mod Schedule
+pub mod Insurance
+pub mod Boardings
+pub mod Loans
+pub mod Insured
+pub mod Rows
+pub mod Fields
+pub mod Texts
+pub mod Ends
