@@ -11,3 +11,9 @@ pub mod PartTheorem
 pub mod SatisfiedLemmas
 pub mod ShownCash
 pub mod PassLemmas
+pub mod RowSums
+pub mod NumberLemmas
+pub mod SumLemmas
+pub mod StatementLemmas
+pub mod LineTexts
+pub mod CoreLines

@@ -11,6 +11,7 @@ use Rattle.svc_types.specs.declared.requests.Command.TheVariants as command
 use Rattle.svc_world.specs.World.{Accepted}
 use Rattle.svc_world.specs.Judging.{nth_accepted}
 use Rattle.servicing_transfer.specs.Parts.{with_board, least_month, is_part, months_for, place_in, renumbered, moved_to, part_of}
+use Rattle.servicing_transfer.specs.Numbers.{numbers_after, numbers_with, loans_of}
 use Rattle.servicing_transfer.specs.Passes.{least_with, keeps, part_with, places_to, place_among}
 
 -- a command as a list
@@ -43,6 +44,25 @@ least_more set h n =
     ap (least_month set) (taken h n)
     ∙ fold-append (step set) None (take n h) (listed (nth_accepted h (n + 1)))
     ∙ with_listed set (least_month set (take n h)) (nth_accepted h (n + 1))
+
+-- ---- the numbers of loans
+
+abbrev board : List ℕ → Accepted → List ℕ
+board ns a = numbers_after ns a.command
+
+with_boarded : (ns : List ℕ) (o : Option Accepted) → fold board ns (listed o) ≡ numbers_with ns o
+unfolding listed
+with_boarded ns None = refl
+with_boarded ns (Some a) = refl
+
+pub numbers_more : (h : List Accepted) (n : ℕ) → loans_of (take (n + 1) h) ≡ numbers_with (loans_of (take n h)) (nth_accepted h (n + 1))
+numbers_more h n =
+    ap loans_of (taken h n)
+    ∙ fold-append board [] (take n h) (listed (nth_accepted h (n + 1)))
+    ∙ with_boarded (loans_of (take n h)) (nth_accepted h (n + 1))
+
+pub numbers_whole : (h : List Accepted) (n : ℕ) → n ≡ length h → loans_of (take n h) ≡ loans_of h
+numbers_whole h n e = ap loans_of (take_all n h (omega arith))
 
 -- ---- places
 

@@ -2,3 +2,10 @@ pub mod Parts
 pub mod Splits
 pub mod Passes
 pub mod Sets
+pub mod RowSums
+pub mod StatementTexts
+pub mod StatementParts
+pub mod Stated
+pub mod Confirmations
+pub mod StatementAnswers
+pub mod Numbers

@@ -31,7 +31,7 @@ fn submit<L: Ledger>(
 }
 
 /// Submits the commands of lines; each is accepted.
-fn submit_all<L: Ledger>(
+pub(crate) fn submit_all<L: Ledger>(
     rt: &impl Abort,
     core: &mut Core<Checked>,
     text: &[u8],
@@ -95,7 +95,7 @@ fn check(rt: &impl Abort, alloc: Global, history: &[u8], rows: &[Row]) -> Result
     check_over::<Brand>(rt, alloc, Blank::new(1), history, rows)
 }
 
-const TWO_LOANS: &[u8] = b"k1 day 2024-06-15\n\
+pub(crate) const TWO_LOANS: &[u8] = b"k1 day 2024-06-15\n\
     k2 board 2 2024-06-01 200000.00 6000 250 1199.10 360 2024-07 15 500 2 130.00 AA\n\
     k3 board 3 2024-06-01 200000.00 6000 250 1199.10 360 2024-07 15 500 2 130.00 AA\n\
     k4 line 2 1 tax 7 12 2000.00\n\
@@ -104,14 +104,14 @@ const TWO_LOANS: &[u8] = b"k1 day 2024-06-15\n\
     k7 disburse 2 2024-06-12 2000.00 1\n\
     k8 deposit 2 2024-06-14 600.00\n";
 
-const OF_LOAN_2: &[u8] = b"k1 day 2024-06-15\n\
+pub(crate) const OF_LOAN_2: &[u8] = b"k1 day 2024-06-15\n\
     k2 board 2 2024-06-01 200000.00 6000 250 1199.10 360 2024-07 15 500 2 130.00 AA\n\
     k4 line 2 1 tax 7 12 2000.00\n\
     k5 deposit 2 2024-06-10 1500.00\n\
     k7 disburse 2 2024-06-12 2000.00 1\n\
     k8 deposit 2 2024-06-14 600.00\n";
 
-const OF_LOAN_3: &[u8] = b"k1 day 2024-06-15\n\
+pub(crate) const OF_LOAN_3: &[u8] = b"k1 day 2024-06-15\n\
     k3 board 3 2024-06-01 200000.00 6000 250 1199.10 360 2024-07 15 500 2 130.00 AA\n\
     k6 deposit 3 2024-06-10 300.00\n";
 
