@@ -9,6 +9,7 @@ pub mod ServedLemmas
 pub mod Running
 pub mod Applied
 pub mod ShownLemmas
+pub mod WrittenLemmas
 pub mod WordLemmas
 pub mod ImportLemmas
 pub mod LinksLemmas

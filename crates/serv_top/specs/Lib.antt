@@ -9,6 +9,8 @@ pub mod Serving
 pub mod Stop
 pub mod Journal
 pub mod Shown
+pub mod Written
+pub mod Extracts
 pub mod Imported
 pub mod Drilled
 pub mod Served

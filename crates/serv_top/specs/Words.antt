@@ -6,8 +6,10 @@ use Rattle.svc_base.specs.Calendar.{year_of_month}
 use Rattle.svc_base.specs.Text.{IsReadMonth, text_of_month, text_of_number}
 use Rattle.svc_types.specs.declared.requests.Query.{Query}
 use Rattle.svc_types.specs.declared.requests.Query.TheVariants as query
+use Rattle.serv_top.specs.declared.extracts.Extract.TheVariants as extract
+use Rattle.serv_top.specs.Extracts.{IsAskedExtract}
 use Rattle.serv_top.specs.declared.words.Task.{Task}
-use Rattle.serv_top.specs.declared.words.Task.TheVariants.{Init, Apply, Session, Import, Show, Drill, Serve}
+use Rattle.serv_top.specs.declared.words.Task.TheVariants.{Init, Apply, Session, Import, Show, Drill, Serve, Extract}
 
 -- two digits as a number
 abbrev pub number_of_pair : ℕ → ℕ → ℕ
@@ -62,11 +64,28 @@ served_at None links = None
 served_at (Some port) None = None
 served_at (Some port) (Some links) = if nat_le 1 port && nat_le 1 links then Some (Serve port links) else None
 
+-- two numbers up to 4,294,967,295 of which the second is not below the first
+abbrev pub range_of : Option ℕ → Option ℕ → Option (ℕ × ℕ)
+range_of None to = None
+range_of (Some from) None = None
+range_of (Some from) (Some to) = if nat_le from to then Some (from, to) else None
+
+abbrev pub range_in : List ℕ → List ℕ → Option (ℕ × ℕ)
+range_in from to = range_of (number_in 4294967295 from) (number_in 4294967295 to)
+
+-- what a word asks for about a range of loans
+abbrev pub task_over : List ℕ → Option (ℕ × ℕ) → Option Task
+task_over word None = None
+task_over word (Some (from, to)) =
+    if bytes_eq word (codes "transfer") then Some (Extract (extract.Transfer from to))
+    else (if bytes_eq word (codes "remain") then Some (Extract (extract.Remain from to)) else None)
+
 -- what a word asks for about two numbers
 abbrev pub task_with : List ℕ → List ℕ → List ℕ → Option Task
 task_with word first second =
     if bytes_eq word (codes "drill") then year_of (number_in 999999 first) (number_in 999999 second)
-    else (if bytes_eq word (codes "serve") then served_at (number_in 65535 first) (number_in 1000000 second) else None)
+    else (if bytes_eq word (codes "serve") then served_at (number_in 65535 first) (number_in 1000000 second)
+    else task_over word (range_in first second))
 
 -- the queries that words ask
 abbrev pub IsShowing : Query → Type 0
@@ -79,7 +98,7 @@ IsShowing (query.Payoff l d) = ⊥
 IsShowing (query.Escrow l) = ⊥
 IsShowing (query.Rows number) = ⊥
 
--- words ask no other query, no year of more loans, and no further port or connections
+-- words ask no other query, no year of more loans, no further port or connections, and no range that goes down
 abbrev pub IsTask : Task → Type 0
 IsTask Init = Unit {0}
 IsTask Apply = Unit {0}
@@ -88,6 +107,7 @@ IsTask Import = Unit {0}
 IsTask (Show q) = IsShowing q
 IsTask (Drill loans number) = loans ≤ 500
 IsTask (Serve port links) = (port ≤ 65535) × (links ≤ 1000000)
+IsTask (Extract x) = IsAskedExtract x
 
 -- a journal's name, which is not empty, and what is to be done, for two of these a month, and for two of these two numbers
 abbrev pub task_in : List (List ℕ) → Option Task

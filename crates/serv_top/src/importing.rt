@@ -10,19 +10,17 @@ ghost use Rattle.serv_top.specs.Machine.{Moves, reply_to, stand, text_of_unfit};
 ghost use Rattle.serv_top.specs.Outcome.{input_limit};
 ghost use Rattle.serv_top.specs.Imported.{AreRows, FileEnds, HaltsOn, ImportEnds, IsImported, IsRow, IsSaid, IsUnread, RowsEnd, StopsOn, said_of};
 
-use crate::over_journal::{JOURNAL_LIMIT, unopened};
+use crate::over_journal::open_journal;
 use crate::serving::{Stop, stop_at};
 use crate::status::Status;
 use crate::stream::INPUT_LIMIT;
 use serv_disk::{Disk, Sink, Source, read_some, write_whole};
-use serv_engine::Engine;
 use serv_import::{ImportFault, RowRequest, batch};
 use serv_line::{push_bytes, push_number, undone};
 use serv_machine::{Halt, Machine, answer_request};
 use std::alloc::Global;
 use std::sync::ledger::Ledger;
 use svc_base::{OutOfMemory, Steps};
-use svc_checkpoint::Checked;
 use svc_types::Request;
 
 /// How many bytes are asked for at a time.
@@ -49,9 +47,9 @@ pub(crate) fn import<S: Source, K: Sink, D: Disk, L: Ledger>(
     ensures write_later { K.faults snk.old ≤ K.faults snk.new }
     ensures disk_later { D.faults disk.old ≤ D.faults disk.new }
 {
-    match Engine::<Checked>::open(alloc, disk, JOURNAL_LIMIT, steps) {
+    match open_journal(alloc, disk, steps) {
         Ok(mut engine) => import_by(alloc, &mut engine, disk, src, snk, steps),
-        Err(fault) => unopened(fault),
+        Err(status) => status,
     }
 }
 

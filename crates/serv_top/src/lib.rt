@@ -3,6 +3,7 @@
 
 mod answering;
 mod drilling;
+mod extracts;
 mod importing;
 mod laws;
 mod one_link;
@@ -14,6 +15,7 @@ mod status;
 mod stream;
 mod top;
 mod words;
+mod writing;
 
 pub use laws::{files_say_one_thing, lines_have_one_answer, months_are_read, replies_are_whole};
 pub use one_link::serve_one;

@@ -8,16 +8,14 @@ ghost use Rattle.serv_top.specs.Journal.{HasFileFaults, IsUnopened};
 ghost use Rattle.serv_top.specs.Machine.{stand};
 ghost use Rattle.serv_top.specs.Served.{IsServedOver, LinksEnd};
 
-use crate::over_journal::{JOURNAL_LIMIT, unopened};
+use crate::over_journal::open_journal;
 use crate::status::Status;
 use serv_disk::{Disk, Doors, Sink, write_whole};
-use serv_engine::Engine;
 use serv_links::{DoorsEnd, MOST_LINKS, Summary, serve_doors, write_summary};
 use serv_machine::Machine;
 use std::alloc::Global;
 use std::sync::ledger::Ledger;
 use svc_base::Steps;
-use svc_checkpoint::Checked;
 
 /// Opens the journal of the disk, serves up to so many links over it, one after another, as long as they come, and
 /// writes their summary in one go.
@@ -46,9 +44,9 @@ pub(crate) fn serve_over<K: Sink, D: Disk, G: Doors, L: Ledger>(
     ensures net_later { G.faults doors.old ≤ G.faults doors.new }
     ensures out { G.out doors.new ≡ 0 }
 {
-    match Engine::<Checked>::open(alloc, disk, JOURNAL_LIMIT, steps) {
+    match open_journal(alloc, disk, steps) {
         Ok(mut engine) => serve_by(alloc, &mut engine, most, snk, disk, doors, steps),
-        Err(fault) => unopened(fault),
+        Err(status) => status,
     }
 }
 

@@ -1,12 +1,15 @@
 //! A journal that is made, and lines that are answered over one.
 
-ghost use Rattle.std.specs.Prelude.{◌≡◌, ◌≢◌, ◌⊎◌, ℕ, ◌<◌, ◌≤◌, List, length, Some};
+ghost use Rattle.std.specs.Prelude.{◌≡◌, ◌≢◌, ◌⊎◌, ℕ, ◌-◌, ◌<◌, ◌≤◌, List, length, false, Some, Err, IfErr, IfOk, OnOk};
 ghost use Rattle.serv_disk.specs.Disks.{Each, LeavesOnly};
 ghost use Rattle.serv_disk.specs.Faults.{HasRisen};
 ghost use Rattle.serv_journal.specs.Reading.{IsNoJournal};
+ghost use Rattle.serv_journal.specs.declared.format.Version.TheVariants as version;
+ghost use Rattle.serv_engine.specs.Histories.{lengths_of};
+ghost use Rattle.serv_engine.specs.Engines.{IsDurable};
 ghost use Rattle.serv_engine.specs.Opening.{IsDamagedAt, IsTooLong};
 ghost use Rattle.serv_top.specs.Stop.{status_of_fault};
-ghost use Rattle.serv_top.specs.Journal.{IsInit, IsOnly, IsUnopened, IsApplied, journal_limit};
+ghost use Rattle.serv_top.specs.Journal.{HasFileFaults, IsInit, IsOnly, IsOpened, IsUnopened, IsApplied, journal_limit};
 
 use crate::status::Status;
 use crate::stream::serve;
@@ -19,7 +22,7 @@ use svc_base::Steps;
 use svc_checkpoint::Checked;
 
 /// The limit on a journal that is opened: 268,435,456 bytes.
-pub(crate) const JOURNAL_LIMIT: u64 = 1 << 28;
+const JOURNAL_LIMIT: u64 = 1 << 28;
 
 /// Makes an empty journal. It takes no memory.
 pub(crate) fn make_journal<D: Disk>(disk: &mut D) -> Status
@@ -40,7 +43,7 @@ pub(crate) fn make_journal<D: Disk>(disk: &mut D) -> Status
 }
 
 /// The status of a run that opened no journal.
-pub(crate) fn unopened(fault: EngineFault) -> Status
+fn unopened(fault: EngineFault) -> Status
     ensures { result ≡ status_of_fault fault }
 {
     match fault {
@@ -49,6 +52,31 @@ pub(crate) fn unopened(fault: EngineFault) -> Status
         EngineFault::DiskFault => Status::DiskFault,
         EngineFault::JournalFull(bytes) => Status::JournalFull(bytes),
         EngineFault::OutOfMemory | EngineFault::Refused(_) => Status::OutOfMemory,
+    }
+}
+
+/// Opens the journal of the disk. Errs with the status of a run that opened none.
+pub(crate) fn open_journal<D: Disk, L: Ledger>(
+    alloc: Global,
+    disk: &mut D,
+    steps: &mut Steps<L>,
+) -> Result<Engine<Checked>, Status>
+    ensures opened { IfOk result (λ e. IsOpened D.seen D.images D.moment D.images_since disk.old disk.new
+        steps.old steps.new (e.journal.size - lengths_of e.history) e.history) }
+    ensures limit { IfOk result (λ e. e.journal.limit ≡ journal_limit) }
+    ensures ready { IfOk result (λ e. (e.journal.spent ≡ false) × (e.journal.version ≡ version.Two)
+        × IsDurable (D.images disk.new) e) }
+    ensures unopened { IfErr result (λ status. IsUnopened D.seen D.images D.moment D.images_since D.faults
+        disk.old disk.new status steps.old steps.new) }
+    // The faults of the file come exactly by their causes; where it is opened it has none.
+    ensures file { IfErr result (HasFileFaults (D.seen disk.old)) }
+    ensures faultless { OnOk result ((status : Status) → HasFileFaults (D.seen disk.old) status) }
+    ensures disk { result ≡ Err Status.DiskFault → HasRisen (D.faults disk.old) (D.faults disk.new) }
+    ensures disk_later { D.faults disk.old ≤ D.faults disk.new }
+{
+    match Engine::<Checked>::open(alloc, disk, JOURNAL_LIMIT, steps) {
+        Ok(engine) => Ok(engine),
+        Err(fault) => Err(unopened(fault)),
     }
 }
 
@@ -79,8 +107,8 @@ pub(crate) fn apply<S: Source, K: Sink, D: Disk, L: Ledger>(
     ensures write_later { K.faults snk.old ≤ K.faults snk.new }
     ensures disk_later { D.faults disk.old ≤ D.faults disk.new }
 {
-    match Engine::<Checked>::open(alloc, disk, JOURNAL_LIMIT, steps) {
+    match open_journal(alloc, disk, steps) {
         Ok(mut engine) => serve(alloc, 0, &mut engine, disk, src, snk, steps),
-        Err(fault) => unopened(fault),
+        Err(status) => status,
     }
 }

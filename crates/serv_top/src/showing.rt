@@ -13,7 +13,7 @@ ghost use Rattle.serv_top.specs.Journal.{HasFileFaults, IsUnopened};
 ghost use Rattle.serv_top.specs.Shown.{IsShown, Shows, refusal_over};
 ghost use Rattle.serv_top.specs.Words.{IsShowing};
 
-use crate::over_journal::{JOURNAL_LIMIT, unopened};
+use crate::over_journal::open_journal;
 use crate::status::Status;
 use serv_disk::{Disk, Sink, write_whole};
 use serv_engine::Engine;
@@ -47,9 +47,9 @@ pub(crate) fn show<K: Sink, D: Disk, L: Ledger>(
     ensures write_later { K.faults snk.old ≤ K.faults snk.new }
     ensures disk_later { D.faults disk.old ≤ D.faults disk.new }
 {
-    match Engine::<Checked>::open(alloc, disk, JOURNAL_LIMIT, steps) {
+    match open_journal(alloc, disk, steps) {
         Ok(engine) => show_by::<D, Engine<Checked>, K, L>(alloc, &engine, query, snk, steps),
-        Err(fault) => unopened(fault),
+        Err(status) => status,
     }
 }
 

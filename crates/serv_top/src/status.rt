@@ -9,8 +9,8 @@ use svc_base::Month;
 /// How a run ended. The program's exit status is its number.
 #[derive(Clone, Copy, Debug, PartialEq, Eq)]
 pub enum Status {
-    /// The input was read to its end, and all replies were written; the journal was made; or the connections were
-    /// served, or no more came.
+    /// The input was read to its end, and all replies were written; the text was written; the journal was made; or
+    /// the connections were served, or no more came.
     Done,
     /// The words of the command line are none that the program knows.
     Usage,

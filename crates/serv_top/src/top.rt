@@ -17,11 +17,14 @@ ghost use Rattle.serv_drill.specs.Works.{year_works};
 ghost use Rattle.serv_top.specs.Drilled.{Drills};
 ghost use Rattle.serv_links.specs.Doors.{ServedLink};
 ghost use Rattle.serv_top.specs.Shown.{IsShown};
+ghost use Rattle.serv_top.specs.declared.extracts.Extract.{Extract};
+ghost use Rattle.serv_top.specs.Extracts.{IsExtracted};
 ghost use Rattle.serv_top.specs.Served.{IsServedOver};
 ghost use Rattle.serv_top.specs.Outcome.{Ran, input_limit};
 ghost use Rattle.serv_top.specs.Words.{task_in};
 
 use crate::drilling::write_year;
+use crate::extracts::write_extract;
 use crate::importing::import;
 use crate::over_doors::serve_over;
 use crate::over_journal::{apply, make_journal};
@@ -65,11 +68,13 @@ fn session<S: Source, K: Sink, L: Ledger>(
 /// makes an empty journal. `<journal> apply` answers the lines of the source, each on the sink, over the
 /// journal of the disk: an accepted command is in it before it is answered. `<journal> session` does so
 /// over books in memory that begin empty. `<journal> report <month>`, `<journal> trial <month>` and `<journal>
-/// custodial` write that text over the journal. `<journal> drill <loans> <number>` writes the summary of the generated
-/// year, which is made in memory. `<journal> serve <port> <connections>` serves so many links, one after another,
-/// over the journal, each of which is handed back to the doors, and writes their summary; the doors listen at the
-/// port. A last piece without a line feed is a line too. All lines that
-/// a line feed ended in the bytes taken are answered before the source is read again.
+/// custodial` write that text over the journal. `<journal> transfer <from> <to>` writes the lines of the part of its
+/// commands that is of the loans with these numbers, which a servicer who takes them over applies to a new journal;
+/// `<journal> remain <from> <to>` writes those of the part that is of all other loans. `<journal> drill <loans>
+/// <number>` writes the summary of the generated year, which is made in memory. `<journal> serve <port> <connections>`
+/// serves so many links, one after another, over the journal, each of which is handed back to the doors, and writes
+/// their summary; the doors listen at the port. A last piece without a line feed is a line too. All lines that a line
+/// feed ended in the bytes taken are answered before the source is read again.
 pub fn run<S: Source, K: Sink, D: Disk, G: Doors, L: Ledger>(
     alloc: Global,
     words: &[&str],
@@ -127,6 +132,17 @@ pub fn run<S: Source, K: Sink, D: Disk, G: Doors, L: Ledger>(
     ensures show_sink { (q : Query) (last : Option ℕ) → task_in (map (λ w. w.now) words.now) ≡ Some (task.Show q)
         → result ≡ Status.NoReport last → snk.new ≡ snk.old }
     ensures show_file { (q : Query) → task_in (map (λ w. w.now) words.now) ≡ Some (task.Show q)
+        → HasFileFaults (D.seen disk.old) result }
+
+    // A text over the commands of a journal is written.
+    ensures extract { (x : Extract) → task_in (map (λ w. w.now) words.now) ≡ Some (task.Extract x)
+        → (IsUnopened D.seen D.images D.moment D.images_since D.faults disk.old disk.new result
+        steps.old steps.new × (snk.new ≡ snk.old))
+        ⊎ IsExtracted D.seen D.images D.moment D.images_since disk.old disk.new result x
+        steps.old steps.new (K.held snk.old) (K.held snk.new) }
+    ensures extract_source { (x : Extract) → task_in (map (λ w. w.now) words.now) ≡ Some (task.Extract x)
+        → src.new ≡ src.old }
+    ensures extract_file { (x : Extract) → task_in (map (λ w. w.now) words.now) ≡ Some (task.Extract x)
         → HasFileFaults (D.seen disk.old) result }
 
     // The summary of a generated year is written, which is made in memory.
@@ -199,6 +215,12 @@ pub fn run<S: Source, K: Sink, D: Disk, G: Doors, L: Ledger>(
         → ((result ≡ Status.Done) ⊎ ((result ≡ Status.OutOfMemory)
         ⊎ ((bytes : ℕ) × (result ≡ Status.JournalFull bytes))))
         ⊎ ((last : Option ℕ) × (result ≡ Status.NoReport last)) }
+    ensures complete_extract { (x : Extract) (s : List ℕ) (h : List Accepted) (a : Accepted)
+        → D.seen disk.old ≡ Some s → IsHistory (h ++ a ∷ []) → Each (D.images disk.old) (IsGoodFound h a)
+        → ¬ HasRisen (K.faults snk.old) (K.faults snk.new) → ¬ HasRisen (D.faults disk.old) (D.faults disk.new)
+        → task_in (map (λ w. w.now) words.now) ≡ Some (task.Extract x)
+        → (result ≡ Status.Done) ⊎ ((result ≡ Status.OutOfMemory)
+        ⊎ ((bytes : ℕ) × (result ≡ Status.JournalFull bytes))) }
     ensures complete_drill { (loans number : ℕ) → ¬ HasRisen (K.faults snk.old) (K.faults snk.new)
         → task_in (map (λ w. w.now) words.now) ≡ Some (task.Drill loans number)
         → (result ≡ Status.Done) ⊎ (result ≡ Status.OutOfMemory) }
@@ -222,6 +244,7 @@ pub fn run<S: Source, K: Sink, D: Disk, G: Doors, L: Ledger>(
         Some(Task::Serve(_, most)) => serve_over(alloc, most, snk, disk, doors, steps),
         Some(Task::Import) => import(alloc, src, snk, disk, steps),
         Some(Task::Session) => session(alloc, src, snk, steps),
+        Some(Task::Extract(extract)) => write_extract(alloc, extract, snk, disk, steps),
     }
 }
 

@@ -2,8 +2,9 @@
 
 ghost use Rattle.std.specs.Prelude.{◌≡◌, ◌≤◌, IfSome, map};
 ghost use Rattle.svc_base.specs.Text.{IsReadMonth};
-ghost use Rattle.serv_top.specs.Words.{IsTask, month_in, number_in, port_of_task, served_at, task_about, task_in, task_of_word, task_with, year_of};
+ghost use Rattle.serv_top.specs.Words.{IsTask, month_in, number_in, port_of_task, range_in, served_at, task_about, task_in, task_of_word, task_over, task_with, year_of};
 
+use crate::extracts::Extract;
 use serv_links::MOST_LINKS;
 use svc_base::{Month, read_month, read_number};
 use svc_types::Query;
@@ -26,6 +27,8 @@ pub(crate) enum Task {
     Drill(u32, u32),
     /// Serves up to so many connections to a port, one after another, over the journal, and writes a summary.
     Serve(u16, u32),
+    /// Writes a text over the journal's commands.
+    Extract(Extract),
 }
 
 /// The most loans of a generated year.
@@ -125,6 +128,31 @@ fn service(port: &str, links: &str) -> Option<Task>
     }
 }
 
+/// The range from one number to another that is not below it.
+fn range(from: &str, to: &str) -> Option<(u32, u32)>
+    ensures range { result ≡ range_in from.now to.now }
+    ensures up { IfSome result (λ r. r.0 ≤ r.1) }
+{
+    let from = number_of(from, u32::MAX)?;
+    let to = number_of(to, u32::MAX)?;
+    if from <= to { Some((from, to)) } else { None }
+}
+
+/// What a word asks for about a range of loans.
+fn task_of_range(word: &str, from: &str, to: &str) -> Option<Task>
+    ensures task { result ≡ task_over word.now (range_in from.now to.now) }
+    ensures well { IfSome result IsTask }
+{
+    let (from, to) = range(from, to)?;
+    if word == "transfer" {
+        return Some(Task::Extract(Extract::Transfer(from, to)));
+    }
+    if word == "remain" {
+        return Some(Task::Extract(Extract::Remain(from, to)));
+    }
+    None
+}
+
 /// What a word asks for about two numbers.
 fn task_of_numbers(word: &str, first: &str, second: &str) -> Option<Task>
     ensures task { result ≡ task_with word.now first.now second.now }
@@ -136,7 +164,7 @@ fn task_of_numbers(word: &str, first: &str, second: &str) -> Option<Task>
     if word == "serve" {
         return service(first, second);
     }
-    None
+    task_of_range(word, first, second)
 }
 
 /// What the words ask for, which begin with a journal's name.

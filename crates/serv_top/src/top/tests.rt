@@ -6,6 +6,7 @@ mod month;
 mod sharing;
 mod stops;
 mod tables;
+mod transfers;
 
 ghost use Rattle.std.specs.Prelude.{◌≡◌, ◌<◌};
 
@@ -36,10 +37,10 @@ struct Ending {
     journal: Vec<u8>,
 }
 
-/// What a run over memory is given: a word, what the disk and the source hold, and which of their calls fail.
+/// What a run over memory is given: words, what the disk and the source hold, and which of their calls fail.
 #[derive(Clone, Copy)]
 struct Given<'a> {
-    word: &'a str,
+    words: &'a [&'a str],
     journal: &'a [u8],
     calls: &'a [u32],
     input: &'a [u8],
@@ -49,7 +50,7 @@ struct Given<'a> {
 
 /// Lines in memory.
 const SESSION: Given<'static> = Given {
-    word: "session",
+    words: &["j", "session"],
     journal: b"",
     calls: &[],
     input: b"",
@@ -59,12 +60,12 @@ const SESSION: Given<'static> = Given {
 
 /// Lines over a journal without a command.
 const APPLY: Given<'static> = Given {
-    word: "apply",
+    words: &["j", "apply"],
     journal: NEW_JOURNAL,
     ..SESSION
 };
 
-/// Runs `j` and the word over memory, with room for all that is written.
+/// Runs the words over memory, with room for all that is written.
 fn run_over<L: Ledger>(alloc: Global, blank: Blank, given: &Given) -> Result<Ending, Fail>
     requires name { blank.name ≡ L.name }
     requires parts { blank.parts ≡ L.parts }
@@ -78,7 +79,7 @@ fn run_over<L: Ledger>(alloc: Global, blank: Blank, given: &Given) -> Result<End
     let mut steps = Steps::<L>::new(blank);
     let status = run(
         alloc,
-        &["j", given.word],
+        given.words,
         &mut src,
         &mut snk,
         &mut disk,
@@ -99,15 +100,15 @@ fn run_given(alloc: Global, given: &Given) -> Result<Ending, Fail> {
     run_over::<Brand>(alloc, Blank::new(1), given)
 }
 
-/// Runs `j` and the word over a journal, with lines or a file.
+/// Runs the words over a journal, with lines or a file.
 fn run_over_journal<'a>(
     alloc: Global,
-    word: &'a str,
+    words: &'a [&'a str],
     journal: &'a [u8],
     input: &'a [u8],
 ) -> Result<Ending, Fail> {
     let given = Given {
-        word,
+        words,
         journal,
         input,
         ..SESSION
@@ -194,7 +195,7 @@ fn each_status_has_its_output_and_rest(rt: HostRuntime) -> Result<(), Fail> {
 #[test]
 fn other_words_are_refused(rt: HostRuntime) -> Result<(), Fail> {
     let given = Given {
-        word: "frob",
+        words: &["j", "frob"],
         input: LINE,
         ..APPLY
     };
@@ -379,10 +380,20 @@ impl Talk {
                 ..given
             };
             let end = run_given(rt.alloc(), &given)?;
-            assert_eq!(rt; end.status, Status::Done, "{}", given.word);
+            assert_eq!(rt;
+                end.status,
+                Status::Done,
+                "from {} bytes",
+                given.journal.len()
+            );
             let output = String::from_utf8_lossy(rt.alloc(), &end.output)?;
             let expected = String::from_utf8_lossy(rt.alloc(), &self.replies)?;
-            assert_eq!(rt; output.as_str(), expected.as_str(), "{}", given.word);
+            assert_eq!(rt;
+                output.as_str(),
+                expected.as_str(),
+                "from {} bytes",
+                given.journal.len()
+            );
         }
         Ok(())
     }
@@ -405,7 +416,7 @@ fn five_thousand_lines_are_answered(rt: HostRuntime) -> Result<(), Fail> {
     talk.check(&rt)
 }
 
-/// Runs `j` and the word over a source and a sink that share a cell, and says how many bytes were written.
+/// Runs the words over a source and a sink that share a cell, and says how many bytes were written.
 fn bytes_written<L: Ledger>(alloc: Global, blank: Blank, given: &Given) -> Result<usize, Fail>
     requires name { blank.name ≡ L.name }
     requires parts { blank.parts ≡ L.parts }
@@ -418,7 +429,7 @@ fn bytes_written<L: Ledger>(alloc: Global, blank: Blank, given: &Given) -> Resul
     let mut steps = Steps::<L>::new(blank);
     match run(
         alloc,
-        &["j", given.word],
+        given.words,
         &mut src,
         &mut snk,
         &mut disk,

@@ -1,8 +1,5 @@
-use Rattle.std.proofs.Common.{refl, inl, inr, ⊎_elim, ap, ◌-◌}
-use Rattle.serv_engine.specs.declared.fault.EngineFault.TheVariants as fault
+use Rattle.std.proofs.Common.{refl, inl, inr, ◌-◌}
 use Rattle.serv_engine.specs.Histories.{lengths_of}
-use Rattle.serv_top.specs.Stop.{status_of_fault}
-use Rattle.serv_top.proofs.Applied.{opened, cause_of, only_of}
 use Rattle.serv_top.proofs.showing.show.Goals as goal
 
 pub returns-in-Ok-clause-shown : goal.returns-in-Ok-clause-shown
@@ -11,39 +8,14 @@ returns-in-Ok-clause-shown g c =
     inr (record {
       commands = e.history;
       base = e.journal.size - lengths_of e.history;
-      begun = c.open.new.steps;
-      opening = opened g.D.Disk.seen g.D.Disk.images g.D.Disk.moment g.D.Disk.images_since c.args.disk.now c.open.new.disk e c.args.steps.now c.open.new.steps
-          c.in-Ok.ensures.history c.in-Ok.ensures.found c.open.ensures.moments c.in-Ok.ensures.either c.in-Ok.ensures.durable c.in-Ok.ensures.version
-          (c.in-Ok.ensures.bound (λ a m. refl) (λ a m. refl));
+      begun = c.open_journal.new.steps;
+      opening = c.in-Ok.ensures.opened;
       cost = c.show_by.ensures.steps;
       shown = c.show_by.ensures.shows;
     })
 
 pub returns-in-Ok-clause-file : goal.returns-in-Ok-clause-file
-returns-in-Ok-clause-file g c = record {
-  not_journal = λ s told is. absurd (c.in-Ok.ensures.exactly_not_journal s told is);
-  damaged = λ s place told is. absurd (c.in-Ok.ensures.exactly_damaged s place told is);
-  full = λ s bytes told is. absurd (c.in-Ok.ensures.exactly_full s bytes told is);
-}
+returns-in-Ok-clause-file g c = c.in-Ok.ensures.faultless c.show_by.result
 
 pub returns-in-Err-clause-shown : goal.returns-in-Err-clause-shown
-returns-in-Err-clause-shown g c =
-    inl (
-      record {
-        cause = rw c.unopened.ensures (cause_of (g.D.Disk.seen c.args.disk.now) (g.D.Disk.faults c.args.disk.now) (g.D.Disk.faults c.open.new.disk) c.in-Err.fault c.in-Err.ensures.fault c.in-Err.ensures.cause);
-        good = c.open.ensures.moments;
-        kept = rw c.unopened.ensures (⊎_elim (λ disk. inl (ap status_of_fault disk)) (λ same. inr same) c.in-Err.ensures.kept);
-        cost = c.in-Err.ensures.bound_err (λ a m. refl) (λ a m. refl);
-      },
-      refl,
-    )
-
-pub returns-in-Err-clause-file : goal.returns-in-Err-clause-file
-returns-in-Err-clause-file g c = record {
-  not_journal = λ s told is.
-      rw c.unopened.ensures (only_of fault.NotJournal c.in-Err.fault (g.D.Disk.faults c.args.disk.now) (g.D.Disk.faults c.open.new.disk) (c.in-Err.ensures.exactly_not_journal s told is));
-  damaged = λ s place told is.
-      rw c.unopened.ensures (only_of (fault.Damaged place) c.in-Err.fault (g.D.Disk.faults c.args.disk.now) (g.D.Disk.faults c.open.new.disk) (c.in-Err.ensures.exactly_damaged s place told is));
-  full = λ s bytes told is.
-      rw c.unopened.ensures (only_of (fault.JournalFull bytes) c.in-Err.fault (g.D.Disk.faults c.args.disk.now) (g.D.Disk.faults c.open.new.disk) (c.in-Err.ensures.exactly_full s bytes told is));
-}
+returns-in-Err-clause-shown g c = inl (c.in-Err.ensures.unopened, refl)

@@ -1,6 +1,7 @@
 use Rattle.serv_top.proofs.ImportLemmas.{complete_import}
 use Rattle.serv_top.proofs.LinksLemmas.{complete_served}
 use Rattle.serv_top.proofs.ShownLemmas.{complete_shown}
+use Rattle.serv_top.proofs.WrittenLemmas.{complete_extract}
 use Rattle.serv_top.proofs.Applied.{complete_run}
 use Rattle.serv_top.proofs.top.run.Goals as goal
 
@@ -32,3 +33,8 @@ returns-in-Some-Serve-clause-complete_serve g c = λ port most s h a told is_his
     complete_served g.D.Disk.seen g.D.Disk.images g.D.Disk.moment g.D.Disk.images_since g.D.Disk.faults c.args.disk.now c.serve_over.new.disk _ c.serve_over.result c.in-Some-Serve.most c.args.steps.now c.serve_over.new.steps
     _ _ _ _ _ _ s h a told is_history (good s (g.met.D.Disk.reads_image c.args.disk.now s told)) (λ is. writes (c.serve_over.ensures.write is)) (λ is. disks (c.serve_over.ensures.disk is))
     (λ is. nets (c.serve_over.ensures.net is)) disks c.serve_over.ensures.served
+
+pub returns-in-Some-Extract-clause-complete_extract : goal.returns-in-Some-Extract-clause-complete_extract
+returns-in-Some-Extract-clause-complete_extract g c = λ x s h a told is_history good writes disks task.
+    complete_extract g.D.Disk.seen g.D.Disk.images g.D.Disk.moment g.D.Disk.images_since g.D.Disk.faults c.args.disk.now c.write_extract.new.disk c.write_extract.result c.in-Some-Extract.extract c.args.steps.now c.write_extract.new.steps
+    _ _ s h a told is_history (good s (g.met.D.Disk.reads_image c.args.disk.now s told)) (λ is. writes (c.write_extract.ensures.write is)) disks c.write_extract.ensures.extracted

@@ -29,7 +29,7 @@ const ROWS: [(&[u8], &[u8]); 5] = [
 #[test]
 fn rows_that_ask_nothing_are_answered(rt: HostRuntime) -> Result<(), Fail> {
     for (number, (file, output)) in ROWS.iter().enumerate() {
-        let end = run_over_journal(rt.alloc(), "import", NEW_JOURNAL, file)?;
+        let end = run_over_journal(rt.alloc(), &["j", "import"], NEW_JOURNAL, file)?;
         assert_eq!(rt; end.status, Status::Done, "file {number}");
         assert_eq!(rt; end.output.as_slice(), *output, "file {number}");
     }
@@ -57,7 +57,7 @@ const CUSTODY: &[u8] =
 
 /// The journal of the two loans.
 fn two_loans(alloc: Global) -> Result<Vec<u8>, Fail> {
-    let end = run_over_journal(alloc, "apply", NEW_JOURNAL, LOANS)?;
+    let end = run_over_journal(alloc, &["j", "apply"], NEW_JOURNAL, LOANS)?;
     Ok(end.journal)
 }
 
@@ -72,7 +72,7 @@ fn import<'a>(
     (calls, reads, writes): Faults<'a>,
 ) -> Result<Ending, Fail> {
     let given = Given {
-        word: "import",
+        words: &["j", "import"],
         journal,
         calls,
         input,
@@ -92,10 +92,10 @@ fn comes_again(
 ) -> Result<(), Fail> {
     assert_eq!(rt; first.status, status, "case {number}");
     assert_eq!(rt; first.output.as_slice(), output, "case {number}");
-    let again = run_over_journal(rt.alloc(), "import", &first.journal, PAYMENTS)?;
+    let again = run_over_journal(rt.alloc(), &["j", "import"], &first.journal, PAYMENTS)?;
     assert_eq!(rt; again.status, Status::Done, "case {number}");
     assert_eq!(rt; again.output.as_slice(), REPLIES, "case {number}");
-    let custody = run_over_journal(rt.alloc(), "custodial", &again.journal, b"")?;
+    let custody = run_over_journal(rt.alloc(), &["j", "custodial"], &again.journal, b"")?;
     assert_eq!(rt; custody.output.as_slice(), CUSTODY, "case {number}");
     Ok(())
 }

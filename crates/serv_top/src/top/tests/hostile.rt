@@ -168,7 +168,7 @@ fn left_of(alloc: Global, journal: &[u8], at: usize, value: u8) -> Result<Vec<u8
 /// A byte of a journal of one line is changed, and the line is applied.
 fn with_a_byte_changed(rt: &(impl Abort + AllocGlobal), at: usize, value: u8) -> Result<(), Fail> {
     let journal = changed(rt.alloc(), ONE_LINE, at, value)?;
-    let end = run_over_journal(rt.alloc(), "apply", &journal, LINE)?;
+    let end = run_over_journal(rt.alloc(), &["j", "apply"], &journal, LINE)?;
     assert_eq!(rt; end.status, opened_with(at, value), "byte {at} is {value}");
     if end.status == Status::Done {
         assert_eq!(rt;
@@ -264,7 +264,7 @@ fn opens_or_not(
     place: u64,
     name: (usize, u64),
 ) -> Result<(), Fail> {
-    let end = run_over_journal(rt.alloc(), "apply", journal, LINE)?;
+    let end = run_over_journal(rt.alloc(), &["j", "apply"], journal, LINE)?;
     if place > 0 {
         assert_eq!(rt; end.status, Status::Damaged(place), "{name:?}");
         assert_eq!(rt; end.output.len(), 0, "{name:?}");
@@ -272,7 +272,7 @@ fn opens_or_not(
     }
     assert_eq!(rt; end.status, Status::Done, "{name:?}");
     assert_eq!(rt; end.output.as_slice(), b"ok 1\n".as_slice(), "{name:?}");
-    let again = run_over_journal(rt.alloc(), "apply", &end.journal, LINE)?;
+    let again = run_over_journal(rt.alloc(), &["j", "apply"], &end.journal, LINE)?;
     assert_eq!(rt; again.status, Status::Done, "{name:?}");
     assert_eq!(rt; again.output.as_slice(), b"ok 1\n".as_slice(), "{name:?}");
     Ok(())

@@ -22,7 +22,7 @@ const OLD_LINE: &[u8] = b"MSRVJ001\x01\x00\x11k1 day 2024-02-01\x00";
 
 /// Makes a journal.
 const INIT: Given<'static> = Given {
-    word: "init",
+    words: &["j", "init"],
     ..SESSION
 };
 
@@ -160,7 +160,7 @@ fn a_disk_that_fails_ends_the_run(rt: HostRuntime) -> Result<(), Fail> {
     check_cases(&rt, &[first])
 }
 
-/// Runs `j` and the word over a disk, with one line as input.
+/// Runs the words over a disk, with one line as input.
 fn run_on<D: Disk, L: Ledger>(
     alloc: Global,
     blank: Blank,
@@ -174,14 +174,7 @@ fn run_on<D: Disk, L: Ledger>(
     let mut src = MemSource::new(LINE.to_vec(alloc)?, Vec::new(alloc));
     let mut snk = MemSink::new(Vec::new(alloc), Vec::new(alloc));
     let mut steps = Steps::<L>::new(blank);
-    let status = run(
-        alloc,
-        &["j", given.word],
-        &mut src,
-        &mut snk,
-        disk,
-        &mut steps,
-    );
+    let status = run(alloc, given.words, &mut src, &mut snk, disk, &mut steps);
     Ok((status, Vec::from_slice(alloc, snk.content())?))
 }
 

@@ -123,15 +123,26 @@ fn add_end(talk: &mut Talk, alloc: Global) -> Result<(), AllocError> {
     Ok(())
 }
 
-#[test]
-fn a_month_of_forty_loans(rt: HostRuntime) -> Result<(), Fail> {
-    let alloc = rt.alloc();
+/// All lines of the month, and the replies to them.
+fn month_by_lines(alloc: Global) -> Result<Talk, AllocError> {
     let mut talk = Talk::new(alloc);
     add_loans(&mut talk, alloc)?;
     add_lines(&mut talk, alloc, &FEBRUARY)?;
     talk.add_all(&IN_MARCH)?;
     add_lines(&mut talk, alloc, &MARCH)?;
     add_end(&mut talk, alloc)?;
+    Ok(talk)
+}
+
+/// All lines of the month.
+pub(super) fn month_of_loans(alloc: Global) -> Result<Vec<u8>, AllocError> {
+    let talk = month_by_lines(alloc)?;
+    Ok(talk.input)
+}
+
+#[test]
+fn a_month_of_forty_loans(rt: HostRuntime) -> Result<(), Fail> {
+    let talk = month_by_lines(rt.alloc())?;
     talk.check(&rt)
 }
 
@@ -139,7 +150,7 @@ fn a_month_of_forty_loans(rt: HostRuntime) -> Result<(), Fail> {
 fn check_runs(rt: &(impl Abort + AllocGlobal), runs: &[(&str, &Talk)]) -> Result<(), Fail> {
     let mut journal = NEW_JOURNAL.to_vec(rt.alloc())?;
     for (i, (word, talk)) in runs.iter().enumerate() {
-        let end = run_over_journal(rt.alloc(), word, &journal, &talk.input)?;
+        let end = run_over_journal(rt.alloc(), &["j", *word], &journal, &talk.input)?;
         assert_eq!(rt; end.status, Status::Done, "run {i}");
         let output = String::from_utf8_lossy(rt.alloc(), &end.output)?;
         let expected = String::from_utf8_lossy(rt.alloc(), &talk.replies)?;

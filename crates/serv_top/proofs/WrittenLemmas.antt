@@ -1,0 +1,77 @@
+-- A text that is written over a journal.
+use Rattle.std.proofs.Common.{◌≡◌, ◌⊎◌, ℕ, ◌≤◌, List, [], ◌∷◌, ◌++◌, length, take, refl, sym, ap, ◌∙◌, subst, inl, inr, ⊎_elim}
+use Rattle.std.specs.List.{flat_map}
+use Rattle.std.proofs.lemmas.List.{take_all}
+use Rattle.std.proofs.lemmas.List.Folds.{flat_map-map}
+use Rattle.std.specs.Prelude.{Option, Some}
+use Rattle.std.proofs.KnownBytes.{Appends-nil}
+use Rattle.svc_types.specs.declared.requests.Command.{Command}
+use Rattle.svc_world.specs.World.{Accepted, accepted}
+use Rattle.svc_world.specs.Judging.{IsHistory}
+use Rattle.svc_core.specs.Posted.{history_of}
+use Rattle.serv_disk.specs.Faults.{HasRisen, IsProperPrefix}
+use Rattle.serv_line.specs.Replies.{ended}
+use Rattle.serv_engine.specs.Histories.{IsGoodFound, line_of_command}
+use Rattle.serv_top.specs.declared.extracts.Extract.{Extract}
+use Rattle.serv_top.specs.declared.status.Status.{Status}
+use Rattle.serv_top.specs.declared.status.Status.TheVariants as status
+use Rattle.serv_top.specs.Journal.{IsUnopened}
+use Rattle.serv_top.specs.Written.{IsWrittenAs, Writes}
+use Rattle.serv_top.specs.Extracts.{IsExtracted, lines_of_commands}
+use Rattle.serv_top.proofs.Applied.{Completes, unopened_ends}
+
+-- all lines of a list of commands
+pub all_lines_of : (i : ℕ) (ps : List (List ℕ × Command)) → length ps ≤ i → flat_map (λ (p : List ℕ × Command). ended (line_of_command (accepted p.0 p.1))) (take i ps) ≡ lines_of_commands (history_of ps)
+all_lines_of i ps all =
+    ap (flat_map (λ (p : List ℕ × Command). ended (line_of_command (accepted p.0 p.1)))) (take_all i ps all)
+    ∙ sym (flat_map-map (λ (a : Accepted). ended (line_of_command a)) (λ (p : List ℕ × Command). accepted p.0 p.1) ps)
+
+-- a text that is one of those that are wanted
+pub written_of : (st : Status) (T : List ℕ → Type 0) (text written : List ℕ) → T text → IsWrittenAs st (λ t. t ≡ text) written → IsWrittenAs st T written
+written_of status.Done T text written is says = subst T (sym says) is
+written_of status.WriteFault T text written is says = record { text = text; whole = is; cut = subst (IsProperPrefix written) says.whole says.cut }
+written_of status.OutOfMemory T text written is says = says
+written_of status.Usage T text written is says = absurd says
+written_of status.ReadFault T text written is says = absurd says
+written_of status.DiskFault T text written is says = absurd says
+written_of status.NotJournal T text written is says = absurd says
+written_of status.AlreadyThere T text written is says = absurd says
+written_of (status.Damaged place) T text written is says = absurd says
+written_of status.NetFault T text written is says = absurd says
+written_of (status.NoReport last) T text written is says = absurd says
+written_of (status.TooMuch bytes) T text written is says = absurd says
+written_of (status.JournalFull bytes) T text written is says = absurd says
+
+pub writes_of : (st : Status) (T : List ℕ → Type 0) (text : List ℕ) (held held' : Option (List ℕ)) → T text → Writes st (λ t. t ≡ text) held held' → Writes st T held held'
+writes_of st T text held held' is w = record { written = w.written; wrote = w.wrote; says = written_of st T text w.written is w.says }
+
+-- there is no memory for one
+pub writes_nothing : (T : List ℕ → Type 0) (held : Option (List ℕ)) → Writes status.OutOfMemory T held held
+writes_nothing T held = record { written = []; wrote = Appends-nil held; says = refl }
+
+-- ---- completeness
+
+pub written_ends : (st : Status) (T : List ℕ → Type 0) (written : List ℕ) → (st ≡ status.WriteFault → ⊥) → IsWrittenAs st T written → Completes st
+written_ends status.Done T written calm says = inl refl
+written_ends status.WriteFault T written calm says = absurd (calm refl)
+written_ends status.OutOfMemory T written calm says = inr (inl refl)
+written_ends status.Usage T written calm says = absurd says
+written_ends status.ReadFault T written calm says = absurd says
+written_ends status.DiskFault T written calm says = absurd says
+written_ends status.NotJournal T written calm says = absurd says
+written_ends status.AlreadyThere T written calm says = absurd says
+written_ends (status.Damaged place) T written calm says = absurd says
+written_ends status.NetFault T written calm says = absurd says
+written_ends (status.NoReport last) T written calm says = absurd says
+written_ends (status.TooMuch bytes) T written calm says = absurd says
+written_ends (status.JournalFull bytes) T written calm says = absurd says
+
+pub complete_extract : {D A : Type 0} (seen : D → Option (List ℕ)) (images : D → List ℕ → Type 0) (moment : D → ℕ) (images_since : D → ℕ → List ℕ → Type 0) (faults : D → ℕ) (old new : D) (st : Status) (x : Extract)
+    (steps steps' : ℕ) (held held' : Option (List ℕ)) (s : List ℕ) (h : List Accepted) (a : Accepted) → seen old ≡ Some s → IsHistory (h ++ a ∷ []) → IsGoodFound h a s
+    → (st ≡ status.WriteFault → ⊥) → (HasRisen (faults old) (faults new) → ⊥)
+    → (IsUnopened seen images moment images_since faults old new st steps steps' × A) ⊎ IsExtracted seen images moment images_since old new st x steps steps' held held' → Completes st
+complete_extract {D} seen images moment images_since faults old new st x steps steps' held held' s h a told is_history good writes calm which =
+    ⊎_elim
+    (λ closed. unopened_ends st s h a (faults old) (faults new) (seen old) told is_history good closed.0.cause calm)
+    (λ over. written_ends st _ over.wrote.written writes over.wrote.says)
+    which

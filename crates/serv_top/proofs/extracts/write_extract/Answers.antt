@@ -1,0 +1,21 @@
+use Rattle.std.proofs.Common.{◌-◌, ◌+◌, ◌≤◌, inr, sym, subst}
+use Rattle.serv_engine.specs.Histories.{lengths_of}
+use Rattle.serv_top.specs.Extracts.{IsExtract, extract_bound}
+use Rattle.serv_top.proofs.WrittenLemmas.{writes_of}
+use Rattle.serv_top.proofs.extracts.write_extract.Goals as goal
+
+pub returns-in-Ok-text_of-clause-extracted : goal.returns-in-Ok-text_of-clause-extracted
+returns-in-Ok-text_of-clause-extracted g c =
+    let e = c.in-Ok.engine in
+    let x = c.args.extract in
+    let text = c.in-Ok-text_of.text.items in
+    inr (record {
+      commands = e.history;
+      base = e.journal.size - lengths_of e.history;
+      begun = c.open_journal.new.steps;
+      opening = c.in-Ok.ensures.opened;
+      cost = subst (λ h. c.text_of.new.steps ≤ c.open_journal.new.steps + extract_bound x h) c.core.ensures c.text_of.ensures.steps;
+      wrote = writes_of c.write_text.result (IsExtract x e.history) c.deref.result.now _ _
+          (subst (IsExtract x e.history) (sym c.deref.ensures.value) (subst (λ h. IsExtract x h text) c.core.ensures c.in-Ok-text_of.ensures.text))
+          c.write_text.ensures.writes;
+    })
