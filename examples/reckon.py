@@ -429,7 +429,7 @@ class Servicer:
 
     def __init__(self):
         self.today = datetime.date(1990, 1, 1)
-        self.keys, self.count, self.rows = {}, 0, {}
+        self.keys, self.count, self.rows, self.accepted = {}, 0, {}, []
         self.loans, self.reports, self.pending, self.remitted = {}, [], [], None
 
     def answer(self, line):
@@ -438,7 +438,10 @@ class Servicer:
             key, word, values = read_line(line)
             if key == "?":
                 return getattr(self, "ask_" + word)(*values)
-            return self.command(key, word, values)
+            count = self.count
+            reply = self.command(key, word, values)
+            self.accepted += [line] * (self.count - count)
+            return reply
         except NoRequest as place:
             return f"bad {place}\n"
         except Refused as rule:

@@ -23,6 +23,7 @@ HERE = os.path.dirname(os.path.abspath(__file__))
 TOP = os.path.dirname(HERE)
 sys.path[:0] = [HERE, os.path.join(TOP, "tests")]
 import bodies  # noqa: E402
+import further  # noqa: E402
 import program  # noqa: E402
 import reckon  # noqa: E402
 
@@ -59,11 +60,21 @@ def read(*path):
 
 
 def steps_of(folder):
-    """The words, the input's and the text's file of each line of a file `steps`."""
+    """The words, the input's and the text's file of each line of a file `steps`. A first line `after NAME` puts the
+    steps of that folder before them; a first word `@NAME` names another journal than `books`."""
     for line in read(folder, "steps").decode().splitlines():
         words, _, text = line.partition(">")
         words, _, given = words.partition("<")
-        yield words.split(), given.strip(), text.strip()
+        words = words.split()
+        if words[0] == "after":
+            yield from ((it, given and f"../{words[1]}/{given}", "") for it, given, _ in steps_of(words[1]))
+        else:
+            yield words, given.strip(), text.strip()
+
+
+def journal_of(words):
+    """The journal's name of a step, and the words behind it."""
+    return (words[0][1:], words[1:]) if words[0].startswith("@") else ("books", words)
 
 
 def lines_of_rows(data):
@@ -77,6 +88,8 @@ def reckoned(servicer, words, given):
     """What reckon.py answers to one step."""
     if words[0] == "init":
         return b""
+    if words[0] in further.WORDS:
+        return further.answer(servicer, words, given).encode()
     if words[0] not in ("apply", "session", "import"):
         return servicer.answer("? " + " ".join(words)).encode()
     if words[0] != "import":
@@ -92,30 +105,34 @@ def reckoned(servicer, words, given):
 
 def replay_steps(folder, count, built):
     """Runs the steps of a folder with the program, or with reckon.py where there is none."""
-    servicer = reckon.Servicer()
+    servicers = {}
     with tempfile.TemporaryDirectory() as room:
         for words, given, text in steps_of(folder):
-            servicer = reckon.Servicer() if words[0] == "session" else servicer
+            journal, words = journal_of(words)
+            if words[0] in ("session", "init"):
+                servicers[journal] = reckon.Servicer()
             given = read(folder, given) if given else b""
-            wanted = read(folder, text) if text else b""
             if built:
-                ran = subprocess.run([built, f"{room}/books.journal", *words], input=given, capture_output=True)
+                ran = subprocess.run([built, f"{room}/{journal}.journal", *words], input=given, capture_output=True)
                 got = ran.stdout + ran.stderr
             else:
-                got = reckoned(servicer, words, given)
-            count.compare(f"{folder}: {' '.join(words)} {text}", wanted, got)
-        if os.path.isfile(f"{room}/books.journal"):
-            check_journal(folder, count, f"{room}/books.journal")
+                got = reckoned(servicers[journal], words, given)
+            if text or words[0] == "init":
+                wanted = read(folder, text) if text else b""
+                count.compare(f"{folder}: {journal} {' '.join(words)} {text}", wanted, got)
+        for journal in servicers:
+            if os.path.isfile(f"{room}/{journal}.journal"):
+                check_journal(folder, count, journal, room)
 
 
-def check_journal(folder, count, journal):
+def check_journal(folder, count, journal, room):
     """Reads the journal's bytes with reckon.py and compares the last custodial line."""
-    with open(journal, "rb") as file:
+    with open(f"{room}/{journal}.journal", "rb") as file:
         lines = reckon.lines_of_journal(file.read())
     servicer = reckon.Servicer()
     refused = [it for it in lines if not servicer.answer(it.decode()).startswith("ok ")]
-    count.compare(f"{folder}: reckon.py accepts each line of the journal", b"", b"\n".join(refused))
-    last = [text for words, _, text in steps_of(folder) if words == ["custodial"]][-1:]
+    count.compare(f"{folder}: reckon.py accepts each line of {journal}", b"", b"\n".join(refused))
+    last = [text for words, _, text in steps_of(folder) if journal_of(words) == (journal, ["custodial"]) and text][-1:]
     for text in last:
         count.compare(f"{folder}: reckon.py's custodial line", read(folder, text), servicer.ask_custodial().encode())
 

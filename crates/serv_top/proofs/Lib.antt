@@ -1,6 +1,7 @@
 pub mod ResultLemmas
 pub mod Pieces
 pub mod Cutting
+pub mod PlainLemmas
 pub mod LineLemmas
 pub mod CutLemmas
 pub mod WholeLemmas

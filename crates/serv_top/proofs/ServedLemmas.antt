@@ -1,7 +1,7 @@
 -- Bytes that are fed one after the other, the text that they make, and what of it is in the sink.
-use Rattle.std.proofs.Common.{◌≡◌, ℕ, ◌+◌, ◌<◌, ◌≤◌, ◌⊎◌, List, [], ◌∷◌, ◌++◌, length, take, drop, refl, sym, ap, subst, ◌∙◌, arith, inl, inr, append-nil, append_assoc, length-append, take-append-drop, get_or}
+use Rattle.std.proofs.Common.{◌≡◌, ℕ, ◌+◌, ◌<◌, ◌≤◌, ◌⊎◌, List, [], ◌∷◌, ◌++◌, length, take, refl, sym, ap, subst, ◌∙◌, arith, inl, inr, append-nil, append_assoc, length-append, take-append-drop, get_or}
 use Rattle.std.specs.Prelude.{Option, Result, Ok, Err, OnOk, OnErr, ◌==◌, Bool, true, false, if◌then◌else◌, MatchBool}
-use Rattle.std.proofs.lemmas.List.{length-take-le, take_at, take_all, take-append-le, take_more, drop_more}
+use Rattle.std.proofs.lemmas.List.{length-take-le, take_at, take_all, take-append-le}
 use Rattle.std.proofs.lemmas.Bool.{cases_lt}
 use Rattle.std.specs.Io.KnownBytes.{Appends}
 use Rattle.std.proofs.KnownBytes.{Appends-nil, Appends-trans}
@@ -13,12 +13,13 @@ use Rattle.serv_machine.specs.OnDisk.{OnDisk}
 use Rattle.serv_machine.proofs.OnDiskLemmas.{disk_more}
 use Rattle.serv_top.specs.declared.serving.Stop.{Stop}
 use Rattle.serv_top.specs.declared.serving.Stop.TheVariants.{WriteFault, DiskFault, OutOfMemory}
-use Rattle.serv_top.specs.Lines.{lines_of, ended_lines, open_line}
+use Rattle.serv_top.specs.Lines.{IsPlain, lines_of, ended_lines, open_line}
 use Rattle.serv_top.specs.Machine.{Said, Says, reply_to, Stand, Stays, IsTried, IsStuck}
 use Rattle.serv_top.specs.Replies.{Say, IsCutIn, IsBegun, IsHeldUp, IsTriedNext, before_last, replies_to, MovesAll}
-use Rattle.serv_top.specs.Serving.{AllServed, AppendsFront, Feeds, FailsAt, IsHalted, IsDropped, IsReplied, Served, Stopped, Stops, IsStoppedText}
+use Rattle.serv_top.specs.Serving.{AllServed, AppendsFront, IsHalted, IsReplied, Served, Stopped, Stops, IsStoppedText}
 use Rattle.serv_top.specs.Stop.{stop_of}
 use Rattle.serv_top.proofs.LineLemmas.{says_whole}
+use Rattle.serv_top.proofs.PlainLemmas.{ended_plain, open_plain}
 use Rattle.serv_top.proofs.Cutting.{unended, ended_from, open_from-push, ended_lines-push, ended_lines-append, lines_of-from, say-push, replies_to-push, moves_more}
 
 pub served_none : (waiting : ℕ) (s s' : Stand) (held : Option (List ℕ)) (line text : List ℕ) → line ≡ [] → text ≡ [] → s'.history ≡ s.history → s'.steps ≤ s.steps
@@ -126,10 +127,6 @@ stopped_further why waiting bytes more s s' pending held held' stopped = record 
       (stopped_text_further why waiting (ended_lines bytes) (ended_from (open_line bytes) more) s s' pending stopped.written stopped.says);
 }
 
--- nothing more was done
-moves_stay : (saids : List Said) (s s' s'' : Stand) → MovesAll saids s s' → Stays s' s'' → MovesAll saids s s''
-moves_stay saids s s' s'' all same = (same.0 ∙ all.0, omega (arith, all.1, same.1))
-
 -- what is written of a text, by how its writing ends
 pub front_by : {T E : Type 0} (r : Result T E) (held held' : Option (List ℕ)) (text : List ℕ) → OnOk r (Appends held held' text) → OnErr r (AppendsPart held held' text) → AppendsFront held held' text
 front_by (Ok x) held held' text whole part = record { part = text; rest = []; wrote = whole; joined = sym (append-nil text) }
@@ -168,6 +165,20 @@ pub stopped_by_fault : (waiting : ℕ) (bytes : List ℕ) (s s' : Stand) (held h
 stopped_by_fault waiting bytes s s' held held' held'' line text run part =
     cut_of waiting (ended_lines bytes) run.said s s' held held' held'' run.written text run.say run.moved run.wrote run.gathered run.late part
 
+-- bytes without a line feed are added to the line, as far as it is kept
+pub served_plain : (waiting : ℕ) (bytes p : List ℕ) (s s' : Stand) (held held' : Option (List ℕ)) (line text line' text' : List ℕ) → IsPlain p → Served waiting bytes s s' held held' line text
+    → line' ≡ take 513 (line ++ p) → text' ≡ text → Served waiting (bytes ++ p) s s' held held' line' text'
+served_plain waiting bytes p s s' held held' line text line' text' plain run kept same = record {
+  said = run.said;
+  say = subst (λ ls. Say ls run.said) (sym (ended_plain bytes p plain)) run.say;
+  moved = run.moved;
+  written = run.written;
+  wrote = run.wrote;
+  gathered = ap (λ t. run.written ++ t) same ∙ run.gathered;
+  late = run.late;
+  line_is = kept ∙ ap (λ l. take 513 (l ++ p)) run.line_is ∙ take_cut 513 (open_line bytes) p ∙ sym (ap (take 513) (open_plain bytes p plain));
+}
+
 -- one more is the last
 pub before_last-push : (saids : List Said) (said : Said) → before_last (saids ++ said ∷ []) ≡ saids
 before_last-push [] said = refl
@@ -204,36 +215,24 @@ module _ (waiting : ℕ) (bytes : List ℕ) {s s' : Stand} {held held' : Option 
       late_of (length (replies_to s.history (before_last (run.said ++ said ∷ [])))) (length (run.written ++ text)) (length run.written) (length text) waiting
       (ap (λ l. length (replies_to s.history l)) (before_last-push run.said said) ∙ sym (ap length run.gathered)) (length-append run.written text) few
 
-  -- one more byte, where it is tested whether it is a line feed
-  more_at : (b : ℕ) (t : Bool) (s'' : Stand) (line' text' : List ℕ)
-      → ended_lines (bytes ++ b ∷ []) ≡ (if t then ended ++ piece ∷ [] else ended)
-      → open_line (bytes ++ b ∷ []) ≡ (if t then [] else piece ++ b ∷ [])
-      → MatchBool t ((line' ≡ []) × IsReplied line s' s'' text text') ((line' ≡ take 513 (line ++ b ∷ [])) × Stays s' s'' × (text' ≡ text))
-      → Served waiting (bytes ++ b ∷ []) s s'' held held' line' text'
-  more_at b true s'' line' text' lines opened fed = record {
-    said = run.said ++ fed.1.said ∷ [];
-    say = all_say _ fed.1.said lines fed.1.says;
-    moved = moves_more run.said fed.1.said s s' s'' run.moved fed.1.after;
-    written = run.written;
-    wrote = run.wrote;
-    gathered = all_gathered fed.1.said text' fed.1.added;
-    late = all_late fed.1.said;
-    line_is = fed.0 ∙ sym (ap (take 513) opened);
-  }
-  more_at b false s'' line' text' lines opened fed = record {
-    said = run.said;
-    say = subst (λ ls. Say ls run.said) (sym lines) run.say;
-    moved = moves_stay run.said s s' s'' run.moved fed.1;
-    written = run.written;
-    wrote = run.wrote;
-    gathered = ap (λ t. run.written ++ t) fed.2 ∙ run.gathered;
-    late = run.late;
-    line_is = fed.0 ∙ ap (λ l. take 513 (l ++ b ∷ [])) run.line_is ∙ take_cut 513 piece (b ∷ []) ∙ sym (ap (take 513) opened);
-  }
+  -- the line ends
+  ended_more : ended_lines (bytes ++ 10 ∷ []) ≡ ended ++ piece ∷ []
+  ended_more = ended_lines-push bytes 10
 
-  -- one more byte
-  pub served_more : (b : ℕ) (s'' : Stand) (line' text' : List ℕ) → Feeds b line line' s' s'' text text' → Served waiting (bytes ++ b ∷ []) s s'' held held' line' text'
-  served_more b s'' line' text' fed = more_at b (b == 10) s'' line' text' (ended_lines-push bytes b) (open_from-push [] bytes b) fed
+  opened_more : open_line (bytes ++ 10 ∷ []) ≡ []
+  opened_more = open_from-push [] bytes 10
+
+  pub served_more : (s'' : Stand) (line' text' : List ℕ) → line' ≡ [] → IsReplied line s' s'' text text' → Served waiting (bytes ++ 10 ∷ []) s s'' held held' line' text'
+  served_more s'' line' text' none replied = record {
+    said = run.said ++ replied.said ∷ [];
+    say = all_say _ replied.said ended_more replied.says;
+    moved = moves_more run.said replied.said s s' s'' run.moved replied.after;
+    written = run.written;
+    wrote = run.wrote;
+    gathered = all_gathered replied.said text' replied.added;
+    late = all_late replied.said;
+    line_is = none ∙ sym (ap (take 513) opened_more);
+  }
 
   tried_piece : (s'' : Stand) → IsTried line s' s'' → IsTried piece s' s''
   tried_piece s'' is = record { said = is.said; says = says_piece is.said is.says; near = is.near; cost = is.cost }
@@ -296,19 +295,13 @@ module _ (waiting : ℕ) (bytes : List ℕ) {s s' : Stand} {held held' : Option 
   halted_of halt.OutOfMemory s'' held'' lines pending e front is = short_of s'' held'' lines (piece ∷ []) pending is.0 e front (inr (tried_piece s'' is.1))
   halted_of halt.DiskFault s'' held'' lines pending e front is = held_of s'' held'' lines pending e front is
 
-  dropped_of : (why : Halt) (s'' : Stand) (held'' : Option (List ℕ)) (lines : List (List ℕ)) (pending : List Accepted) → lines ≡ ended → AppendsFront held' held'' text
-      → IsDropped why s' s'' pending → Stopped (stop_of why) waiting lines s s'' pending held held''
-  dropped_of halt.OutOfMemory s'' held'' lines pending e front is = short_of s'' held'' lines [] pending is.0 (e ∙ sym (append-nil ended)) front (inl is.1)
-  dropped_of halt.DiskFault s'' held'' lines pending e front is = absurd is
+  pub halted_at_end : (why : Halt) (s'' : Stand) (held'' : Option (List ℕ)) (pending : List Accepted) → IsHalted why line s' s'' pending → AppendsFront held' held'' text
+      → Stopped (stop_of why) waiting (ended_lines (bytes ++ 10 ∷ [])) s s'' pending held held''
+  halted_at_end why s'' held'' pending is front = halted_of why s'' held'' _ pending ended_more front is
 
-  fails_where : (t : Bool) (why : Halt) (s'' : Stand) (held'' : Option (List ℕ)) (lines : List (List ℕ)) (pending : List Accepted) → lines ≡ (if t then ended ++ piece ∷ [] else ended)
-      → MatchBool t (IsHalted why line s' s'' pending) (IsDropped why s' s'' pending) → AppendsFront held' held'' text → Stopped (stop_of why) waiting lines s s'' pending held held''
-  fails_where true why s'' held'' lines pending e is front = halted_of why s'' held'' lines pending e front is
-  fails_where false why s'' held'' lines pending e is front = dropped_of why s'' held'' lines pending e front is
-
-  pub fails_at_byte : (b : ℕ) (why : Halt) (s'' : Stand) (held'' : Option (List ℕ)) (pending : List Accepted) → FailsAt why b line s' s'' pending → AppendsFront held' held'' text
-      → Stopped (stop_of why) waiting (ended_lines (bytes ++ b ∷ [])) s s'' pending held held''
-  fails_at_byte b why s'' held'' pending fails front = fails_where (b == 10) why s'' held'' _ pending (ended_lines-push bytes b) fails front
+  -- memory is short where bytes without a line feed are taken
+  pub short_plain : (p : List ℕ) (held'' : Option (List ℕ)) → IsPlain p → AppendsFront held' held'' text → Stopped OutOfMemory waiting (ended_lines (bytes ++ p)) s s' [] held held''
+  short_plain p held'' plain front = short_of s' held'' (ended_lines (bytes ++ p)) [] [] refl (ended_plain bytes p plain ∙ sym (append-nil ended)) front (inl (refl, omega arith))
 
   no_line : piece ≡ [] → line ≡ []
   no_line none = run.line_is ∙ ap (take 513) none
@@ -364,17 +357,6 @@ stops_more images moment images_since old mid new why waiting bytes more s t0 t1
   stopped = stopped_further why waiting bytes more s s' stops.pending held held' stops.stopped;
   disk = disk_more images moment images_since old mid new t0.history.commands t1.history.commands s'.history.commands stops.pending first stops.disk;
 }
-
--- a byte among others
-pub byte_among : (before bytes : List ℕ) (i d : ℕ) → i < length bytes → ((before ++ take i bytes) ++ get_or bytes i d ∷ []) ++ drop (i + 1) bytes ≡ before ++ bytes
-byte_among before bytes i d below =
-    append_assoc (before ++ take i bytes) (get_or bytes i d ∷ []) (drop (i + 1) bytes)
-    ∙ ap (λ rest. (before ++ take i bytes) ++ rest) (sym (drop_more bytes i d below))
-    ∙ append_assoc before (take i bytes) (drop i bytes)
-    ∙ ap (λ rest. before ++ rest) (take-append-drop i bytes)
-
-pub byte_more : (before bytes : List ℕ) (i d : ℕ) → i < length bytes → before ++ take (i + 1) bytes ≡ (before ++ take i bytes) ++ get_or bytes i d ∷ []
-byte_more before bytes i d below = ap (λ rest. before ++ rest) (take_more bytes i d below) ∙ sym (append_assoc before (take i bytes) (get_or bytes i d ∷ []))
 
 pub few_none : (waiting : ℕ) (text : List ℕ) → text ≡ [] → length text ≤ waiting
 few_none waiting text none = omega (arith, ap length none)

@@ -1,5 +1,5 @@
 -- How a stream of bytes is cut into lines, at line feeds.
-use Rattle.std.specs.Prelude.{ℕ, ◌==◌, List, [], ◌∷◌, ◌++◌, if◌then◌else◌}
+use Rattle.std.specs.Prelude.{◌≡◌, ℕ, ◌==◌, ⊤, false, List, [], ◌∷◌, ◌++◌, if◌then◌else◌}
 
 -- a byte in front of the first line; where there is no line, the byte is one, and has no line feed yet
 abbrev pub onto_first : ℕ → List (List ℕ) → List (List ℕ)
@@ -29,3 +29,8 @@ open_from piece (b ∷ bytes) = if b == 10 then open_from [] bytes else open_fro
 -- what stands behind the last line feed
 abbrev pub open_line : List ℕ → List ℕ
 open_line bytes = open_from [] bytes
+
+-- bytes without a line feed
+abbrev pub IsPlain : List ℕ → Type 0
+IsPlain [] = ⊤
+IsPlain (b ∷ bytes) = ((b == 10) ≡ false) × IsPlain bytes

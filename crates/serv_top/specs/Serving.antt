@@ -1,4 +1,4 @@
--- What bytes do to the line that has come so far, to the machine, and to the sink.
+-- What lines do to the machine and to the sink, and what of the line after them has come.
 use Rattle.std.specs.Prelude.{◌≡◌, ℕ, ◌+◌, ◌≤◌, ◌==◌, List, [], ◌∷◌, ◌++◌, length, take, MatchBool, Option}
 use Rattle.std.specs.Io.KnownBytes.{Appends}
 use Rattle.svc_world.specs.World.{Accepted}
@@ -23,28 +23,12 @@ abbrev pub IsHalted : Halt → List ℕ → Stand → Stand → List Accepted �
 IsHalted halt.OutOfMemory line s s' pending = (pending ≡ []) × IsTried line s s'
 IsHalted halt.DiskFault line s s' pending = IsStuck line s s' pending
 
--- a byte that is no line feed is not kept: for want of memory alone
-abbrev pub IsDropped : Halt → Stand → Stand → List Accepted → Type 0
-IsDropped halt.OutOfMemory s s' pending = (pending ≡ []) × Stays s s'
-IsDropped halt.DiskFault s s' pending = ⊥
-
 -- a front part of a text is written, or all of it
 pub record AppendsFront (held held' : Option (List ℕ)) (text : List ℕ) : Type 0 where
   pub part : List ℕ
   pub rest : List ℕ
   pub wrote : Appends held held' part
   pub joined : text ≡ part ++ rest
-
--- one byte: a line feed ends the line, which is acted on, and the reply is added to those that are not written yet; any
--- other byte is added to the line, of which 513 bytes are kept
-abbrev pub Feeds : ℕ → List ℕ → List ℕ → Stand → Stand → List ℕ → List ℕ → Type 0
-Feeds byte line line' s s' text text' = MatchBool (byte == 10)
-    ((line' ≡ []) × IsReplied line s s' text text')
-    ((line' ≡ take 513 (line ++ byte ∷ [])) × Stays s s' × (text' ≡ text))
-
--- where it halts at a byte
-abbrev pub FailsAt : Halt → ℕ → List ℕ → Stand → Stand → List Accepted → Type 0
-FailsAt why byte line s s' pending = MatchBool (byte == 10) (IsHalted why line s s' pending) (IsDropped why s s' pending)
 
 -- the lines that ended in these bytes were acted on, the replies to them are written but for a text, which has at most this
 -- many bytes beside the reply to the last line; and of the piece after them the first 513 bytes are kept
@@ -80,12 +64,6 @@ pub record Halts {D : Type 0} (images : D → List ℕ → Type 0) (moment : D �
     (why : Halt) (line : List ℕ) (s s' : Stand) : Type 0 where
   pub pending : List Accepted
   pub halted : IsHalted why line s s' pending
-  pub disk : OnDisk images moment images_since old new s.history.commands s'.history.commands pending
-
-pub record HaltsAt {D : Type 0} (images : D → List ℕ → Type 0) (moment : D → ℕ) (images_since : D → ℕ → List ℕ → Type 0) (old new : D)
-    (why : Halt) (byte : ℕ) (line : List ℕ) (s s' : Stand) : Type 0 where
-  pub pending : List Accepted
-  pub fails : FailsAt why byte line s s' pending
   pub disk : OnDisk images moment images_since old new s.history.commands s'.history.commands pending
 
 -- a call that stops, in a run that began at an earlier stand; the disk's run is that of this call

@@ -1,13 +1,14 @@
 //! Lines that come byte by byte, and the replies to them.
 
-ghost use Rattle.std.specs.Prelude.{◌≡◌, ◌≢◌, ℕ, ◌≤◌, ◌++◌, List, [], ◌∷◌, Option, Err, OnErr, OnOk, IfErr, take, vec_len};
+ghost use Rattle.std.specs.Prelude.{◌≡◌, ◌≢◌, ℕ, ◌<◌, ◌≤◌, ◌==◌, ◌++◌, List, [], ◌∷◌, Option, Err, OnErr, OnOk, IfErr, IfOk, length, take, vec_len};
+ghost use Rattle.std.specs.List.{position};
 ghost use Rattle.std.specs.Io.KnownBytes.{Appends};
 ghost use Rattle.serv_disk.specs.Faults.{AppendsPart, HasCause, HasRisen};
 ghost use Rattle.serv_machine.specs.OnDisk.{OnDisk};
 ghost use Rattle.serv_top.specs.declared.serving.Stop.TheVariants as stop;
 ghost use Rattle.serv_top.specs.Machine.{Stand, stand};
-ghost use Rattle.serv_top.specs.Serving.{AllServed, AppendsFront, Feeds, Halts, HaltsAt, IsReplied, Served, Stopped, Stops};
-ghost use Rattle.serv_top.specs.Lines.{ended_lines, lines_of};
+ghost use Rattle.serv_top.specs.Serving.{AllServed, AppendsFront, Halts, IsReplied, Served, Stopped, Stops};
+ghost use Rattle.serv_top.specs.Lines.{IsPlain, ended_lines, lines_of};
 ghost use Rattle.serv_top.specs.Stop.{status_of, stop_of};
 
 use crate::answering::answer_line;
@@ -50,6 +51,13 @@ pub(crate) fn stop_at(halt: Halt) -> Stop
         Halt::DiskFault => Stop::DiskFault,
         Halt::OutOfMemory => Stop::OutOfMemory,
     }
+}
+
+/// Where the first line feed stands.
+fn line_feed_in(bytes: &[u8]) -> Option<usize>
+    ensures { result ≡ position (λ b. b == 10) bytes.now }
+{
+    bytes.iter().position(|byte| *byte == b'\n')
 }
 
 /// The front of the line that has come so far, and the replies that are not written yet: after each line at
@@ -110,9 +118,10 @@ impl Serving {
         ensures disk_later { D.faults disk.old ≤ D.faults disk.new }
         ensures disk_cause { result ≡ Err Stop.DiskFault → HasRisen (D.faults disk.old) (D.faults disk.new) }
     {
-        for byte in bytes {
-            match self.feed(*byte, machine, disk, snk, steps) {
-                Ok(()) => {}
+        let mut at = 0;
+        while at < bytes.len() {
+            match self.feed_some(&bytes[at..], machine, disk, snk, steps) {
+                Ok(taken) => at += taken,
                 Err(stop) => return Err(stop),
             }
         }
@@ -122,28 +131,76 @@ impl Serving {
         }
     }
 
-    /// Takes one byte, and writes the replies where they are many.
-    fn feed<D: Disk, M: Machine<D>, K: Sink, L: Ledger>(
+    /// Takes the bytes up to the first line feed, which ends a line, or all of them where there is none; so many are taken.
+    fn feed_some<D: Disk, M: Machine<D>, K: Sink, L: Ledger>(
         &mut self,
-        byte: u8,
+        bytes: &[u8],
         machine: &mut M,
         disk: &mut D,
         snk: &mut K,
         steps: &mut Steps<L>,
-    ) -> Result<(), Stop>
+    ) -> Result<usize, Stop>
         requires ready { M.ready machine.old disk.old }
         requires few { vec_len self.old.replies ≤ self.old.waiting }
         ensures fed { (before : List ℕ) (s : Stand) (held : Option (List ℕ))
             → Served self.old.waiting before s (stand (M.history machine.old) steps.old) held (K.held snk.old)
             self.old.line.items self.old.replies.items
-            → OnOk result (Served self.old.waiting (before ++ byte ∷ []) s
+            → IfOk result (λ n. Served self.old.waiting (before ++ take n bytes.now) s
             (stand (M.history machine.new) steps.new) held (K.held snk.new)
             self.new.line.items self.new.replies.items) }
         ensures stopped { (before : List ℕ) (s : Stand) (held : Option (List ℕ))
             → Served self.old.waiting before s (stand (M.history machine.old) steps.old) held (K.held snk.old)
             self.old.line.items self.old.replies.items
             → IfErr result (λ why. Stops D.images D.moment D.images_since disk.old disk.new why self.old.waiting
-            (ended_lines (before ++ byte ∷ [])) s (stand (M.history machine.old) steps.old)
+            (ended_lines (before ++ bytes.now)) s (stand (M.history machine.old) steps.old)
+            (stand (M.history machine.new) steps.new) held (K.held snk.new)) }
+        ensures few { OnOk result (vec_len self.new.replies ≤ self.new.waiting) }
+        ensures waiting { self.new.waiting ≡ self.old.waiting }
+        ensures disk { OnOk result (OnDisk D.images D.moment D.images_since disk.old disk.new
+            (M.history machine.old).commands (M.history machine.new).commands []) }
+        ensures ready { OnOk result (M.ready machine.new disk.new) }
+        ensures later { K.faults snk.old ≤ K.faults snk.new }
+        ensures cause { result ≡ Err Stop.WriteFault → HasRisen (K.faults snk.old) (K.faults snk.new) }
+        ensures disk_later { D.faults disk.old ≤ D.faults disk.new }
+        ensures disk_cause { result ≡ Err Stop.DiskFault → HasRisen (D.faults disk.old) (D.faults disk.new) }
+        ensures some { IfOk result (λ n. n ≤ length bytes.now) }
+        ensures more { 0 < length bytes.now → IfOk result (λ n. 0 < n) }
+    {
+        match line_feed_in(bytes) {
+            Some(at) => match self.feed_line(&bytes[..at], machine, disk, snk, steps) {
+                Ok(()) => Ok(at + 1),
+                Err(stop) => Err(stop),
+            },
+            None => match self.feed_piece(bytes, snk) {
+                Ok(()) => Ok(bytes.len()),
+                Err(stop) => Err(stop),
+            },
+        }
+    }
+
+    /// Takes the rest of a line and its line feed.
+    fn feed_line<D: Disk, M: Machine<D>, K: Sink, L: Ledger>(
+        &mut self,
+        piece: &[u8],
+        machine: &mut M,
+        disk: &mut D,
+        snk: &mut K,
+        steps: &mut Steps<L>,
+    ) -> Result<(), Stop>
+        requires plain { IsPlain piece.now }
+        requires ready { M.ready machine.old disk.old }
+        requires few { vec_len self.old.replies ≤ self.old.waiting }
+        ensures fed { (before : List ℕ) (s : Stand) (held : Option (List ℕ))
+            → Served self.old.waiting before s (stand (M.history machine.old) steps.old) held (K.held snk.old)
+            self.old.line.items self.old.replies.items
+            → OnOk result (Served self.old.waiting (before ++ (piece.now ++ 10 ∷ [])) s
+            (stand (M.history machine.new) steps.new) held (K.held snk.new)
+            self.new.line.items self.new.replies.items) }
+        ensures stopped { (before : List ℕ) (s : Stand) (held : Option (List ℕ))
+            → Served self.old.waiting before s (stand (M.history machine.old) steps.old) held (K.held snk.old)
+            self.old.line.items self.old.replies.items
+            → IfErr result (λ why. Stops D.images D.moment D.images_since disk.old disk.new why self.old.waiting
+            (ended_lines (before ++ (piece.now ++ 10 ∷ []))) s (stand (M.history machine.old) steps.old)
             (stand (M.history machine.new) steps.new) held (K.held snk.new)) }
         ensures few { OnOk result (vec_len self.new.replies ≤ self.new.waiting) }
         ensures waiting { self.new.waiting ≡ self.old.waiting }
@@ -155,7 +212,71 @@ impl Serving {
         ensures disk_later { D.faults disk.old ≤ D.faults disk.new }
         ensures disk_cause { result ≡ Err Stop.DiskFault → HasRisen (D.faults disk.old) (D.faults disk.new) }
     {
-        match self.take(byte, machine, disk, steps) {
+        match self.feed_piece(piece, snk) {
+            Ok(()) => self.end_line(machine, disk, snk, steps),
+            Err(stop) => Err(stop),
+        }
+    }
+
+    /// Takes bytes without a line feed. Where memory is short, the replies that are not written yet are.
+    fn feed_piece<K: Sink>(&mut self, piece: &[u8], snk: &mut K) -> Result<(), Stop>
+        requires plain { IsPlain piece.now }
+        ensures fed { (before : List ℕ) (s t : Stand) (held : Option (List ℕ))
+            → Served self.old.waiting before s t held (K.held snk.old) self.old.line.items self.old.replies.items
+            → OnOk result (Served self.old.waiting (before ++ piece.now) s t held (K.held snk.new)
+            self.new.line.items self.new.replies.items) }
+        ensures stopped { (before : List ℕ) (s t : Stand) (held : Option (List ℕ))
+            → Served self.old.waiting before s t held (K.held snk.old) self.old.line.items self.old.replies.items
+            → vec_len self.old.replies ≤ self.old.waiting
+            → OnErr result (Stopped stop.OutOfMemory self.old.waiting (ended_lines (before ++ piece.now)) s t []
+            held (K.held snk.new)) }
+        ensures memory { IfErr result (λ why. why ≡ Stop.OutOfMemory) }
+        ensures replies { OnOk result (self.new.replies.items ≡ self.old.replies.items) }
+        ensures waiting { self.new.waiting ≡ self.old.waiting }
+        ensures later { K.faults snk.old ≤ K.faults snk.new }
+    {
+        match self.keep_all(piece) {
+            Ok(()) => Ok(()),
+            Err(_) => {
+                self.give_up(snk);
+                Err(Stop::OutOfMemory)
+            }
+        }
+    }
+
+    /// Answers a line that has come, and writes the replies where they are many.
+    fn end_line<D: Disk, M: Machine<D>, K: Sink, L: Ledger>(
+        &mut self,
+        machine: &mut M,
+        disk: &mut D,
+        snk: &mut K,
+        steps: &mut Steps<L>,
+    ) -> Result<(), Stop>
+        requires ready { M.ready machine.old disk.old }
+        requires few { vec_len self.old.replies ≤ self.old.waiting }
+        ensures fed { (before : List ℕ) (s : Stand) (held : Option (List ℕ))
+            → Served self.old.waiting before s (stand (M.history machine.old) steps.old) held (K.held snk.old)
+            self.old.line.items self.old.replies.items
+            → OnOk result (Served self.old.waiting (before ++ 10 ∷ []) s
+            (stand (M.history machine.new) steps.new) held (K.held snk.new)
+            self.new.line.items self.new.replies.items) }
+        ensures stopped { (before : List ℕ) (s : Stand) (held : Option (List ℕ))
+            → Served self.old.waiting before s (stand (M.history machine.old) steps.old) held (K.held snk.old)
+            self.old.line.items self.old.replies.items
+            → IfErr result (λ why. Stops D.images D.moment D.images_since disk.old disk.new why self.old.waiting
+            (ended_lines (before ++ 10 ∷ [])) s (stand (M.history machine.old) steps.old)
+            (stand (M.history machine.new) steps.new) held (K.held snk.new)) }
+        ensures few { OnOk result (vec_len self.new.replies ≤ self.new.waiting) }
+        ensures waiting { self.new.waiting ≡ self.old.waiting }
+        ensures disk { OnOk result (OnDisk D.images D.moment D.images_since disk.old disk.new
+            (M.history machine.old).commands (M.history machine.new).commands []) }
+        ensures ready { OnOk result (M.ready machine.new disk.new) }
+        ensures later { K.faults snk.old ≤ K.faults snk.new }
+        ensures cause { result ≡ Err Stop.WriteFault → HasRisen (K.faults snk.old) (K.faults snk.new) }
+        ensures disk_later { D.faults disk.old ≤ D.faults disk.new }
+        ensures disk_cause { result ≡ Err Stop.DiskFault → HasRisen (D.faults disk.old) (D.faults disk.new) }
+    {
+        match self.answer(machine, disk, steps) {
             Ok(()) => match self.flush_many(snk) {
                 Ok(()) => Ok(()),
                 Err(_) => Err(Stop::WriteFault),
@@ -164,38 +285,6 @@ impl Serving {
                 self.give_up(snk);
                 Err(stop_at(halt))
             }
-        }
-    }
-
-    /// Takes one byte: a line feed ends the line, which is answered; any other byte is added to it.
-    fn take<D: Disk, M: Machine<D>, L: Ledger>(
-        &mut self,
-        byte: u8,
-        machine: &mut M,
-        disk: &mut D,
-        steps: &mut Steps<L>,
-    ) -> Result<(), Halt>
-        requires { M.ready machine.old disk.old }
-        ensures fed { OnOk result (Feeds byte self.old.line.items self.new.line.items
-            (stand (M.history machine.old) steps.old) (stand (M.history machine.new) steps.new)
-            self.old.replies.items self.new.replies.items) }
-        ensures fails { IfErr result (λ why. HaltsAt D.images D.moment D.images_since disk.old disk.new why byte
-            self.old.line.items (stand (M.history machine.old) steps.old)
-            (stand (M.history machine.new) steps.new)) }
-        ensures kept { OnErr result (self.new.replies.items ≡ self.old.replies.items) }
-        ensures waiting { self.new.waiting ≡ self.old.waiting }
-        ensures disk { OnOk result (OnDisk D.images D.moment D.images_since disk.old disk.new
-            (M.history machine.old).commands (M.history machine.new).commands []) }
-        ensures ready { OnOk result (M.ready machine.new disk.new) }
-        ensures stopped { result ≡ Err Halt.DiskFault → HasRisen (D.faults disk.old) (D.faults disk.new) }
-        ensures faults { D.faults disk.old ≤ D.faults disk.new }
-    {
-        if byte == b'\n' {
-            return self.answer(machine, disk, steps);
-        }
-        match self.keep(byte) {
-            Ok(()) => Ok(()),
-            Err(_) => Err(Halt::OutOfMemory),
         }
     }
 
@@ -314,15 +403,15 @@ impl Serving {
         let _ = self.flush(snk);
     }
 
-    /// Adds a byte to the line, as far as the line is kept.
-    fn keep(&mut self, byte: u8) -> Result<(), OutOfMemory>
-        ensures line { OnOk result (self.new.line.items ≡ take 513 (self.old.line.items ++ byte ∷ [])) }
+    /// Adds bytes to the line, as far as the line is kept.
+    fn keep_all(&mut self, piece: &[u8]) -> Result<(), OutOfMemory>
+        ensures line { OnOk result (self.new.line.items ≡ take 513 (self.old.line.items ++ piece.now)) }
         ensures replies { self.new.replies.items ≡ self.old.replies.items }
         ensures waiting { self.new.waiting ≡ self.old.waiting }
     {
-        if self.line.len() < KEPT {
-            self.line.push(byte)?;
-        }
+        let room = KEPT - self.line.len();
+        self.line
+            .extend_from_slice(&piece[..piece.len().min(room)])?;
         Ok(())
     }
 }

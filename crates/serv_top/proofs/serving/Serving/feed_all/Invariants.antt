@@ -1,14 +1,15 @@
-use Rattle.std.proofs.Common.{◌≡◌, ℕ, ◌≤◌, List, [], ◌++◌, take, Option, vec_len}
+use Rattle.std.proofs.Common.{◌≡◌, ℕ, ◌-◌, ◌≤◌, List, [], ◌++◌, length, take, Option, vec_len}
 use Rattle.serv_machine.specs.OnDisk.{OnDisk}
 use Rattle.serv_top.specs.Machine.{Stand, stand}
 use Rattle.serv_top.specs.Serving.{Served}
 use Rattle.serv_top.proofs.serving.Serving.feed_all.Given as goal
 
 -- the bytes so far are served
-abbrev pub invariant-loop-byte : goal.invariant-loop-byte
-invariant-loop-byte g l = record {
+abbrev pub invariant-loop-at : goal.invariant-loop-at
+invariant-loop-at g l = record {
+  within : l.at ≤ length l.bytes;
   served : (before : List ℕ) (s : Stand) (held : Option (List ℕ)) → Served l.fn.self.waiting before s (stand (g.M.Machine.history l.fn.machine) l.fn.steps) held (g.K.Sink.held l.fn.snk) l.fn.self.line.items l.fn.self.replies.items
-      → Served l.fn.self.waiting (before ++ take l.byte-index l.bytes) s (stand (g.M.Machine.history l.machine) l.steps) held (g.K.Sink.held l.snk) l.self.line.items l.self.replies.items;
+      → Served l.fn.self.waiting (before ++ take l.at l.bytes) s (stand (g.M.Machine.history l.machine) l.steps) held (g.K.Sink.held l.snk) l.self.line.items l.self.replies.items;
   disk : OnDisk g.D.Disk.images g.D.Disk.moment g.D.Disk.images_since l.fn.disk l.disk (g.M.Machine.history l.fn.machine).commands (g.M.Machine.history l.machine).commands [];
   ready : g.M.Machine.ready l.machine l.disk;
   waiting : l.self.waiting ≡ l.fn.self.waiting;
@@ -16,3 +17,6 @@ invariant-loop-byte g l = record {
   later : g.K.Sink.faults l.fn.snk ≤ g.K.Sink.faults l.snk;
   disk_later : g.D.Disk.faults l.fn.disk ≤ g.D.Disk.faults l.disk;
 }
+
+abbrev pub decreases-loop-at : goal.decreases-loop-at
+decreases-loop-at g l = length l.bytes - l.at

@@ -1,0 +1,40 @@
+use Rattle.std.proofs.Common.{◌≡◌, ◌+◌, ◌++◌, ◌∷◌, [], take, drop, refl, sym, ◌∙◌}
+use Rattle.serv_machine.proofs.OnDiskLemmas.{disk_none}
+use Rattle.serv_top.proofs.PlainLemmas.{plain_before, plain_all, line_before, part_rest}
+use Rattle.serv_top.proofs.ServedLemmas.{stops_more}
+use Rattle.serv_top.proofs.serving.Serving.feed_some.Goals as goal
+
+pub feed_line-requires-clause-plain : goal.feed_line-requires-clause-plain
+feed_line-requires-clause-plain g c = plain_before c.args.bytes.now c.in-Some.at (sym c.line_feed_in.ensures ∙ c.in-Some.is)
+
+pub feed_piece-requires : goal.feed_piece-requires
+feed_piece-requires g c = record { plain = plain_all c.args.bytes.now (sym c.line_feed_in.ensures ∙ c.in-None.is) }
+
+pub returns-in-Ok-clause-fed : goal.returns-in-Ok-clause-fed
+returns-in-Ok-clause-fed g c = λ before s held run.
+    rw (line_before c.args.bytes.now c.in-Some.at (sym c.line_feed_in.ensures ∙ c.in-Some.is)) (c.in-Ok.ensures.fed before s held run)
+
+pub returns-in-Err-clause-stopped : goal.returns-in-Err-clause-stopped
+returns-in-Err-clause-stopped g c = λ before s held run.
+    let bytes = c.args.bytes.now in
+    let n = c.in-Some.at + 1 in
+    let front = line_before bytes c.in-Some.at (sym c.line_feed_in.ensures ∙ c.in-Some.is) in
+    let stops = rw (sym front) at (c.in-Err.ensures.stopped before s held run) in
+    let none = disk_none g.D.Disk.images g.D.Disk.moment g.D.Disk.images_since c.args.disk.now _ _ refl
+    (g.met.M.Machine.keeps c.args.machine.now c.args.disk.now c.requires.ready) (g.met.D.Disk.only_now c.args.disk.now) in
+    rw (sym (part_rest before bytes n))
+    (stops_more g.D.Disk.images g.D.Disk.moment g.D.Disk.images_since c.args.disk.now c.args.disk.now c.feed_line.new.disk c.in-Err.stop _
+    (before ++ take n bytes) (drop n bytes) s _ _ _ held _ none stops)
+
+pub returns-in-Ok-feed_piece-clause-disk : goal.returns-in-Ok-feed_piece-clause-disk
+returns-in-Ok-feed_piece-clause-disk g c =
+    disk_none g.D.Disk.images g.D.Disk.moment g.D.Disk.images_since c.args.disk.now _ _ refl
+    (g.met.M.Machine.keeps c.args.machine.now c.args.disk.now c.requires.ready) (g.met.D.Disk.only_now c.args.disk.now)
+
+pub returns-in-Err-feed_piece-clause-stopped : goal.returns-in-Err-feed_piece-clause-stopped
+returns-in-Err-feed_piece-clause-stopped g c = λ before s held run. record {
+  pending = [];
+  stopped = rw c.in-Err-feed_piece.ensures.memory (c.in-Err-feed_piece.ensures.stopped before s _ held run c.requires.few);
+  disk = disk_none g.D.Disk.images g.D.Disk.moment g.D.Disk.images_since c.args.disk.now _ _ refl
+      (g.met.M.Machine.keeps c.args.machine.now c.args.disk.now c.requires.ready) (g.met.D.Disk.only_now c.args.disk.now);
+}
