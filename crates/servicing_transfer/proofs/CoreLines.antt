@@ -1,8 +1,8 @@
 -- What the core answers on a loan, and what its rows add up to, is what the statement says of it.
-use Rattle.std.proofs.Common.{◌≡◌, ℕ, zero, suc, add-one, ◌+◌, ◌<◌, ◌≤◌, List, [], ◌∷◌, ◌++◌, length, take, get_or, refl, sym, ap, subst, ◌∙◌, arith, true, Option, Some, None, IfSome}
-use Rattle.std.specs.Prelude.{map, is_some, ℤ, pos, neg_ℤ, ◌+ℤ◌, ◌-ℤ◌, ◌≤ℤ◌, FitsSigned}
-use Rattle.std.specs.Int.{w64, int_wrap}
-use Rattle.std.specs.List.{All, AllPairs}
+use Rattle.std.proofs.Common.{◌≡◌, ℕ, zero, suc, add-one, ◌+◌, ◌<◌, ◌≤◌, List, [], ◌∷◌, ◌++◌, length, take, get_or, refl, sym, ap, subst, ◌∙◌, arith, true, Option, Some}
+use Rattle.std.specs.Prelude.{map, is_some, ℤ, pos, neg_ℤ, ◌≤ℤ◌}
+use Rattle.std.specs.Int.{w64}
+use Rattle.std.specs.List.{AllPairs}
 use Rattle.std.proofs.lemmas.Int.{ints, int_wrap_fits}
 use Rattle.std.proofs.Math.Seq.{take-length}
 use Rattle.std.proofs.lemmas.List.{get_or-map}
@@ -11,15 +11,15 @@ use Rattle.custodial_book.specs.declared.part.Account.TheVariants.{P}
 use Rattle.custodial_book.specs.declared.part.Part.TheVariants.{Collected, Fee, PiAdvance, EscrowAdvance, Remitted, Residual}
 use Rattle.custodial_book.specs.declared.row.Totals.{Totals}
 use Rattle.custodial_book.specs.Rows.{total_of, cash_of, IsTotal}
-use Rattle.svc_world.specs.Held.{Held, find_loan, books_now}
+use Rattle.svc_world.specs.Held.{Held, find_loan}
 use Rattle.svc_world.specs.World.{World, Accepted, world}
 use Rattle.svc_world.specs.Worlds.{IsHeld}
-use Rattle.svc_world.specs.Custody.{totals_of, rows_in, held_for, advanced_for, custody_of, borrower_cash}
+use Rattle.svc_world.specs.Custody.{totals_of, rows_in, held_for, custody_of, borrower_cash}
 use Rattle.svc_world.specs.Judging.{IsHistory}
 use Rattle.svc_world.proofs.HistoryLemmas.{is_world}
 use Rattle.svc_world.proofs.CashLemmas.{cash_is_held}
 use Rattle.svc_world.proofs.RemittedLemmas.{totals_within}
-use Rattle.svc_world.proofs.LoanListLemmas.{rises, IsFound, all_found, numbers_of, found_all}
+use Rattle.svc_world.proofs.LoanListLemmas.{rises, all_found, numbers_of, found_all}
 use Rattle.servicing_transfer.specs.declared.row_sums.RowSums.{RowSums}
 use Rattle.servicing_transfer.specs.declared.statement_line.StatementLine.{StatementLine}
 use Rattle.servicing_transfer.specs.Numbers.{loans_of}

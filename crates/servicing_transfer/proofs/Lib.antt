@@ -16,4 +16,11 @@ pub mod NumberLemmas
 pub mod SumLemmas
 pub mod StatementLemmas
 pub mod LineTexts
+pub mod AmountLemmas
+pub mod LineWords
+pub mod FitsLemmas
 pub mod CoreLines
+pub mod DifferenceLemmas
+pub mod TextLines
+pub mod TotalLemmas
+pub mod ReadLemmas

@@ -1,14 +1,14 @@
 -- The numbers that a history boards are those of its loans; and its rows are those of its commands.
-use Rattle.std.proofs.Common.{◌≡◌, ℕ, zero, suc, ◌+◌, ◌≤◌, ◌<◌, Bool, true, false, cond, List, [], ◌∷◌, ◌++◌, map, length, arith, refl, sym, ap, ◌∙◌}
+use Rattle.std.proofs.Common.{◌≡◌, ℕ, suc, ◌+◌, true, false, List, [], ◌∷◌, refl, sym, ap, ◌∙◌}
 use Rattle.std.specs.Prelude.{nat_lt, fold, if◌then◌else◌}
 use Rattle.std.specs.List.{insert}
 use Rattle.svc_types.specs.declared.account.Act.TheVariants as act
 use Rattle.svc_types.specs.declared.requests.Command.{Command}
 use Rattle.svc_types.specs.declared.requests.Command.TheVariants as command
-use Rattle.svc_world.specs.Held.{Held, boarded, with_entry, with_reversal, on_day, with_bill, without_bill, with_type, with_loan, changed}
+use Rattle.svc_world.specs.Held.{Held, boarded, with_entry, with_reversal, on_day, with_bill, without_bill, with_type, with_loan}
 use Rattle.svc_world.specs.LoanDues.{type_change}
 use Rattle.svc_world.specs.World.{World, Accepted, entry, with_analysis, first_world, loans_after, after, world_from, world}
-use Rattle.svc_world.proofs.LoanListLemmas.{KeepsNumber, numbers_of, changed_numbers, mapped_numbers}
+use Rattle.svc_world.proofs.LoanListLemmas.{numbers_of, changed_numbers, mapped_numbers}
 use Rattle.servicing_transfer.specs.Numbers.{place_for, numbers_after, loans_of}
 
 insert_first : (n x : ℕ) (xs : List ℕ) → insert (x ∷ xs) 0 n ≡ n ∷ x ∷ xs

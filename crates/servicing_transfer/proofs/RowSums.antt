@@ -1,5 +1,5 @@
 -- What the rows of a loan add up to: the totals of the loan after the history.
-use Rattle.std.proofs.Common.{◌≡◌, ℕ, suc, ◌+◌, ◌<◌, Bool, true, false, cond, List, [], ◌∷◌, ◌++◌, arith, refl, sym, ap, subst, ◌∙◌, get_or}
+use Rattle.std.proofs.Common.{◌≡◌, ℕ, ◌+◌, ◌<◌, true, false, cond, List, [], ◌∷◌, ◌++◌, arith, refl, sym, ap, ◌∙◌, get_or}
 use Rattle.std.specs.Prelude.{◌==◌, nat_lt, ℤ, pos, ◌+ℤ◌, ◌-ℤ◌, Option, Some, None, if◌then◌else◌}
 use Rattle.std.specs.List.{All, AllPairs, filter_map}
 use Rattle.std.specs.Option.{option_map_or}
@@ -19,7 +19,7 @@ use Rattle.custodial_book.specs.declared.row.Row.{Row}
 use Rattle.custodial_book.specs.declared.row.Totals.{Totals}
 use Rattle.custodial_book.specs.Parts.{parts}
 use Rattle.custodial_book.specs.Rows.{total_of, row_of, rows_of, cash_of}
-use Rattle.svc_world.specs.Held.{Held, find_loan, boarded, with_entry, with_reversal, on_day, with_bill, without_bill, with_type, with_loan, changed}
+use Rattle.svc_world.specs.Held.{Held, find_loan, boarded, with_entry, with_reversal, on_day, with_bill, without_bill, with_type, changed}
 use Rattle.svc_world.specs.LoanDues.{type_change}
 use Rattle.svc_world.specs.World.{World, Accepted, entry, with_analysis, first_world, loans_after, after, world_from, world}
 use Rattle.svc_world.specs.Refusals.{refusal_of}

@@ -1,14 +1,11 @@
 -- What the statement is made of: the answers that it asks for, and each loan's sums.
-use Rattle.std.proofs.Common.{◌≡◌, ℕ, zero, suc, add-one, ◌+◌, ◌≤◌, ◌<◌, Bool, true, false, cond, List, [], ◌∷◌, ◌++◌, length, take, drop, get_or, arith, refl, sym, ap, subst, ◌∙◌, append_assoc}
-use Rattle.std.specs.Prelude.{◌==◌, ◌||◌, nat_lt, is_some, Option, Some, None, IfSome, OnOk, Result, Ok, Err, ℤ, pos, ◌+ℤ◌, if◌then◌else◌}
-use Rattle.std.specs.Int.{w64, int_wrap}
-use Rattle.std.specs.List.{All, find}
+use Rattle.std.proofs.Common.{◌≡◌, ℕ, zero, suc, add-one, ◌+◌, ◌≤◌, ◌<◌, true, false, List, [], ◌∷◌, length, take, get_or, arith, refl, sym, ap, subst, ◌∙◌}
+use Rattle.std.specs.Prelude.{◌==◌, ◌||◌, nat_lt, is_some, Option, Some, None, pos, if◌then◌else◌}
+use Rattle.std.specs.List.{find}
 use Rattle.std.specs.Option.{option_map, option_map_or}
-use Rattle.std.proofs.lemmas.Int.{ints, int_wrap_fits}
 use Rattle.std.proofs.lemmas.Bool.Decides.{nat_tests}
 use Rattle.svc_types.specs.declared.replies.Refusal.{Refusal}
 use Rattle.svc_types.specs.declared.replies.Refusal.TheVariants as why_is
-use Rattle.svc_types.specs.declared.requests.Query.{Query}
 use Rattle.svc_types.specs.declared.requests.Query.TheVariants as query
 use Rattle.custodial_book.specs.declared.row.Row.{Row}
 use Rattle.custodial_book.specs.Rows.{rows_of_command}

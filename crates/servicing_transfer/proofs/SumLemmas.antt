@@ -1,5 +1,5 @@
 -- What is kept of the rows of a loan, row by row and command by command.
-use Rattle.std.proofs.Common.{◌≡◌, ℕ, zero, suc, ◌+◌, ◌≤◌, ◌<◌, Bool, true, false, cond, List, [], ◌∷◌, ◌++◌, length, get_or, arith, refl, sym, ap, subst, ◌∙◌, ◌⊎◌, inl, inr, to_z, of_z}
+use Rattle.std.proofs.Common.{◌≡◌, ℕ, ◌+◌, ◌≤◌, ◌<◌, Bool, true, false, cond, List, [], ◌∷◌, length, get_or, arith, refl, sym, ap, subst, ◌∙◌, ◌⊎◌, inl, inr, to_z, of_z}
 use Rattle.std.specs.Prelude.{◌==◌, nat_le, nat_eq, Option, None, Some, ℤ, pos, ◌+ℤ◌, ◌-ℤ◌, neg_ℤ, FitsSigned, if◌then◌else◌}
 use Rattle.std.specs.Int.{w64, int_wrap, int_wrapping_add, int_wrapping_sub}
 use Rattle.std.specs.List.{All, filter, filter_map}

@@ -38,9 +38,9 @@ same_month (Some m) (Some n) = m == n
 -- the same is stated of a loan
 unfoldable pub same_line : StatementLine → StatementLine → Bool
 same_line r s =
-    r.loan == s.loan && int_eq r.upb s.upb && same_month r.next s.next && int_eq r.escrow s.escrow
-    && int_eq r.suspense s.suspense && int_eq r.late s.late && int_eq r.escrow_advance s.escrow_advance
-    && int_eq r.held s.held && int_eq r.pi_advance s.pi_advance
+    (r.loan == s.loan) && (int_eq r.upb s.upb && (same_month r.next s.next && (int_eq r.escrow s.escrow
+    && (int_eq r.suspense s.suspense && (int_eq r.late s.late && (int_eq r.escrow_advance s.escrow_advance
+    && (int_eq r.held s.held && int_eq r.pi_advance s.pi_advance)))))))
 
 abbrev pub word_of_same : Bool → List ℕ
 word_of_same true = codes "same"

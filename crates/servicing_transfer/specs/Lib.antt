@@ -9,3 +9,6 @@ pub mod Stated
 pub mod Confirmations
 pub mod StatementAnswers
 pub mod Numbers
+pub mod LoanWords
+pub mod StatementReading
+pub mod Differences

@@ -1,5 +1,5 @@
 -- What a text says that is a statement, and where a text that is none goes wrong.
-use Rattle.std.specs.Prelude.{◌≡◌, ℕ, ◌+◌, ◌*◌, ◌^◌, ◌<◌, ◌≤◌, ◌==◌, if◌then◌else◌, List, [], ◌∷◌, map, length, take, drop, slice_get, ℤ, pos, neg_ℤ, ◌≤ℤ◌, ◌<ℤ◌, Option, Some, None, IfSome, ⊤}
+use Rattle.std.specs.Prelude.{◌≡◌, ℕ, ◌+◌, ◌^◌, ◌<◌, ◌≤◌, ◌==◌, if◌then◌else◌, List, [], ◌∷◌, map, length, take, drop, slice_get, ℤ, pos, neg_ℤ, ◌≤ℤ◌, ◌<ℤ◌, Some, None, IfSome, ⊤}
 use Rattle.std.specs.List.{All, AllPairs, onto_first}
 use Rattle.svc_base.specs.Calendar.{year_of_month, IsReadDay}
 use Rattle.serv_line.specs.LineFaults.{IsFirstMisfit}

@@ -2,18 +2,23 @@
 //! those that stay.
 #![tactic(auto)]
 
+mod amounts;
 mod confirm_fault;
+mod confirming;
 mod keeping;
 mod laws;
+mod loan_line;
 mod loan_numbers;
 mod loan_set;
 mod places;
+mod reading;
 mod row_sums;
 mod splitting;
 mod statement_line;
 mod stating;
 
 pub use confirm_fault::ConfirmFault;
+pub use confirming::confirm;
 pub use laws::{histories_split, parts_are_kept};
 pub use splitting::{Halves, split};
 pub use stating::statement;

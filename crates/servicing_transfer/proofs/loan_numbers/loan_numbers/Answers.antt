@@ -1,4 +1,4 @@
-use Rattle.std.proofs.Common.{◌≡◌, ◌+◌, sym, ap, ◌∙◌}
+use Rattle.std.proofs.Common.{◌+◌, sym, ap, ◌∙◌}
 use Rattle.svc_world.specs.Judging.{nth_accepted}
 use Rattle.servicing_transfer.specs.Numbers.{numbers_with}
 use Rattle.servicing_transfer.proofs.PassLemmas.{numbers_more}

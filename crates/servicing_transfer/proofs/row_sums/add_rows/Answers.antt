@@ -1,4 +1,4 @@
-use Rattle.std.proofs.Common.{◌≡◌, sym, ap, ◌∙◌, get_or}
+use Rattle.std.proofs.Common.{sym, ap, ◌∙◌, get_or}
 use Rattle.std.specs.Prelude.{nat_eq}
 use Rattle.std.specs.HashMap.{get}
 use Rattle.servicing_transfer.specs.RowSums.{with_own, or_none}

@@ -1,4 +1,4 @@
-use Rattle.std.proofs.Common.{◌∙◌, ap, sym}
+use Rattle.std.proofs.Common.{◌∙◌, ap}
 use Rattle.std.specs.Prelude.{◌+ℤ◌}
 use Rattle.servicing_transfer.specs.RowSums.{kept, held_by}
 use Rattle.servicing_transfer.proofs.SumLemmas.{added, taken, left_as, held_in, held_out, no_held}

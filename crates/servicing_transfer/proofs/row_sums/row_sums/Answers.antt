@@ -1,4 +1,4 @@
-use Rattle.std.proofs.Common.{◌≡◌, ◌≤◌, ◌+◌, arith, sym, ap, ◌∙◌, length}
+use Rattle.std.proofs.Common.{arith, ap, ◌∙◌}
 use Rattle.std.specs.List.{filter}
 use Rattle.svc_world.specs.Custody.{rows_in}
 use Rattle.servicing_transfer.specs.RowSums.{with_rows, or_none, kept_sums}

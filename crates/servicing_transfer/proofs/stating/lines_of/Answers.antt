@@ -1,4 +1,4 @@
-use Rattle.std.proofs.Common.{◌≡◌, ◌≤◌, ◌<◌, arith, length, sym, ap, ◌∙◌, get_or}
+use Rattle.std.proofs.Common.{arith, length, ap, ◌∙◌, get_or}
 use Rattle.svc_world.specs.World.{world}
 use Rattle.servicing_transfer.specs.StatementTexts.{line_for}
 use Rattle.servicing_transfer.proofs.CoreLines.{next_line, is_there, as_many, all_of}

@@ -1,5 +1,5 @@
 use Rattle.std.specs.Vec.{vec_len}
-use Rattle.std.proofs.Common.{to_z, of_z, rules, ◌≡◌, ◌≤◌, ◌++◌, arith, length, sym, ap, ◌∙◌}
+use Rattle.std.proofs.Common.{to_z, of_z, rules, ◌≡◌, ◌++◌, arith, length, sym, ap, ◌∙◌}
 use Rattle.std.specs.Int.{w64, w128}
 use Rattle.std.specs.Prelude.{map, FitsSigned}
 use Rattle.std.proofs.lemmas.Int.{to_z-of_z}
@@ -7,7 +7,7 @@ use Rattle.std.specs.List.{flat_map}
 use Rattle.serv_line.specs.Replies.{ended}
 use Rattle.svc_world.specs.declared.custody.Custody.{Custody}
 use Rattle.svc_world.specs.World.{world}
-use Rattle.servicing_transfer.specs.StatementTexts.{heading_line, loan_line, total_line, stated_loans}
+use Rattle.servicing_transfer.specs.StatementTexts.{heading_line, loan_line, total_line}
 use Rattle.servicing_transfer.proofs.CoreLines.{few_loans, t_is, p_is}
 use Rattle.servicing_transfer.proofs.LineTexts.{statement_text, as_passed}
 use Rattle.servicing_transfer.proofs.stating.statement.Goals as goal
