@@ -3,7 +3,7 @@
 ghost use Rattle.std.specs.Prelude.{◌≡◌, ◌<◌};
 ghost use Rattle.svc_types.specs.Requests.{IsRequest};
 
-use crate::{BankItem, items, recon_text};
+use crate::{BankItem, Statement, items, recon_text, reconcile};
 use custodial_book::Account;
 use serv_line::read_line;
 use std::alloc::Global;
@@ -277,4 +277,32 @@ fn lists_are_read(rt: HostRuntime) -> Result<(), Fail> {
     ];
     assert_eq!(rt; said.bank.as_slice(), bank.as_slice());
     Ok(())
+}
+
+/// Three of four items stay open, and of two lines one is not booked.
+fn reconcile_over<L: Ledger>(rt: &impl Abort, alloc: Global, blank: Blank) -> Result<(), Fail>
+    requires name { blank.name ≡ L.name }
+    requires parts { blank.parts ≡ L.parts }
+    requires some { 0 < L.parts }
+{
+    let mut steps = Steps::<L>::new(blank);
+    let mut core = Core::<Checked>::new(alloc)?;
+    submit_all(rt, &mut core, FIRST_PAYMENT.as_bytes(), &mut steps);
+    let mut bank = Vec::new(alloc);
+    bank.push(item(Account::T, 3, 119_910))?;
+    bank.push(item(Account::T, 9, 500))?;
+    let carried = Vec::new(alloc);
+    let input = Statement { carried, bank };
+    let recon = reconcile(alloc, &core, 1, 3, &input, &mut steps)?;
+    let matched = [item(Account::T, 3, 119_910)];
+    assert_eq!(rt; recon.matched.as_slice(), matched.as_slice());
+    assert_eq!(rt; recon.outstanding.len(), 3);
+    assert_eq!(rt; recon.unbooked.len(), 1);
+    Ok(())
+}
+
+/// What is found is told as lists, too.
+#[test]
+fn lists_are_told(rt: HostRuntime) -> Result<(), Fail> {
+    reconcile_over::<Brand>(&rt, rt.alloc(), Blank::new(1))
 }
