@@ -34,8 +34,8 @@ fn states_over<L: Ledger>(
 }
 
 /// The same, with steps that are counted from 0.
-fn states(rt: &impl Abort, alloc: Global, history: &[u8], text: &[u8]) -> Result<(), Fail> {
-    states_over::<Brand>(rt, alloc, Blank::new(1), history, text)
+fn states(rt: &impl Abort, alloc: Global, history: &[u8], text: &str) -> Result<(), Fail> {
+    states_over::<Brand>(rt, alloc, Blank::new(1), history, text.as_bytes())
 }
 
 const STATED: &str = "statement 2024-06-15 loans 2\n\
@@ -51,13 +51,13 @@ const STATED_2: &str = "statement 2024-06-15 loans 1\n\
 
 #[test]
 fn statements_say_what_is_held(rt: HostRuntime) -> Result<(), Fail> {
-    states(&rt, rt.alloc(), TWO_LOANS, STATED.as_bytes())?;
-    states(&rt, rt.alloc(), OF_LOAN_2, STATED_2.as_bytes())?;
+    states(&rt, rt.alloc(), TWO_LOANS, STATED)?;
+    states(&rt, rt.alloc(), OF_LOAN_2, STATED_2)?;
     states(
         &rt,
         rt.alloc(),
         b"",
-        b"statement 1990-01-01 loans 0\ntotal T 0.00 P 0.00\nend\n",
+        "statement 1990-01-01 loans 0\ntotal T 0.00 P 0.00\nend\n",
     )
 }
 
