@@ -51,7 +51,11 @@ fn loans_are_stated(rt: HostRuntime) -> Result<(), Fail> {
 fn statements_are_confirmed(rt: HostRuntime) -> Result<(), Fail> {
     let there: [Text; 3] = [
         (&["j", "confirm"], OF_LOAN_2, "day same\nsame 2\nend\n"),
-        (&["j", "confirm"], "statement 2024-06-15 loans 1\n", "bad 2\n"),
+        (
+            &["j", "confirm"],
+            "statement 2024-06-15 loans 1\n",
+            "bad 2\n",
+        ),
         (&["j", "confirm"], "", "bad 1\n"),
     ];
     check(&rt, LOAN_2, &there)?;
