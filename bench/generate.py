@@ -12,7 +12,7 @@ def month_text(month):
 
 def year(loans, months, seed):
     """Commands of so many loans over so many months from December 2023: boarding, then each month its business day,
-    the close and the remitting of the month before, late payments of it, and a payment of seven loans in ten."""
+    the close and the remitting of the month before, late payments of it, and a payment of nine loans in ten."""
     draws, count = random.Random(seed), 0
 
     def line(text):
