@@ -14,7 +14,10 @@ use Rattle.custodial_book.specs.declared.part.Part.{Part}
 use Rattle.std.proofs.lemmas.List.Sorted.{IsNonDecreasingBy-push}
 use Rattle.custodial_book.specs.declared.row.Row.{Row}
 use Rattle.custodial_book.specs.Parts.{parts, paid_from, paid_to, is_account}
-use Rattle.custodial_book.specs.Rows.{cents_of, balance_of, moved, rows_of_command, IsBefore, ComesNext}
+use Rattle.custodial_book.specs.declared.row.Totals.{Totals}
+use Rattle.custodial_book.specs.Rows.{total_of, row_of, rows_of, cents_of, balance_of, moved, rows_of_command, IsBefore, ComesNext}
+use Rattle.std.specs.Ordering.{int_eq}
+use Rattle.std.proofs.lemmas.Bool.Decides.{Decides-int_eq}
 
 pub balance_none : (account : Account) → balance_of account [] ≡ pos 0
 unfolding balance_of
@@ -121,3 +124,19 @@ same_at (x ∷ xs) (suc i) d e h = same_at xs i d e (omega arith)
 
 pub part_at : (i : ℕ) (d : Part) → i < length parts → get_or parts i (get_or parts i d) ≡ get_or parts i d
 part_at i d h = same_at parts i d (get_or parts i d) h
+
+-- ---- totals that did not change
+
+no_row : (number loan : ℕ) (t : Totals) (part : Part) → row_of number loan t t part ≡ None
+unfolding row_of
+no_row number loan t part =
+    let nothing : total_of t part -ℤ total_of t part ≡ pos 0 = omega (arith, ints) in
+    let is : int_eq (total_of t part -ℤ total_of t part) (pos 0) ≡ true = (Decides-int_eq (total_of t part -ℤ total_of t part) (pos 0)).1 nothing in
+    rw is refl
+
+no_rows_among : (number loan : ℕ) (t : Totals) (ps : List Part) → filter_map (row_of number loan t t) ps ≡ []
+no_rows_among number loan t [] = refl
+no_rows_among number loan t (p ∷ ps) = rw (no_row number loan t p) (no_rows_among number loan t ps)
+
+pub no_rows : (number loan : ℕ) (before after : Totals) → before ≡ after → rows_of number loan before after ≡ []
+no_rows number loan before after same = rw same (no_rows_among number loan after parts)

@@ -1,6 +1,6 @@
 //! The book of custodial rows.
 
-ghost use Rattle.std.specs.Prelude.{◌≡◌, ◌+◌, ◌/◌, ◌<◌, ◌≤◌, max, ◌+ℤ◌, ◌-ℤ◌, pos, neg_ℤ, map, [], ◌∷◌, ◌++◌, length, vec_len, vec_capacity, OnOk, OnErr, IsOk, IfSome};
+ghost use Rattle.std.specs.Prelude.{IsTrue, ◌≡◌, ◌+◌, ◌/◌, ◌<◌, ◌≤◌, max, ◌+ℤ◌, ◌-ℤ◌, pos, neg_ℤ, map, [], ◌∷◌, ◌++◌, length, vec_len, vec_capacity, OnOk, OnErr, IsOk, IfSome};
 ghost use Rattle.std.specs.List.Sorted.{IsNonDecreasingBy};
 ghost use Rattle.custodial_book.specs.declared.part.Account.{Account as AnyAccount};
 ghost use Rattle.custodial_book.specs.Rows.{balance_of, balance_with, cash_of, row_of, rows_of, rows_of_command, AreTotals, IsBalance, IsChange, IsRunning, ComesNext, cents_by_part};
@@ -12,7 +12,7 @@ use crate::part::{Account, Part};
 use crate::row::{Row, Totals};
 use std::alloc::Global;
 use std::marker::Model;
-use svc_base::{Cents, OutOfMemory};
+use svc_base::{Cents, OutOfMemory, make_room};
 
 /// The rows of all commands in their order, and the balances that they leave. Its value in
 /// contracts is the list of the rows, and for how many more there is room.
@@ -58,7 +58,7 @@ impl Book {
         ensures succeeds { rows ≤ self.old.spare → IsOk result }
         ensures growth { self.new.spare ≤ max self.old.spare (max rows (length self.old.rows / 8)) }
     {
-        make_room(&mut self.entries, rows as usize)
+        make_room(&mut self.entries, rows as usize, 0)
     }
 
     /// Adds the rows of a command for a loan: what each of its totals changed by, in the order of
@@ -84,7 +84,7 @@ impl Book {
         ensures spare { self.old.spare + length self.old.rows ≤ self.new.spare + length self.new.rows }
         ensures growth { self.new.spare ≤ max self.old.spare (max 11 (length self.old.rows / 8)) }
     {
-        make_room(&mut self.entries, Part::ALL.len())?;
+        make_room(&mut self.entries, Part::ALL.len(), 0)?;
         add_changes(
             &mut self.entries,
             &mut self.t,
@@ -146,23 +146,6 @@ pub fn worked_rows()
     ensures cash_covered { cash_of Account.T disbursed_beyond ≡ pos 0 }
 {}
 
-/// Makes room for so many rows in steps of an eighth of those that are there.
-fn make_room(entries: &mut Vec<Row>, rows: usize) -> Result<(), OutOfMemory>
-    ensures items { entries.new.items ≡ entries.old.items }
-    ensures len { vec_len entries.new ≡ vec_len entries.old }
-    ensures ok { OnOk result (vec_len entries.old + rows ≤ vec_capacity entries.new) }
-    ensures never_less { vec_capacity entries.old ≤ vec_capacity entries.new }
-    ensures succeeds { vec_len entries.old + rows ≤ vec_capacity entries.old → IsOk result }
-    ensures growth { vec_capacity entries.new
-        ≤ max (vec_capacity entries.old) (vec_len entries.old + max rows (vec_len entries.old / 8)) }
-{
-    let len = entries.len();
-    if entries.capacity() - len < rows {
-        entries.reserve_exact(rows.max(len / 8))?;
-    }
-    Ok(())
-}
-
 /// Adds a row for each total that changed, and what it moves to the balances t and p.
 fn add_changes(
     entries: &mut Vec<Row>,
@@ -184,11 +167,21 @@ fn add_changes(
     ensures t_is { t.new ≡ balance_of Account.T entries.new.items }
     ensures p_is { p.new ≡ balance_of Account.P entries.new.items }
 {
+    if are_same(before, after) {
+        return;
+    }
     for part in Part::ALL {
         if let Some(row) = change(number, loan, part, before, after) {
             add_row(entries, t, p, row);
         }
     }
+}
+
+/// Whether no total changed.
+fn are_same(before: &Totals, after: &Totals) -> bool
+    ensures { IsTrue result → before.now ≡ after.now }
+{
+    before == after
 }
 
 /// The row of that part, where its total changed.

@@ -11,7 +11,7 @@ use crate::loan_sums::{LoanSums, add, has_sums, sums_of};
 use std::alloc::Global;
 use std::marker::Model;
 use std::mem;
-use svc_base::OutOfMemory;
+use svc_base::{OutOfMemory, make_room};
 
 /// The adjustments that no report has sent, with the running sums of each loan. Its value in
 /// contracts is the list of the adjustments, and for how many more there is room.
@@ -76,8 +76,8 @@ impl Pending {
         ensures never_less { self.old.room ≤ self.new.room }
         ensures succeeds { count ≤ self.old.room → IsOk result }
     {
-        self.adjustments.reserve(count)?;
-        self.sums.reserve(count)?;
+        make_room(&mut self.adjustments, count, 0)?;
+        make_room(&mut self.sums, count, 0)?;
         Ok(())
     }
 

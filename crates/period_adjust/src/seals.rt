@@ -25,7 +25,7 @@ use remit_types::MonthDue;
 use std::alloc::Global;
 use std::marker::Model;
 use std::mem;
-use svc_base::{Day, Month, OutOfMemory, last_day};
+use svc_base::{Day, Month, OutOfMemory, last_day, make_room};
 
 /// All reports, in the order in which their months were closed, and the adjustments that come with
 /// the next one.
@@ -139,8 +139,8 @@ impl Seals {
         ensures succeeds { 1 ≤ self.old.report_room → lines ≤ self.old.line_room →
             adjustments ≤ self.old.adjustment_room → IsOk result }
     {
-        self.reports.reserve(1)?;
-        self.lines.reserve(lines as usize)?;
+        make_room(&mut self.reports, 1, 0)?;
+        make_room(&mut self.lines, lines as usize, 0)?;
         self.pending.reserve(adjustments as usize)?;
         Ok(())
     }

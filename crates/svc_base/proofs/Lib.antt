@@ -1,4 +1,5 @@
 pub mod CalendarLemmas
+pub mod DigitLemmas
 pub mod MoneyLemmas
 pub mod CentsRules
 pub mod TextLemmas

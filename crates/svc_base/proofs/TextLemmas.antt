@@ -1,13 +1,11 @@
 -- Spellings: what they look like, and that no two values share one.
 use Rattle.std.proofs.Common.{◌≡◌, ◌≢◌, ℕ, ◌+◌, ◌^◌, ◌<◌, ◌≤◌, List, [], ◌∷◌, ◌++◌, length, get_or, arith, sym, subst, ap, ◌∙◌, refl, Option, Some, None, zero, suc, lit<, ◌⊎◌, inl, inr, SomeIff, IfSome, IfNone, IsTrue, true, false, take, drop, length-append, ℤ, pos, negsuc, ◌≤ℤ◌, ◌<ℤ◌, ◌==◌, ◌-◌, ◌/◌, ◌%◌, ◌*◌}
-use Rattle.std.proofs.lemmas.Fmt.{decimal_is_IsNumeral, first_decimal, IsAscii-from_digits, decimal-digits_value, decimal_injective, decimal_digit, decimal_by_steps}
+use Rattle.std.proofs.lemmas.Fmt.{decimal_is_IsNumeral, first_decimal, decimal-digits_value, decimal_injective, decimal_digit, decimal_by_steps}
 use Rattle.std.proofs.lemmas.Int.{ints}
 use Rattle.std.proofs.lemmas.List.Elements.{All-cons, All-nil, All-append}
 use Rattle.std.specs.List.{All}
 use Rattle.std.proofs.lemmas.Str.Parse.{numerals_by_value, tells_digits, digit_at}
-use Rattle.std.proofs.lemmas.Str.{IsUtf8-from_ascii}
 use Rattle.std.specs.Str.Parse.{IsNumeral, digits_value, AllDigits}
-use Rattle.std.specs.Str.{IsUtf8}
 use Rattle.std.specs.Fmt.{decimal}
 use Rattle.std.proofs.Math.Seq.{take-append_seam, drop-append_seam}
 use Rattle.svc_base.specs.Text.{text_of_number, text_of_signed, two_digits, four_digits, text_of_cents, text_of_amount, text_of_month, text_of_day, IsReadAmount, IsReadMonth, IsCivilMonth, IsCivilDay, IsOtherYear}
@@ -17,10 +15,6 @@ use Rattle.svc_base.specs.DayLemmas.{month_length_most}
 -- what digits write, where no zero leads
 pub numeral_spelled : (ds : List ℕ) → IsNumeral 10 ds → (get_or ds 0 0 ≡ 48 → length ds ≡ 1) → digits_value 10 ds < 2 ^ 64 → ds ≡ decimal (digits_value 10 ds)
 numeral_spelled ds h lead small = sym (decimal-digits_value (numerals_by_value (AllDigits 10) tells_digits) ds h.1 h.0 lead small)
-
--- digits are a text
-pub numeral_utf8 : (ds : List ℕ) → IsNumeral 10 ds → IsUtf8 ds
-numeral_utf8 ds h = IsUtf8-from_ascii ds (IsAscii-from_digits ds h.1)
 
 -- a spelled number is digits that write it
 spelled_numeral : (n : ℕ) (ds : List ℕ) → n < 2 ^ 64 → ds ≡ decimal n → IsNumeral 10 ds × (digits_value 10 ds ≡ n)

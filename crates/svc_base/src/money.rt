@@ -18,7 +18,7 @@ pub fn month_interest(upb: Cents, rate: Rate) -> Cents
     ensures low { pos 0 ≤ℤ result }
     ensures high { result ≤ℤ pos 208_333_333 }
 {
-    half_up(upb as u128 * u128::from(rate), 1_200_000)
+    half_up(upb as u64 * u64::from(rate), 1_200_000)
 }
 
 /// The interest of some days of a year of 360, in cents, half a cent rounded up.
@@ -31,7 +31,7 @@ pub fn day_interest(upb: Cents, rate: Rate, days: u32) -> Cents
     ensures low { pos 0 ≤ℤ result }
     ensures high { result ≤ℤ pos 416_666_666_667 }
 {
-    half_up(
+    wide_half_up(
         upb as u128 * u128::from(rate) * u128::from(days),
         36_000_000,
     )
@@ -46,16 +46,26 @@ pub fn share_bp(cents: Cents, bp: u32) -> Cents
     ensures low { pos 0 ≤ℤ result }
     ensures high { result ≤ℤ pos 10_000_000_000 }
 {
-    half_up(cents as u128 * u128::from(bp), 10_000)
+    half_up(cents as u64 * u64::from(bp), 10_000)
 }
 
 /// `a / b` rounded to the nearest whole number, a half upwards.
-fn half_up(a: u128, b: u128) -> Cents
+fn half_up(a: u64, b: u64) -> Cents
     requires positive { 0 < b }
     requires divisor { b < 2 ^ 62 }
-    requires dividend { a < 2 ^ 65 }
-    requires fits { a < 2 ^ 62 * b }
+    requires dividend { a < 2 ^ 62 }
     ensures { result ≡ pos (money.half_up a b) }
 {
     ((2 * a + b) / (2 * b)) as Cents
+}
+
+/// The same of a wider dividend, which takes a division of 128 bits.
+fn wide_half_up(part: u128, whole: u128) -> Cents
+    requires positive { 0 < whole }
+    requires divisor { whole < 2 ^ 62 }
+    requires dividend { part < 2 ^ 65 }
+    requires fits { part < 2 ^ 62 * whole }
+    ensures { result ≡ pos (money.half_up part whole) }
+{
+    ((2 * part + whole) / (2 * whole)) as Cents
 }

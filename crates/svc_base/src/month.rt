@@ -8,7 +8,7 @@ use std::marker::Model;
 /// A month of a year: its value in contracts is the count of months since January of the year 0.
 #[derive(Clone, Copy, Debug, PartialEq, Eq, PartialOrd, Ord, Hash)]
 pub struct Month {
-    number: u32,
+    number: u16,
 }
 
 impl Model for Month {
@@ -34,7 +34,7 @@ impl Month {
         ensures { result ≡ 12 * year + (month - 1) }
     {
         Month {
-            number: 12 * year + (month - 1),
+            number: (12 * year + (month - 1)) as u16,
         }
     }
 
@@ -42,14 +42,14 @@ impl Month {
     pub fn year(&self) -> u32
         ensures { result ≡ year_of_month self.now }
     {
-        self.number / 12
+        u32::from(self.number) / 12
     }
 
     /// Its number in the year, from 1.
     pub fn month(&self) -> u32
         ensures { result ≡ number_in_year self.now }
     {
-        self.number % 12 + 1
+        u32::from(self.number) % 12 + 1
     }
 
     /// The count of months since January of the year 0.
@@ -58,7 +58,7 @@ impl Month {
         ensures begin { months_begin ≤ self.now }
         ensures end { self.now < months_end }
     {
-        self.number
+        u32::from(self.number)
     }
 
     /// The month that many months later.
@@ -67,7 +67,7 @@ impl Month {
         ensures { result ≡ self.now + n }
     {
         Month {
-            number: self.number + n,
+            number: (u32::from(self.number) + n) as u16,
         }
     }
 

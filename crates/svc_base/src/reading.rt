@@ -4,6 +4,7 @@
 ghost use Rattle.std.specs.Prelude.{◌≡◌, ◌≢◌, ℕ, ◌+◌, ◌*◌, ◌<◌, ◌≤◌, ◌^◌, ◌∷◌, ◌++◌, [], List, ◌↔◌, ◌⊎◌, ℤ};
 ghost use Rattle.std.specs.Prelude.{IfSome, IfNone, IfOk, IfErr, OnErr, IsTrue, SomeIff, slice_index, length};
 ghost use Rattle.std.specs.Str.Parse.{IsNumeral, digits_value};
+ghost use Rattle.std.specs.Char.{digit_value};
 ghost use Rattle.svc_base.specs.Calendar.{month_length, IsReadDay};
 ghost use Rattle.svc_base.specs.Text.{text_of_number, text_of_amount, text_of_month, text_of_day};
 ghost use Rattle.svc_base.specs.Text.{two_digits, four_digits, text_of_cents, IsReadAmount, IsCivilMonth};
@@ -29,19 +30,33 @@ fn begins_plain(text: &[u8]) -> bool
     }
 }
 
+/// A number with one more decimal digit, where that is one and the number stays below 2^64.
+fn with_digit(number: u64, byte: u8) -> Option<u64>
+    ensures { SomeIff result ((digit_value byte < 10) × (number * 10 + digit_value byte < 2 ^ 64))
+        (number * 10 + digit_value byte) }
+{
+    let digit = char::from(byte).to_digit(10)?;
+    number.checked_mul(10)?.checked_add(u64::from(digit))
+}
+
 /// The number below 2^64 that decimal digits write.
-#[tactic(auto, using(crate::proofs::TextLemmas::numeral_utf8))]
 fn parse_digits(text: &[u8]) -> Option<u64>
-    requires { slice_index text.now 0 ≢ 43 }
     ensures { SomeIff result (IsNumeral 10 text.now × (digits_value 10 text.now < 2 ^ 64))
         (digits_value 10 text.now) }
 {
-    std::str::from_utf8(text).ok()?.parse().ok()
+    if text.is_empty() {
+        return None;
+    }
+    let mut number = 0;
+    for byte in text {
+        number = with_digit(number, *byte)?;
+    }
+    Some(number)
 }
 
 /// The number below 2^64 that a text spells in decimal digits without a leading zero.
 #[tactic(auto, using(crate::proofs::TextLemmas::reading))]
-fn read_digits(text: &[u8]) -> Option<u64>
+pub fn read_digits(text: &[u8]) -> Option<u64>
     ensures read { IfSome result (λ n. text.now ≡ text_of_number n) }
     ensures none { IfNone result ((n : ℕ) → n < 2 ^ 64 → text.now ≢ text_of_number n) }
 {
@@ -72,7 +87,7 @@ fn read_pair(tens: u8, ones: u8) -> Option<u32>
 }
 
 /// What stands before a mark and two digits at a text's end, and the number that they spell.
-fn split_pair(text: &[u8], mark: u8) -> Option<(&[u8], u32)>
+pub fn split_pair(text: &[u8], mark: u8) -> Option<(&[u8], u32)>
     ensures read { IfSome result (λ p. (p.1 < 100) × (text.now ≡ p.0.now ++ (mark ∷ two_digits p.1))) }
     ensures none { IfNone result ((whole : List ℕ) (n : ℕ) → n < 100 →
         text.now ≢ whole ++ (mark ∷ two_digits n)) }
@@ -123,7 +138,7 @@ fn read_year(text: &[u8]) -> Option<u32>
 }
 
 /// The month of a year of four digits that a text spells, as a count of months.
-fn read_civil_month(text: &[u8]) -> Option<u32>
+pub fn read_civil_month(text: &[u8]) -> Option<u32>
     ensures read { IfSome result (λ m. IsCivilMonth m × (text.now ≡ text_of_month m)) }
     ensures none { IfNone result ((m : ℕ) → IsCivilMonth m → text.now ≢ text_of_month m) }
 {

@@ -2,8 +2,8 @@
 
 use crate::{
     Cents, Day, DayFault, Month, add_days, add_months, day_interest, days360, first_day, last_day,
-    month_interest, month_of, push_signed, read_amount, read_day, read_month, read_number,
-    share_bp, write_day, write_month,
+    make_room, month_interest, month_of, push_signed, read_amount, read_civil_month, read_day,
+    read_digits, read_month, read_number, share_bp, split_pair, write_day, write_month,
 };
 use std::test::Fail;
 
@@ -30,6 +30,77 @@ fn numbers_have_one_spelling(rt: HostRuntime) {
     for (text, want) in rows {
         assert_eq!(rt; read_number(text.as_bytes()), want, "at {text}");
     }
+}
+
+#[test]
+fn digits_are_read_up_to_64_bits(rt: HostRuntime) {
+    let rows: [(&str, Option<u64>); 7] = [
+        ("0", Some(0)),
+        ("18446744073709551615", Some(18_446_744_073_709_551_615)),
+        ("18446744073709551616", None),
+        ("99999999999999999999", None),
+        ("010", None),
+        ("1/", None),
+        ("1:", None),
+    ];
+    for (text, want) in rows {
+        assert_eq!(rt; read_digits(text.as_bytes()), want, "at {text}");
+    }
+}
+
+#[test]
+fn two_digits_stand_behind_a_mark(rt: HostRuntime) {
+    let rows: [(&str, Option<(&[u8], u32)>); 6] = [
+        ("12.34", Some((b"12", 34))),
+        (".05", Some((b"", 5))),
+        ("12:34", None),
+        ("12.3", None),
+        ("12.3a", None),
+        ("34", None),
+    ];
+    for (text, want) in rows {
+        assert_eq!(rt; split_pair(text.as_bytes(), b'.'), want, "at {text}");
+    }
+}
+
+#[test]
+fn months_of_any_year_are_read(rt: HostRuntime) {
+    let rows: [(&str, Option<u32>); 6] = [
+        ("0000-01", Some(0)),
+        ("1850-12", Some(22_211)),
+        ("9999-12", Some(119_999)),
+        ("2024-00", None),
+        ("2024-13", None),
+        ("24-01", None),
+    ];
+    for (text, want) in rows {
+        assert_eq!(rt; read_civil_month(text.as_bytes()), want, "at {text}");
+    }
+}
+
+#[test]
+fn a_full_list_grows_by_an_eighth_of_it(rt: HostRuntime) -> Result<(), Fail> {
+    // items there, items to come, the least step, and the room after
+    let rows: [(usize, usize, usize, usize); 6] = [
+        (0, 1, 0, 1),
+        (0, 1, 2, 2),
+        (0, 5, 2, 5),
+        (80, 1, 2, 90),
+        (80, 1, 12, 92),
+        (80, 30, 12, 110),
+    ];
+    for (there, more, least, room) in rows {
+        let mut items: Vec<u64> = Vec::new(rt.alloc());
+        items.resize(there, 7)?;
+        items.shrink_to_fit();
+        make_room(&mut items, more, least)?;
+        assert_eq!(rt;
+            (items.len(), items.capacity()),
+            (there, room),
+            "at {there}, {more}"
+        );
+    }
+    Ok(())
 }
 
 #[test]

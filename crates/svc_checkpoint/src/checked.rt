@@ -8,9 +8,12 @@ use crate::ends::{end_before, end_of, folded, pushed, refreshed};
 use std::alloc::Global;
 use std::marker::Model;
 use std::sync::ledger::Ledger;
-use svc_base::{Day, Month, OutOfMemory, Steps, month_of};
+use svc_base::{Day, Month, OutOfMemory, Steps, make_room, month_of};
 use svc_replay::{BookFault, LoanAccount, LoanBooks, facts_between};
 use svc_types::{Books, Entry, MonthFacts, Terms};
+
+/// By how many months at least the list of their ends grows.
+const STEP: usize = 2;
 
 /// Books with checkpoints: all entries and reversals, the live entries in order, the books at the end
 /// of each month from the boarded one to the one before the business day's, and those of the business
@@ -64,7 +67,7 @@ impl LoanBooks for Checked {
         let boarded = terms.boarded;
         let kept = LoanAccount::new(alloc, terms, today);
         let mut ends = Vec::new(alloc);
-        ends.reserve(months_between(boarded, today))?;
+        make_room(&mut ends, months_between(boarded, today), STEP)?;
         let first = kept.refolded(boarded, steps);
         let now = pushed(&kept, &mut ends, &first, today, steps);
         Ok(Checked { kept, ends, now })
@@ -72,7 +75,11 @@ impl LoanBooks for Checked {
 
     fn reserve(&mut self, today: Day) -> Result<(), OutOfMemory> {
         self.kept.reserve()?;
-        self.ends.reserve(months_between(self.kept.today(), today))?;
+        make_room(
+            &mut self.ends,
+            months_between(self.kept.today(), today),
+            STEP,
+        )?;
         Ok(())
     }
 
@@ -100,7 +107,11 @@ impl LoanBooks for Checked {
         // the calendar has the business day
         let place = today.day();
         prove!(place >= 1);
-        self.ends.reserve(months_between(self.kept.today(), today))?;
+        make_room(
+            &mut self.ends,
+            months_between(self.kept.today(), today),
+            STEP,
+        )?;
         let now = self.now;
         self.now = pushed(&self.kept, &mut self.ends, &now, today, steps);
         self.kept.advance(today);

@@ -43,7 +43,7 @@ pub(crate) fn folded<L: Ledger>(
     if place == 0 {
         return kept.refolded(day, steps);
     }
-    fold_on(&ends[place - 1], kept.terms(), kept.live(), day, steps)
+    fold_on(&ends[place - 1], kept.terms(), &kept.live(), day, steps)
 }
 
 /// Makes the end of each month from one on anew, and gives the books of the business day.
@@ -112,11 +112,11 @@ pub(crate) fn pushed<L: Ledger>(
     let mut month = month_of(now.day);
     let mut books = *now;
     while month < last {
-        books = fold_on(&books, kept.terms(), kept.live(), last_day(month), steps);
+        books = fold_on(&books, kept.terms(), &kept.live(), last_day(month), steps);
         ends.push_reserved(books);
         month = month.plus(1);
     }
-    fold_on(&books, kept.terms(), kept.live(), day, steps)
+    fold_on(&books, kept.terms(), &kept.live(), day, steps)
 }
 
 /// The books at the end of the month before one, and before the boarded one those at boarding.

@@ -1,4 +1,5 @@
 pub mod PostedLemmas
+pub mod RepliesLemmas
 pub mod CashLemmas
 pub mod RuleLemmas
 pub mod AnalysingLemmas

@@ -22,6 +22,7 @@ mod posted;
 mod preparing;
 mod refusals;
 mod refusing;
+mod replies;
 mod reporting;
 mod scope;
 mod sent;

@@ -6,10 +6,11 @@ ghost use Rattle.svc_world.specs.World.{accepted};
 ghost use Rattle.svc_world.specs.Judging.{nth_accepted};
 ghost use Rattle.svc_core.specs.Posted.{number_of, known_as, known_among, most_commands, reply};
 
+use crate::replies::Replies;
 use std::alloc::Global;
 use std::collections::HashMap;
 use std::marker::Model;
-use svc_base::OutOfMemory;
+use svc_base::{OutOfMemory, make_room};
 use svc_types::{Command, Extra, Key, Reply};
 
 /// The accepted commands by number, from 1, each with its key and the reply that was given. A key is
@@ -18,7 +19,7 @@ use svc_types::{Command, Extra, Key, Reply};
 pub struct Posted {
     numbers: HashMap<Key, u32>,
     commands: Vec<(Key, Command)>,
-    replies: Vec<Reply>,
+    replies: Replies,
 }
 
 impl Model for Posted {
@@ -31,12 +32,12 @@ impl Model for Posted {
 
     ghost view = { λ p. record {
       history = history_of p.commands.items;
-      replies = p.replies.items;
+      replies = p.replies.list;
       room = min (spare p.numbers)
-          (min (vec_capacity p.commands - vec_len p.commands) (vec_capacity p.replies - vec_len p.replies));
+          (min (vec_capacity p.commands - vec_len p.commands) p.replies.room);
     } };
 
-    ghost invariant = { λ p. AreIndexed (get is_key p.numbers) (history_of p.commands.items) p.replies.items };
+    ghost invariant = { λ p. AreIndexed (get is_key p.numbers) (history_of p.commands.items) p.replies.list };
 }
 
 impl Posted {
@@ -48,7 +49,7 @@ impl Posted {
         Posted {
             numbers: HashMap::new(alloc),
             commands: Vec::new(alloc),
-            replies: Vec::new(alloc),
+            replies: Replies::new(alloc),
         }
     }
 
@@ -75,7 +76,7 @@ impl Posted {
         match self.number_of(key) {
             Some(number) => {
                 let place = number as usize - 1;
-                Some((self.commands[place].1, self.replies[place]))
+                Some((self.commands[place].1, self.replies.get(number)))
             }
             None => None,
         }
@@ -88,8 +89,8 @@ impl Posted {
         ensures room { OnOk result (1 ≤ self.new.room) }
     {
         self.numbers.reserve(1)?;
-        self.commands.reserve(1)?;
-        self.replies.reserve(1)?;
+        make_room(&mut self.commands, 1, 0)?;
+        self.replies.reserve()?;
         Ok(())
     }
 
@@ -109,7 +110,7 @@ impl Posted {
             Err(_) => unreachable!(),
         }
         self.commands.push_reserved((*key, *command));
-        self.replies.push_reserved(Reply { number, extra });
+        self.replies.push(extra);
     }
 
     /// The command with a number, from 1, and its key.
@@ -129,6 +130,6 @@ impl Posted {
         requires few { number ≤ length self.now.history }
         ensures { Some result ≡ slice_get self.now.replies (number - 1) }
     {
-        self.replies[number as usize - 1]
+        self.replies.get(number)
     }
 }

@@ -27,9 +27,12 @@ use remit_types::{Carry, MonthDue, first};
 use std::alloc::Global;
 use std::marker::Model;
 use std::sync::ledger::Ledger;
-use svc_base::{Cents, Day, Month, OutOfMemory, Steps, month_of};
+use svc_base::{Cents, Day, Month, OutOfMemory, Steps, make_room, month_of};
 use svc_replay::LoanBooks;
 use svc_types::{Books, Entry, RemitType, Terms, TypeChange};
+
+/// By how many months at least the lists of closed ones grow.
+const STEP: usize = 2;
 
 /// A loan: its number, its books however they are kept, its escrow lines and changes of remittance type,
 /// the dues of its closed months, and what was remitted to the investor for it.
@@ -239,8 +242,8 @@ impl<B: LoanBooks> Loan<B> {
     {
         self.books.reserve(today)?;
         self.types.reserve()?;
-        self.months.dues.reserve(1)?;
-        self.months.carries.reserve(1)?;
+        make_room(&mut self.months.dues, 1, STEP)?;
+        make_room(&mut self.months.carries, 1, STEP)?;
         Ok(())
     }
 

@@ -5,7 +5,7 @@ ghost use Rattle.svc_world.specs.LoanDues as rule;
 
 use std::alloc::Global;
 use std::marker::Model;
-use svc_base::{Month, OutOfMemory};
+use svc_base::{Month, OutOfMemory, make_room};
 use svc_types::{RemitType, Terms, TypeChange};
 
 /// The changes of remittance type of a loan, in the order in which they were accepted
@@ -43,7 +43,7 @@ impl Types {
         ensures room { OnOk result (1 ≤ self.new.room) }
         ensures kept_room { self.old.room ≤ self.new.room }
     {
-        self.changes.reserve(1)?;
+        make_room(&mut self.changes, 1, 0)?;
         Ok(())
     }
 

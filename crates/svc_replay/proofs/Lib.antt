@@ -1,6 +1,7 @@
 pub mod LeftLemmas
 pub mod AfterLemmas
 pub mod EntryLemmas
+pub mod ChosenLemmas
 pub mod KeptLemmas
 pub mod PlainLemmas
 pub mod RemoveLemmas

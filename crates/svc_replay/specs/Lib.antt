@@ -1,4 +1,5 @@
 pub mod Left
 pub mod Kept
+pub mod Chosen
 pub mod Faults
 pub mod WorkedAccounts

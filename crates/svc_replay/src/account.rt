@@ -1,37 +1,36 @@
 //! The account of a loan: its entries and reversals, and the live entries in order.
 
 ghost use Rattle.std.specs.Prelude.{◌≡◌, ◌+◌, ◌≤◌, ◌<◌, nat_lt, length, None, IfSome, IsErrOf, OnOk, OnErr};
-ghost use Rattle.std.specs.Prelude.{IfErr, ◌==◌, not, false};
-ghost use Rattle.std.specs.List.{AllPairs, Contains, filter, remove};
-ghost use Rattle.svc_types.specs.Live.{is_before};
+ghost use Rattle.std.specs.Prelude.{IfErr};
+ghost use Rattle.std.specs.List.{AllPairs};
 ghost use Rattle.svc_base.specs.Calendar.{month_of as month_number, months_end};
 ghost use Rattle.svc_spec.specs.Accounts as rule;
 ghost use Rattle.svc_spec.specs.Books.{AreBooks};
 ghost use Rattle.svc_spec.specs.Months.{cost_of_month, counted};
 ghost use Rattle.svc_replay.specs.Faults.{most_entries, IsPostFault, IsReverseFault};
-ghost use Rattle.svc_replay.specs.Kept.{IsLoweredBy, IsPlaceOf, differ, nothing, one_entry, one_reversal};
+ghost use Rattle.svc_replay.specs.Kept.{IsLoweredBy, IsPlaceOf, nothing, one_entry, one_reversal};
 
+use crate::entries::{Entries, Live, STEP};
 use crate::fault::BookFault;
 use crate::folding::refold;
 use std::alloc::Global;
 use std::marker::Model;
 use std::sync::ledger::Ledger;
-use svc_base::{Day, OutOfMemory, Steps};
-use svc_types::{Books, Entry, Terms, before, place_of};
+use svc_base::{Day, OutOfMemory, Steps, make_room};
+use svc_types::{Books, Entry, Terms};
 
 /// The most entries of a loan, reversed ones counted.
 const MOST_ENTRIES: usize = 4_096;
 
 /// A loan's terms, all its entries by number, their reversals and the business day. It keeps beside
-/// each entry what reversed it, and the live entries in the order in which they take effect.
+/// each entry what reversed it, and the places of the live ones in the order in which they take effect.
 #[derive(Drop)]
 pub struct LoanAccount {
     terms: Terms,
     today: Day,
-    entries: Vec<Entry>,
+    entries: Entries,
     reversers: Vec<Option<u32>>,
     reversals: Vec<(u32, u32)>,
-    live: Vec<Entry>,
 }
 
 impl Model for LoanAccount {
@@ -44,13 +43,12 @@ impl Model for LoanAccount {
     ghost view = { λ a. record {
       account = record {
         terms = a.terms;
-        entries = a.entries.items;
+        entries = a.entries.all;
         reversals = a.reversals.items;
         today = a.today;
       };
       room = record {
-        entries = min (vec_capacity a.entries - vec_len a.entries)
-            (min (vec_capacity a.reversers - vec_len a.reversers) (vec_capacity a.live - vec_len a.live));
+        entries = min a.entries.room (vec_capacity a.reversers - vec_len a.reversers);
         reversals = vec_capacity a.reversals - vec_len a.reversals;
         months = months_end;
       };
@@ -59,11 +57,11 @@ impl Model for LoanAccount {
     ghost invariant = { λ a. IsKept
         (record {
           terms = a.terms;
-          entries = a.entries.items;
+          entries = a.entries.all;
           reversals = a.reversals.items;
           today = a.today;
         })
-        a.live.items a.reversers.items };
+        a.entries.live a.reversers.items };
 }
 
 impl LoanAccount {
@@ -75,10 +73,9 @@ impl LoanAccount {
         LoanAccount {
             terms,
             today,
-            entries: Vec::new(alloc),
+            entries: Entries::new(alloc),
             reversers: Vec::new(alloc),
             reversals: Vec::new(alloc),
-            live: Vec::new(alloc),
         }
     }
 
@@ -90,10 +87,9 @@ impl LoanAccount {
         ensures months { months_end ≤ self.new.room.months }
         ensures room { IsLoweredBy nothing self.old.room self.new.room }
     {
-        self.entries.reserve(1)?;
-        self.reversers.reserve(1)?;
-        self.live.reserve(1)?;
-        self.reversals.reserve(1)?;
+        self.entries.reserve()?;
+        make_room(&mut self.reversers, 1, STEP)?;
+        make_room(&mut self.reversals, 1, 0)?;
         Ok(())
     }
 
@@ -108,16 +104,15 @@ impl LoanAccount {
         ensures room { IsLoweredBy one_entry self.old.room self.new.room }
         ensures kept_room { OnErr result (IsLoweredBy nothing self.old.room self.new.room) }
     {
-        if self.entries.len() >= MOST_ENTRIES {
+        if self.entries.all().len() >= MOST_ENTRIES {
             return Err(BookFault::Full);
         }
         // the calendar has the day of the entry
         let place = entry.day.day();
         prove!(place >= 1);
-        self.entries.reserve(1)?;
-        self.reversers.reserve(1)?;
-        self.live.insert(place_of(&self.live, entry), *entry)?;
-        self.entries.push_reserved(*entry);
+        make_room(&mut self.reversers, 1, STEP)?;
+        let place = self.entries.live().place_of(entry);
+        self.entries.insert(place, entry)?;
         self.reversers.push_reserved(None);
         Ok(())
     }
@@ -136,7 +131,7 @@ impl LoanAccount {
         ensures room { IsLoweredBy one_reversal self.old.room self.new.room }
         ensures kept_room { OnErr result (IsLoweredBy nothing self.old.room self.new.room) }
     {
-        let Some(place) = place_with(&self.entries, number) else {
+        let Some(place) = place_with(self.entries.all(), number) else {
             return Err(BookFault::NoSuchEntry);
         };
         if let Some(earlier) = self.reversers[place] {
@@ -144,8 +139,9 @@ impl LoanAccount {
         }
         self.reversals.push((number, by))?;
         self.reversers[place] = Some(by);
-        let reversed = self.entries[place];
-        self.live.remove(place_among(&self.live, &reversed));
+        let reversed = self.entries.all()[place];
+        let place = self.entries.live().place_among(&reversed);
+        self.entries.remove(place);
         Ok(())
     }
 
@@ -181,25 +177,25 @@ impl LoanAccount {
     }
 
     /// The entries that no reversal names, by day, then number.
-    pub fn live(&self) -> &[Entry]
-        ensures { result.now ≡ rule.live_of self.now.account }
+    pub fn live(&self) -> Live<'_>
+        ensures { result ≡ rule.live_of self.now.account }
     {
-        &self.live
+        self.entries.live()
     }
 
     /// The entry with that number, reversed or not.
     pub fn entry(&self, number: u32) -> Option<Entry>
         ensures { result ≡ rule.entry_of self.now.account number }
     {
-        let place = place_with(&self.entries, number)?;
-        Some(self.entries[place])
+        let place = place_with(self.entries.all(), number)?;
+        Some(self.entries.all()[place])
     }
 
     /// What reversed the entry with that number.
     pub fn reversed_by(&self, number: u32) -> Option<u32>
         ensures { result ≡ rule.reverser_of self.now.account number }
     {
-        let place = place_with(&self.entries, number)?;
+        let place = place_with(self.entries.all(), number)?;
         self.reversers[place]
     }
 
@@ -215,7 +211,7 @@ impl LoanAccount {
         ensures steps { steps.new ≤ steps.old
             + cost_of_month self.now.account (month_number self.now.account.terms.boarded) }
     {
-        refold(&self.terms, &self.live, day, steps)
+        refold(&self.terms, &self.entries.live(), day, steps)
     }
 }
 
@@ -229,19 +225,6 @@ fn place_with(entries: &[Entry], number: u32) -> Option<usize>
         return Some(place);
     }
     None
-}
-
-/// The place of an entry among entries in order, of which it is one: what they are without it are those
-/// with other numbers.
-fn place_among(ordered: &[Entry], entry: &Entry) -> usize
-    requires order { AllPairs (λ a b. is_before b a ≡ false) ordered.now }
-    requires apart { AllPairs differ ordered.now }
-    requires there { Contains ordered.now entry.now }
-    ensures bound { result < length ordered.now }
-    ensures others { remove ordered.now result
-        ≡ filter (λ other. not (entry.now.number == other.number)) ordered.now }
-{
-    ordered.partition_point(|other| before(other, entry))
 }
 
 /// Whether an entry has a lower number.

@@ -1,15 +1,17 @@
 //! A walk over the events of a loan in their order, without a list of them.
 
-ghost use Rattle.std.specs.Prelude.{◌≡◌, ◌+◌, ◌≤◌, ◌<◌, nat_le, length, take, drop, IfSome};
-ghost use Rattle.std.specs.List.{All, AllPairs};
+ghost use Rattle.std.specs.Prelude.{◌≡◌, ◌+◌, ◌≤◌, ◌<◌, length, IfSome};
+ghost use Rattle.std.proofs.Common.{Fits, w64};
+ghost use Rattle.std.specs.List.{AllPairs};
 ghost use Rattle.svc_base.specs.Calendar.{IsReadDay, months_end, month_of as month_number};
 ghost use Rattle.svc_types.specs.Terms.{IsSound};
 ghost use Rattle.svc_spec.specs.Entries.{AreEntries};
 ghost use Rattle.svc_spec.specs.Events as events;
 ghost use Rattle.svc_replay.specs.Left as rule;
 
+use crate::entries::Live;
 use svc_base::{Day, Month, add_days, add_months, first_day, month_of};
-use svc_types::{Entry, Event, Terms, What};
+use svc_types::{Event, Terms, What};
 
 /// What has been passed: the last month whose mark was, the number of late marks and of entries.
 #[derive(Drop, Debug)]
@@ -34,7 +36,7 @@ impl Cursor {
     }
 
     /// After all events of a loan up to a day.
-    pub(crate) fn after(terms: &Terms, live: &[Entry], day: Day) -> Cursor
+    pub(crate) fn after(terms: &Terms, live: &Live, day: Day) -> Cursor
         requires terms { IsSound terms.now }
         requires boarded { IsReadDay terms.now.boarded }
         requires order { AllPairs (λ a b. a.day ≤ b.day) live.now }
@@ -43,13 +45,13 @@ impl Cursor {
         Cursor {
             month: month_of(day),
             late: lates_by(terms, day),
-            entry: entries_by(live, day),
+            entry: live.up_to(day),
         }
     }
 
     /// The earliest event that is left, up to a day; on one day a month mark, then a late mark,
     /// then the entries as they stand.
-    pub(crate) fn next(&mut self, terms: &Terms, live: &[Entry], day: Day) -> Option<Event>
+    pub(crate) fn next(&mut self, terms: &Terms, live: &Live, day: Day) -> Option<Event>
         requires terms { IsSound terms.now }
         requires boarded { IsReadDay terms.now.boarded }
         requires entries { AreEntries terms.now live.now }
@@ -111,16 +113,17 @@ impl Cursor {
     }
 
     /// The next entry, where its day is not past the day.
-    fn entry_event(&self, live: &[Entry], day: Day) -> Option<Event>
+    fn entry_event(&self, live: &Live, day: Day) -> Option<Event>
         requires order { AllPairs (λ a b. a.day ≤ b.day) live.now }
         ensures bound { IfSome result (λ event. self.now.entry < length live.now) }
+        ensures fits { IfSome result (λ event. Fits w64 (self.now.entry + 1)) }
         ensures first { rule.IsFirst result (rule.entries_left live.now self.now.entry day)
             (rule.entries_left live.now (self.now.entry + 1) day) }
     {
         if self.entry >= live.len() {
             return None;
         }
-        let entry = &live[self.entry];
+        let entry = live.at(self.entry);
         if entry.day > day {
             return None;
         }
@@ -159,22 +162,6 @@ fn lates_by(terms: &Terms, day: Day) -> u32
         late += 1;
     }
     late
-}
-
-/// How many entries are up to a day.
-fn entries_by(live: &[Entry], day: Day) -> usize
-    requires { AllPairs (λ a b. a.day ≤ b.day) live.now }
-    ensures taken { All (λ e. e.day ≤ day) (take result live.now) }
-    ensures later { All (λ e. day < e.day) (drop result live.now) }
-{
-    live.partition_point(|entry| is_by(entry, day))
-}
-
-/// Whether an entry is up to a day.
-fn is_by(entry: &Entry, day: Day) -> bool
-    ensures { result ≡ nat_le entry.now.day day }
-{
-    entry.day <= day
 }
 
 /// Whether there is an event, and it is not after another one.

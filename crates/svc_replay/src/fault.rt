@@ -3,6 +3,7 @@
 ghost use Rattle.std.specs.Prelude.{◌≡◌};
 
 use std::alloc::{AllocError, AllocFailed};
+use svc_base::OutOfMemory;
 use thiserror::Error;
 
 /// What keeps an entry or a reversal out of an account.
@@ -34,6 +35,16 @@ impl<T: Drop> From<AllocFailed<T>> for BookFault {
     ghost from_gives = { λ _ e. e ≡ OutOfMemory };
 
     fn from(_: AllocFailed<T>) -> BookFault {
+        BookFault::OutOfMemory
+    }
+}
+
+impl From<OutOfMemory> for BookFault {
+    ghost use Rattle.svc_replay.specs.declared.fault.BookFault.TheVariants.{OutOfMemory};
+
+    ghost from_gives = { λ _ e. e ≡ OutOfMemory };
+
+    fn from(_: OutOfMemory) -> BookFault {
         BookFault::OutOfMemory
     }
 }

@@ -12,14 +12,15 @@ ghost use Rattle.svc_spec.proofs.EventLemmas.{CanFold};
 ghost use Rattle.svc_replay.specs.Left.{left};
 
 use crate::cursor::Cursor;
+use crate::entries::Live;
 use std::sync::ledger::Ledger;
 use svc_apply::{fold_step, start};
 use svc_base::{Day, Steps};
-use svc_types::{Books, Entry, Terms};
+use svc_types::{Books, Terms};
 
 /// The books of a loan at a day, folded anew from boarding over its live entries in their order of
 /// effect. It counts one step for each event, and one for each installment that is satisfied.
-pub fn refold<L: Ledger>(terms: &Terms, live: &[Entry], day: Day, steps: &mut Steps<L>) -> Books
+pub fn refold<L: Ledger>(terms: &Terms, live: &Live, day: Day, steps: &mut Steps<L>) -> Books
     requires terms { IsSound terms.now }
     requires boarded { IsReadDay terms.now.boarded }
     requires after { terms.now.boarded ≤ day }
@@ -37,7 +38,7 @@ pub fn refold<L: Ledger>(terms: &Terms, live: &[Entry], day: Day, steps: &mut St
 pub fn fold_on<L: Ledger>(
     earlier: &Books,
     terms: &Terms,
-    live: &[Entry],
+    live: &Live,
     day: Day,
     steps: &mut Steps<L>,
 ) -> Books
@@ -62,7 +63,7 @@ fn fold_left<L: Ledger>(
     books: Books,
     cursor: Cursor,
     terms: &Terms,
-    live: &[Entry],
+    live: &Live,
     day: Day,
     steps: &mut Steps<L>,
 ) -> Books

@@ -3,6 +3,7 @@
 
 mod account;
 mod cursor;
+mod entries;
 mod fault;
 mod folding;
 mod laws;
@@ -11,6 +12,7 @@ mod plain;
 mod rows;
 
 pub use account::LoanAccount;
+pub use entries::Live;
 pub use fault::BookFault;
 pub use folding::{fold_on, refold};
 pub use laws::{agree, events_stand_in_order};

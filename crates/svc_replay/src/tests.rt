@@ -2,6 +2,7 @@
 
 ghost use Rattle.std.specs.Prelude.{◌≡◌, ◌<◌};
 
+use crate::entries::Live;
 use crate::refold;
 use std::marker::Brand;
 use std::sync::ledger::{Blank, Ledger};
@@ -64,7 +65,7 @@ fn after_payment<L: Ledger>(blank: Blank, cents: Cents, paid: &[u8], day: &[u8])
         act: Act::Pay(cents, Designation::Regular),
     }];
     let mut steps = Steps::<L>::new(blank);
-    let books = refold(&terms, &entries, day, &mut steps);
+    let books = refold(&terms, &Live::new(&entries, &[0]), day, &mut steps);
     Some(row_of(&books))
 }
 

@@ -8,10 +8,10 @@ use svc_base::{Cents, Day, Month};
 pub struct Books {
     /// The day that they stand for.
     pub day: Day,
-    /// The unpaid principal balance.
-    pub upb: Cents,
     /// The number of the open installment.
     pub next: u32,
+    /// The unpaid principal balance.
+    pub upb: Cents,
     /// The escrow balance; below 0 where the servicer advances.
     pub escrow: Cents,
     /// Money that is not yet applied.

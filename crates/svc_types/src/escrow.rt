@@ -16,16 +16,17 @@ pub enum LineKind {
 pub struct EscrowPlan {
     /// The first month of the plan.
     pub start: Month,
+    /// For how many months a payment has more for a shortage, and for a deficiency.
+    pub short_months: u32,
+    pub deficient_months: u32,
     /// The monthly part of the annual bills.
     pub base: Cents,
     /// What a surplus takes off the first twelve payments.
     pub credit: Cents,
-    /// What a shortage adds to a payment, and for how many months.
+    /// What a shortage adds to a payment.
     pub short: Cents,
-    pub short_months: u32,
-    /// What a deficiency adds to a payment, and for how many months.
+    /// What a deficiency adds to a payment.
     pub deficient: Cents,
-    pub deficient_months: u32,
 }
 
 /// What an analysis settled: the new plan, what is paid out at once, and what is asked within 30

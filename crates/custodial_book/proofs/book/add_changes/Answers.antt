@@ -4,7 +4,7 @@ use Rattle.std.specs.List.Sorted.{IsNonDecreasingBy}
 use Rattle.custodial_book.specs.declared.part.Account.TheVariants.{T, P}
 use Rattle.custodial_book.specs.declared.row.Row.{Row}
 use Rattle.custodial_book.specs.Rows.{balance_of, moved}
-use Rattle.custodial_book.proofs.RowLemmas.{balance_push, last_before, last_of_push, rows_more, rising_push, part_at}
+use Rattle.custodial_book.proofs.RowLemmas.{balance_push, last_before, last_of_push, rows_more, rising_push, part_at, no_rows}
 use Rattle.custodial_book.proofs.book.add_changes.Goals as goal
 use Rattle.custodial_book.proofs.book.add_changes.Goals.{in-Some, in_default}
 
@@ -64,3 +64,8 @@ loop-part-preserved c =
             p_high = omega (arith, ints, w.p-is);
           }
     ]
+
+pub returns-then-are_same-clause-items : goal.returns-then-are_same-clause-items
+returns-then-are_same-clause-items c =
+    let same = c.are_same.ensures c.if-are_same.true in
+    sym (append-nil c.args.entries.now.items) ∙ ap (λ rs. c.args.entries.now.items ++ rs) (sym (no_rows c.args.number c.args.loan c.args.before.now c.args.after.now same))

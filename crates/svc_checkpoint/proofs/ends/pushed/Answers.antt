@@ -8,22 +8,22 @@ use Rattle.svc_checkpoint.proofs.EndsLemmas.{live_count, live_fold, own_day, of_
 use Rattle.svc_checkpoint.proofs.ends.pushed.Goals as goal
 
 pub fold_on-books-requires-clause-count : goal.fold_on-books-requires-clause-count
-fold_on-books-requires-clause-count g c = live_count c.args.kept.now.account c.live.result.now c.is_account.ensures c.live.ensures
+fold_on-books-requires-clause-count g c = live_count c.args.kept.now.account c.live.result c.is_account.ensures c.live.ensures
 
 pub fold_on-books-requires-clause-entries : goal.fold_on-books-requires-clause-entries
-fold_on-books-requires-clause-entries g c = live_fold c.args.kept.now.account c.terms.result.now c.live.result.now c.is_account.ensures c.terms.ensures c.live.ensures
+fold_on-books-requires-clause-entries g c = live_fold c.args.kept.now.account c.terms.result.now c.live.result c.is_account.ensures c.terms.ensures c.live.ensures
 
 pub fold_on-requires-clause-count : goal.fold_on-requires-clause-count
-fold_on-requires-clause-count g c = live_count c.args.kept.now.account c.live-2.result.now c.is_account.ensures c.live-2.ensures
+fold_on-requires-clause-count g c = live_count c.args.kept.now.account c.live-2.result c.is_account.ensures c.live-2.ensures
 
 pub fold_on-requires-clause-entries : goal.fold_on-requires-clause-entries
-fold_on-requires-clause-entries g c = live_fold c.args.kept.now.account c.terms-2.result.now c.live-2.result.now c.is_account.ensures c.terms-2.ensures c.live-2.ensures
+fold_on-requires-clause-entries g c = live_fold c.args.kept.now.account c.terms-2.result.now c.live-2.result c.is_account.ensures c.terms-2.ensures c.live-2.ensures
 
 pub loop-last-preserved : goal.loop-last-preserved
 loop-last-preserved g c =
     let a = c.args.kept.now.account in
     let t = c.terms.result.now in
-    let live = c.live.result.now in
+    let live = c.live.result in
     let m = c.loop-last.month in
     let r = c.fold_on-books.result in
     let old = c.loop-last.ends.items in

@@ -33,7 +33,7 @@ pushed-self-inside-requires-clause-count g c =
     let day = own.0 in
     let count = c.self.invariant.count in
     let month = ap month_of day in
-    omega (arith, ap length c.in_ok-reserve.ensures.items)
+    omega (arith, ap length c.in_ok-make_room.ensures.items)
 
 pub pushed-self-inside-requires-clause-room : goal.pushed-self-inside-requires-clause-room
 pushed-self-inside-requires-clause-room g c =
@@ -41,7 +41,7 @@ pushed-self-inside-requires-clause-room g c =
     let day = own.0 in
     let month = ap month_of day in
     let today = ap month_of c.today.ensures in
-    omega (arith, c.in_ok-reserve.ensures.ok, c.months_between.ensures)
+    omega (arith, c.in_ok-make_room.ensures.ok, c.months_between.ensures)
 
 pub invariant_of-self-2 : goal.invariant_of-self-2
 invariant_of-self-2 g c =

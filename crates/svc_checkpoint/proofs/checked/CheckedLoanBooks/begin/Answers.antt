@@ -37,7 +37,7 @@ pushed-now-requires-clause-count g c =
     let boarded = ap (λ (x : Account). x.terms.boarded) c.new-kept.ensures in
     let month = ap month_of day in
     let first = ap month_of boarded in
-    omega (arith, ap length c.in_ok-reserve.ensures.items, ap length c.new-ends.ensures.items)
+    omega (arith, ap length c.in_ok-make_room.ensures.items, ap length c.new-ends.ensures.items)
 
 pub pushed-now-requires-clause-room : goal.pushed-now-requires-clause-room
 pushed-now-requires-clause-room g c =
@@ -46,7 +46,7 @@ pushed-now-requires-clause-room g c =
     let day = own.0 in
     let boarded = ap (λ (x : Account). x.terms.boarded) c.new-kept.ensures in
     let month = ap month_of day in
-    omega (arith, c.in_ok-reserve.ensures.ok, c.months_between.ensures)
+    omega (arith, c.in_ok-make_room.ensures.ok, c.months_between.ensures)
 
 pub returns-clause-steps : goal.returns-clause-steps
 returns-clause-steps g c =

@@ -2,6 +2,7 @@ use Rattle.std.proofs.Common.{◌≡◌, ◌-◌, length, vec_len, get_or, rules
 use Rattle.std.proofs.Math.ListN.{get_or-map as get_mapped}
 use Rattle.std.specs.Prelude.{Some, None}
 use Rattle.std.proofs.lemmas.List.{length-map}
+use Rattle.std.proofs.lemmas.Option.{get_or_from_slice_get}
 use Rattle.svc_types.specs.declared.key.Key.{Key}
 use Rattle.svc_types.specs.declared.requests.Command.{Command}
 use Rattle.svc_types.specs.declared.replies.Reply.{Reply}
@@ -26,25 +27,26 @@ index-requires c =
     let count : vec_len c.self.inside.commands ≡ length ps = search rules in
     omega (arith, low, high, count, length-map ps (λ (p : Key × Command). accepted p.0 p.1))
 
-pub index-requires-in-Some : goal.index-requires-in-Some
-index-requires-in-Some c =
+pub get-requires-clause-some : goal.get-requires-clause-some
+get-requires-clause-some c = (number_within 1 (history_of c.self.inside.commands.items) c.args.key.now c.in-Some.number (ap (λ (p : PostedCommands). number_of p.history c.args.key.now) c.self.view_is ∙ sym c.number_of.ensures ∙ c.in-Some.is)).0
+
+pub get-requires-clause-few : goal.get-requires-clause-few
+get-requires-clause-few c =
     let within = number_within 1 (history_of c.self.inside.commands.items) c.args.key.now c.in-Some.number (ap (λ (p : PostedCommands). number_of p.history c.args.key.now) c.self.view_is ∙ sym c.number_of.ensures ∙ c.in-Some.is) in
-    let low = within.0 in
     let high = within.1 in
-    let count : vec_len c.self.inside.replies ≡ length c.self.inside.replies.items = search rules in
     let replied = c.self.invariant.replied in
-    omega (arith, low, high, count, replied)
+    omega (arith, high, replied)
 
 pub returns-in-Some : goal.returns-in-Some
 returns-in-Some c =
     let ps = c.self.inside.commands.items in
-    let rs = c.self.inside.replies.items in
+    let rs = c.self.inside.replies.list in
     let i = c.in-Some.number - 1 in
     let x = c.index.result.now in
-    let r = c.index-in-Some.result.now in
+    let r = c.get.result in
     let at = known_at_place 1 (history_of ps) rs c.args.key.now c.in-Some.number (accepted x.0 x.1) r c.self.invariant.replied (ap (λ (p : PostedCommands). number_of p.history c.args.key.now) c.self.view_is ∙ sym c.number_of.ensures ∙ c.in-Some.is) in
     let command : (get_or (history_of ps) i (accepted x.0 x.1)).command ≡ x.1 = ap (λ (a : Accepted). a.command) (get_mapped (λ (p : Key × Command). accepted p.0 p.1) ps i x) ∙ ap (λ (p : Key × Command). p.1) (sym c.index.ensures) in
-    let said : get_or rs i r ≡ r = sym c.index-in-Some.ensures in
+    let said : get_or rs i r ≡ r = get_or_from_slice_get rs i r r (sym c.get.ensures) in
     subst (λ (p : PostedCommands). Some (known_as x.1 r) ≡ known_among p.history p.replies c.args.key.now) c.self.view_is
     (sym (at ∙ ap (λ (m : Command). Some (known_as m (get_or rs i r))) command ∙ ap (λ (q : Reply). Some (known_as x.1 q)) said))
 

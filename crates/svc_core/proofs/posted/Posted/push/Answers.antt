@@ -19,5 +19,5 @@ invariant_of-self c =
     let after : history_of c.push_reserved.new.self.items ≡ h ++ accepted key c.args.command.now ∷ [] = ap history_of c.push_reserved.ensures.items ∙ history_push c.self.inside.commands.items (key, c.args.command.now) in
     record {
       found = λ q. c.in-Ok.ensures.updates.0 q ∙ look_up_push (get is_key c.self.inside.numbers) h key c.args.command.now (c.len.result + 1) q c.self.invariant.found none number ∙ ap (λ hs. number_of hs q) (sym after);
-      replied = ap length c.push_reserved-2.ensures.items ∙ length_push c.self.inside.replies.items _ ∙ ap (λ n. n + 1) c.self.invariant.replied ∙ sym (length_push h (accepted key c.args.command.now)) ∙ ap length (sym after);
+      replied = ap length c.push.ensures ∙ length_push c.self.inside.replies.list _ ∙ ap (λ n. n + 1) c.self.invariant.replied ∙ sym (length_push h (accepted key c.args.command.now)) ∙ ap length (sym after);
     }

@@ -1,0 +1,224 @@
+//! The entries of a loan, and the live ones among them.
+
+ghost use Rattle.std.specs.Prelude.{◌≡◌, ◌+◌, ◌≤◌, ◌<◌, ◌∷◌, ◌++◌, [], nat_le, false, get_or, length, take, drop, OnOk, OnErr};
+ghost use Rattle.std.specs.Prelude.{◌==◌, not};
+ghost use Rattle.std.specs.List.{All, AllPairs, Contains, filter, insert, remove};
+ghost use Rattle.svc_types.specs.Live.{is_before, placed};
+ghost use Rattle.svc_types.specs.declared.account.Act.{Act};
+ghost use Rattle.svc_replay.specs.Chosen.{AreWithin, chosen, passes};
+ghost use Rattle.svc_replay.specs.Kept.{differ};
+
+use std::alloc::Global;
+use std::marker::Model;
+use svc_base::{Day, OutOfMemory, make_room};
+use svc_types::{Entry, before};
+
+/// By how many entries at least their lists grow.
+pub(crate) const STEP: usize = 2;
+
+/// The entries of a loan by number, and the places of the live ones among them, in the order in which these take
+/// effect.
+#[derive(Drop)]
+pub(crate) struct Entries {
+    all: Vec<Entry>,
+    live: Vec<u16>,
+}
+
+impl Model for Entries {
+    ghost use Rattle.std.specs.Prelude.{◌-◌, min, vec_len, vec_capacity};
+    ghost use Rattle.svc_replay.specs.Chosen.{Ordered, AreWithin, chosen};
+
+    ghost Value = { Ordered };
+
+    ghost view = { λ e. record {
+      all = e.all.items;
+      live = chosen e.all.items e.live.items;
+      room = min (vec_capacity e.all - vec_len e.all) (vec_capacity e.live - vec_len e.live);
+    } };
+
+    ghost invariant = { λ e. AreWithin e.all.items e.live.items };
+}
+
+impl Entries {
+    /// No entry.
+    pub(crate) fn new(alloc: Global) -> Entries
+        ensures all { result.all ≡ [] }
+        ensures live { result.live ≡ [] }
+    {
+        Entries {
+            all: Vec::new(alloc),
+            live: Vec::new(alloc),
+        }
+    }
+
+    /// Makes room for one more.
+    pub(crate) fn reserve(&mut self) -> Result<(), OutOfMemory>
+        ensures all { self.new.all ≡ self.old.all }
+        ensures live { self.new.live ≡ self.old.live }
+        ensures ready { OnOk result (1 ≤ self.new.room) }
+        ensures room { self.old.room ≤ self.new.room }
+    {
+        make_room(&mut self.all, 1, STEP)?;
+        make_room(&mut self.live, 1, STEP)?;
+        Ok(())
+    }
+
+    /// Adds an entry: last by number, and at a place among the live ones. Memory is wanted only where no room is left.
+    pub(crate) fn insert(&mut self, place: usize, entry: &Entry) -> Result<(), OutOfMemory>
+        requires place { place ≤ length self.old.live }
+        requires few { length self.old.all < 4096 }
+        ensures all { OnOk result (self.new.all ≡ self.old.all ++ entry.now ∷ []) }
+        ensures live { OnOk result (self.new.live ≡ insert self.old.live place entry.now) }
+        ensures kept_all { OnErr result (self.new.all ≡ self.old.all) }
+        ensures kept_live { OnErr result (self.new.live ≡ self.old.live) }
+        ensures short { OnErr result (self.old.room ≡ 0) }
+        ensures room { self.old.room ≤ self.new.room + 1 }
+        ensures kept_room { OnErr result (self.old.room ≤ self.new.room) }
+    {
+        make_room(&mut self.all, 1, STEP)?;
+        let last = self.all.len() as u16;
+        self.live.insert(place, last)?;
+        self.all.push_reserved(Entry {
+            number: entry.number,
+            day: entry.day,
+            act: entry.act,
+        });
+        Ok(())
+    }
+
+    /// Takes the entry at a place out of the live ones.
+    pub(crate) fn remove(&mut self, place: usize)
+        requires { place < length self.old.live }
+        ensures all { self.new.all ≡ self.old.all }
+        ensures live { self.new.live ≡ remove self.old.live place }
+        ensures room { self.old.room ≤ self.new.room }
+    {
+        self.live.remove(place);
+    }
+
+    /// All entries, by number.
+    pub(crate) fn all(&self) -> &[Entry]
+        ensures { result.now ≡ self.now.all }
+    {
+        &self.all
+    }
+
+    /// The live ones in order.
+    pub(crate) fn live(&self) -> Live<'_>
+        ensures { result ≡ self.now.live }
+    {
+        Live::new(&self.all, &self.live)
+    }
+}
+
+/// The live entries of a loan in the order in which they take effect, read where they stand by number.
+#[derive(Drop)]
+pub struct Live<'a> {
+    entries: &'a [Entry],
+    places: &'a [u16],
+}
+
+impl<'a> Model for Live<'a> {
+    ghost use Rattle.std.specs.Prelude.{List};
+    ghost use Rattle.svc_types.specs.declared.account.Entry.{Entry};
+    ghost use Rattle.svc_replay.specs.Chosen.{AreWithin, chosen};
+
+    ghost Value = { List Entry };
+
+    ghost view = { λ l. chosen l.entries.now l.places.now };
+
+    ghost invariant = { λ l. AreWithin l.entries.now l.places.now };
+}
+
+impl<'a> Live<'a> {
+    /// The entries at some places, in the order of these.
+    pub(crate) fn new(entries: &'a [Entry], places: &'a [u16]) -> Live<'a>
+        requires { AreWithin entries.now places.now }
+        ensures { result ≡ chosen entries.now places.now }
+    {
+        Live { entries, places }
+    }
+
+    /// How many there are.
+    pub fn len(&self) -> usize
+        ensures { result ≡ length self.now }
+    {
+        self.places.len()
+    }
+
+    /// The one at a place, from 0.
+    pub fn at(&self, place: usize) -> &Entry
+        requires { place < length self.now }
+        ensures { get_or self.now place result.now ≡ result.now }
+    {
+        let places = self.places;
+        let at = usize::from(places[place]);
+        &self.entries[at]
+    }
+
+    /// How many are up to a day.
+    pub(crate) fn up_to(&self, day: Day) -> usize
+        requires { AllPairs (λ a b. a.day ≤ b.day) self.now }
+        ensures taken { All (λ e. e.day ≤ day) (take result self.now) }
+        ensures later { All (λ e. day < e.day) (drop result self.now) }
+    {
+        let entries = self.entries;
+        self.places
+            .partition_point(|place| is_by(entries, *place, day))
+    }
+
+    /// The place that an entry takes among them: after all that it does not take effect before.
+    pub(crate) fn place_of(&self, entry: &Entry) -> usize
+        requires { AllPairs (λ a b. is_before b a ≡ false) self.now }
+        ensures bound { result ≤ length self.now }
+        ensures placed { insert self.now result entry.now ≡ placed entry.now self.now }
+    {
+        let entries = self.entries;
+        self.places
+            .partition_point(|place| is_not_after(entries, *place, entry))
+    }
+
+    /// The place of an entry that is one of them: what they are without it are those with other numbers.
+    pub(crate) fn place_among(&self, entry: &Entry) -> usize
+        requires order { AllPairs (λ a b. is_before b a ≡ false) self.now }
+        requires apart { AllPairs differ self.now }
+        requires there { Contains self.now entry.now }
+        ensures bound { result < length self.now }
+        ensures others { remove self.now result
+            ≡ filter (λ other. not (entry.now.number == other.number)) self.now }
+    {
+        let entries = self.entries;
+        self.places
+            .partition_point(|place| takes_effect_before(entries, *place, entry))
+    }
+}
+
+/// Whether the entry at a place is up to a day.
+fn is_by(entries: &[Entry], place: u16, day: Day) -> bool
+    ensures { result ≡ passes (λ e. nat_le e.day day) entries.now place }
+{
+    match entries.get(usize::from(place)) {
+        Some(entry) => entry.day <= day,
+        None => false,
+    }
+}
+
+/// Whether another entry does not take effect before the one at a place.
+fn is_not_after(entries: &[Entry], place: u16, other: &Entry) -> bool
+    ensures { result ≡ passes (λ e. not (is_before other.now e)) entries.now place }
+{
+    match entries.get(usize::from(place)) {
+        Some(entry) => !before(other, entry),
+        None => false,
+    }
+}
+
+/// Whether the entry at a place takes effect before another one.
+fn takes_effect_before(entries: &[Entry], place: u16, other: &Entry) -> bool
+    ensures { result ≡ passes (λ e. is_before e other.now) entries.now place }
+{
+    match entries.get(usize::from(place)) {
+        Some(entry) => before(entry, other),
+        None => false,
+    }
+}
