@@ -65,6 +65,10 @@ fn movable(books: &Books, terms: &Terms, by: u32) -> Option<Installment>
     if books.upb <= 0 {
         return None;
     }
+    // each installment asks for something
+    if books.suspense <= 0 {
+        return None;
+    }
     if due_month(terms, books.next).number() > by {
         return None;
     }

@@ -4,7 +4,7 @@ ghost use Rattle.std.specs.Prelude.{◌≡◌, ◌-◌, MatchOption, None, Some}
 ghost use Rattle.svc_base.specs.Calendar.{month_of as month_number};
 ghost use Rattle.svc_spec.specs.Accounts.{entry_of};
 
-use crate::ends::{end_before, end_of, folded, pushed, refreshed};
+use crate::ends::{end_before, end_of, folded, push_on, refreshed};
 use std::alloc::Global;
 use std::marker::Model;
 use std::sync::ledger::Ledger;
@@ -13,7 +13,7 @@ use svc_replay::{BookFault, LoanAccount, LoanBooks, facts_between};
 use svc_types::{Books, Entry, MonthFacts, Terms};
 
 /// By how many months at least the list of their ends grows.
-const STEP: usize = 2;
+const STEP: usize = 3;
 
 /// Books with checkpoints: all entries and reversals, the live entries in order, the books at the end
 /// of each month from the boarded one to the one before the business day's, and those of the business
@@ -68,8 +68,8 @@ impl LoanBooks for Checked {
         let kept = LoanAccount::new(alloc, terms, today);
         let mut ends = Vec::new(alloc);
         make_room(&mut ends, months_between(boarded, today), STEP)?;
-        let first = kept.refolded(boarded, steps);
-        let now = pushed(&kept, &mut ends, &first, today, steps);
+        let mut now = kept.refolded(boarded, steps);
+        push_on(&kept, &mut ends, &mut now, today, steps);
         Ok(Checked { kept, ends, now })
     }
 
@@ -112,8 +112,7 @@ impl LoanBooks for Checked {
             months_between(self.kept.today(), today),
             STEP,
         )?;
-        let now = self.now;
-        self.now = pushed(&self.kept, &mut self.ends, &now, today, steps);
+        push_on(&self.kept, &mut self.ends, &mut self.now, today, steps);
         self.kept.advance(today);
         Ok(())
     }

@@ -43,7 +43,9 @@ pub(crate) fn folded<L: Ledger>(
     if place == 0 {
         return kept.refolded(day, steps);
     }
-    fold_on(&ends[place - 1], kept.terms(), &kept.live(), day, steps)
+    let mut books = ends[place - 1];
+    fold_on(&mut books, kept.terms(), &kept.live(), day, steps);
+    books
 }
 
 /// Makes the end of each month from one on anew, and gives the books of the business day.
@@ -81,42 +83,40 @@ pub(crate) fn refreshed<L: Ledger>(
     folded(kept, ends, kept.today(), steps)
 }
 
-/// Adds the ends of the months from that of some books to the one before a later day, and gives the
-/// books of that day.
-pub(crate) fn pushed<L: Ledger>(
+/// Moves books on to a later day, and adds the ends of the months from theirs to the one before that day.
+pub(crate) fn push_on<L: Ledger>(
     kept: &LoanAccount,
     ends: &mut Vec<Books>,
-    now: &Books,
+    now: &mut Books,
     day: Day,
     steps: &mut Steps<L>,
-) -> Books
-    requires exists { IsDay now.now.day }
-    requires after { kept.now.account.terms.boarded ≤ now.now.day }
-    requires until { now.now.day ≤ day }
-    requires books { now.now ≡ books_of kept.now.account now.now.day }
+)
+    requires exists { IsDay now.old.day }
+    requires after { kept.now.account.terms.boarded ≤ now.old.day }
+    requires until { now.old.day ≤ day }
+    requires books { now.old ≡ books_of kept.now.account now.old.day }
     requires count { month_number kept.now.account.terms.boarded + length ends.old.items
-        ≡ month_number now.now.day }
+        ≡ month_number now.old.day }
     requires ends { rule.AreEnds kept.now.account ends.old.items (length ends.old.items) }
-    requires room { vec_len ends.old + (month_number day - month_number now.now.day)
+    requires room { vec_len ends.old + (month_number day - month_number now.old.day)
         ≤ vec_capacity ends.old }
     ensures count { month_number kept.now.account.terms.boarded + length ends.new.items ≡ month_number day }
     ensures ends { rule.AreEnds kept.now.account ends.new.items (length ends.new.items) }
     ensures capacity { vec_capacity ends.new ≡ vec_capacity ends.old }
-    ensures books { result ≡ books_of kept.now.account day }
-    ensures sound { AreBooks kept.now.account.terms result }
-    ensures steps { steps.new + counted kept.now.account.terms (live_of kept.now.account) now.now.day
+    ensures books { now.new ≡ books_of kept.now.account day }
+    ensures sound { AreBooks kept.now.account.terms now.new }
+    ensures steps { steps.new + counted kept.now.account.terms (live_of kept.now.account) now.old.day
         ≡ steps.old + counted kept.now.account.terms (live_of kept.now.account) day }
 {
     kept.is_account();
     let last = month_of(day);
     let mut month = month_of(now.day);
-    let mut books = *now;
     while month < last {
-        books = fold_on(&books, kept.terms(), &kept.live(), last_day(month), steps);
-        ends.push_reserved(books);
+        fold_on(now, kept.terms(), &kept.live(), last_day(month), steps);
+        ends.push_reserved(*now);
         month = month.plus(1);
     }
-    fold_on(&books, kept.terms(), &kept.live(), day, steps)
+    fold_on(now, kept.terms(), &kept.live(), day, steps);
 }
 
 /// The books at the end of the month before one, and before the boarded one those at boarding.

@@ -1,5 +1,4 @@
 -- What a command changes: one loan, a loan that it takes on, or all of them.
-use Rattle.std.specs.Prelude.{ℕ}
 use Rattle.svc_types.specs.declared.requests.Command.{Command}
 use Rattle.svc_types.specs.declared.requests.Command.TheVariants as command
 use Rattle.svc_core.specs.declared.scope.Scope.{Scope}

@@ -22,7 +22,7 @@ ghost use Rattle.svc_core.specs.State.{world_of, IsState};
 ghost use Rattle.svc_core.specs.declared.scope.Scope.TheVariants as scope;
 
 use crate::changing::change_one;
-use crate::custody_line::{line_after, whole_line};
+use crate::custody_line::{line_after, share_of};
 use crate::everyone::change_all;
 use crate::position::{Position, no_position, position_at, position_of};
 use crate::state::{Cash, Scratch, State};
@@ -33,6 +33,7 @@ use svc_base::Steps;
 use svc_loan::Loan;
 use svc_replay::LoanBooks;
 use svc_types::{Command, Extra, Terms};
+use svc_world::Custody;
 
 /// Accepts a command on one loan, for which there is room: changes the loan, adds the command's rows, and
 /// moves the custodial line. Before it `count` commands were accepted.
@@ -147,8 +148,7 @@ pub(crate) fn accept_all<B: LoanBooks, L: Ledger>(
 {
     collect(state, &mut scratch.totals);
     let extra = change_all(count, command, state, &mut scratch.lines, steps);
-    append_all(&mut cash.book, count + 1, state, &scratch.totals);
-    cash.custody = whole_line(state);
+    cash.custody = append_all(&mut cash.book, count + 1, state, &scratch.totals);
     extra
 }
 
@@ -193,18 +193,30 @@ fn collect<B: LoanBooks>(state: &State<B>, totals: &mut Vec<Totals>)
     }
 }
 
-/// Adds the rows of a command for all loans, by the totals that they had before it.
-fn append_all<B: LoanBooks>(book: &mut Book, number: u32, state: &State<B>, totals: &[Totals])
+/// Adds the rows of a command for all loans, by the totals that they had before it, and sums the custodial
+/// line anew.
+fn append_all<B: LoanBooks>(
+    book: &mut Book,
+    number: u32,
+    state: &State<B>,
+    totals: &[Totals],
+) -> Custody
     requires read { CanRead (world_of state.now.today state.now.loans state.now.seals) state.now.loans.loans }
     requires may { MayAppendAll number (world_of state.now.today state.now.loans state.now.seals)
         totals.now book.old.rows }
     requires room { 11 * length state.now.loans.loans ≤ book.old.spare }
-    ensures { book.new.rows ≡ book.old.rows ++ rows_along number
+    ensures rows { book.new.rows ≡ book.old.rows ++ rows_along number
         (world_of state.now.today state.now.loans state.now.seals) totals.now
         (held_in state.now.loans.loans) }
+    ensures custody { result ≡ custody_of (world_of state.now.today state.now.loans state.now.seals) }
 {
+    let none = no_position();
+    let mut line = share_of(&none);
     for i in 0..state.loans.len() {
         let id = state.loans.at(i).id();
-        append_one(book, number, id, &totals[i], &position_at(state, i).totals);
+        let later = position_at(state, i);
+        append_one(book, number, id, &totals[i], &later.totals);
+        line = line_after(&line, &none, &later);
     }
+    line
 }

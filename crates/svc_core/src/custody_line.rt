@@ -1,16 +1,12 @@
 //! The custodial line: what both accounts hold for all loans.
 
 ghost use Rattle.std.specs.Prelude.{◌≡◌, ◌+ℤ◌, ◌-ℤ◌};
-ghost use Rattle.svc_world.specs.Custody.{custody_of};
-ghost use Rattle.svc_core.specs.State.{world_of};
 ghost use Rattle.svc_core.specs.Positions as rule;
-ghost use Rattle.svc_core.specs.Positions.{CanRead, IsHolding, IsPosition, IsLine};
+ghost use Rattle.svc_core.specs.Positions.{IsHolding, IsPosition, IsLine};
 ghost use Rattle.svc_core.specs.Positions.{IsShare, AreShares, IsLineSum};
 
-use crate::position::{Position, no_position, position_at};
-use crate::state::State;
+use crate::position::Position;
 use svc_base::Cents;
-use svc_replay::LoanBooks;
 use svc_world::Custody;
 
 /// The custodial line after one loan's position changed.
@@ -45,7 +41,7 @@ fn sum_after(sum: Cents, was: Cents, is: Cents) -> Cents
 }
 
 /// What a loan counts for in the custodial line.
-fn share_of(position: &Position) -> Custody
+pub(crate) fn share_of(position: &Position) -> Custody
     requires { IsPosition position.now }
     ensures value { result ≡ rule.share_of position.now }
     ensures limits { AreShares result }
@@ -74,17 +70,4 @@ fn borrower_cash(suspense: Cents, escrow: Cents, advance: Cents) -> Cents
     ensures { result ≡ suspense +ℤ escrow +ℤ advance }
 {
     suspense + escrow + advance
-}
-
-/// The custodial line of all loans, summed anew.
-pub(crate) fn whole_line<B: LoanBooks>(state: &State<B>) -> Custody
-    requires { CanRead (world_of state.now.today state.now.loans state.now.seals) state.now.loans.loans }
-    ensures { result ≡ custody_of (world_of state.now.today state.now.loans state.now.seals) }
-{
-    let none = no_position();
-    let mut line = share_of(&none);
-    for i in 0..state.loans.len() {
-        line = line_after(&line, &none, &position_at(state, i));
-    }
-    line
 }

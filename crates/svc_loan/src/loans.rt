@@ -1,6 +1,6 @@
 //! All loans, by rising number.
 
-ghost use Rattle.std.specs.Prelude.{◌≡◌, ◌+◌, ◌≤◌, ◌<◌, [], length, map, nat_lt, true, false, is_some, slice_index_or, None, Some, OnOk, pos, neg_ℤ, ◌+ℤ◌, ◌≤ℤ◌};
+ghost use Rattle.std.specs.Prelude.{IsTrue, ◌≡◌, ◌+◌, ◌≤◌, ◌<◌, [], length, map, nat_lt, true, false, is_some, slice_index_or, None, Some, OnOk, pos, neg_ℤ, ◌+ℤ◌, ◌≤ℤ◌};
 ghost use Rattle.std.specs.List.{All, list_any, sum_by};
 ghost use Rattle.std.specs.Option.{option_map};
 ghost use Rattle.std.specs.List.Sorted.{IsPartitionPoint};
@@ -24,10 +24,12 @@ use svc_base::{Cents, Day, Month, OutOfMemory, Steps, month_of};
 use svc_replay::LoanBooks;
 use svc_types::{Entry, RemitType};
 
-/// All loans by rising number. A loan is found by binary search, and put in by moving pointers.
+/// All loans by rising number. A loan is found where room was made last, or just behind it, and else by binary search;
+/// it is put in by moving pointers.
 #[derive(Drop)]
 pub struct Loans<B: LoanBooks> {
     loans: Vec<Box<Loan<B>>>,
+    last: usize,
 }
 
 impl<B: LoanBooks> Model for Loans<B> {
@@ -51,6 +53,7 @@ impl<B: LoanBooks> Loans<B> {
     {
         Loans {
             loans: Vec::new(alloc),
+            last: 0,
         }
     }
 
@@ -74,7 +77,7 @@ impl<B: LoanBooks> Loans<B> {
     pub fn get(&self, id: u32) -> Option<&Loan<B>>
         ensures { option_map (λ r. r.now) result ≡ find_kept id self.now.loans }
     {
-        let place = place_of(&self.loans, id)?;
+        let place = place_of(&self.loans, id, self.last)?;
         Some(&self.loans[place])
     }
 
@@ -96,7 +99,8 @@ impl<B: LoanBooks> Loans<B> {
         ensures loan_room { self.new.room ≡ self.old.room }
         ensures ready { OnOk result (OfLoan id self.new.loans (IsReady today)) }
     {
-        let place = place_there(&self.loans, id);
+        let place = place_there(&self.loans, id, self.last);
+        self.last = place;
         let loan = &mut self.loans[place];
         loan.reserve(today)
     }
@@ -128,7 +132,7 @@ impl<B: LoanBooks> Loans<B> {
         ensures remitted { remitted_in self.new.loans ≡ map (remitted_by id cents) self.old.loans }
         ensures loan_room { self.new.room ≡ self.old.room }
     {
-        let place = place_there(&self.loans, id);
+        let place = place_there(&self.loans, id, self.last);
         let loan = &mut self.loans[place];
         loan.remit(cents);
     }
@@ -161,7 +165,7 @@ impl<B: LoanBooks> Loans<B> {
             + B.cost k.held.account (month_number entry.now.day)
             + closed.closed_cost B.month_cost k.held.account k.closed (month_number entry.now.day)) }
     {
-        let place = place_there(&self.loans, id);
+        let place = place_there(&self.loans, id, self.last);
         let loan = &mut self.loans[place];
         loan.post(entry, steps);
     }
@@ -182,7 +186,7 @@ impl<B: LoanBooks> Loans<B> {
             + B.cost k.held.account (month_number entry.now.day)
             + closed.closed_cost B.month_cost k.held.account k.closed (month_number entry.now.day)) }
     {
-        let place = place_there(&self.loans, id);
+        let place = place_there(&self.loans, id, self.last);
         let loan = &mut self.loans[place];
         loan.reverse(entry, by, steps);
     }
@@ -199,7 +203,7 @@ impl<B: LoanBooks> Loans<B> {
         ensures steps { OfLoan id self.new.loans (λ k. steps.new ≤ steps.old
             + closed.closed_cost B.month_cost k.held.account k.closed from) }
     {
-        let place = place_there(&self.loans, id);
+        let place = place_there(&self.loans, id, self.last);
         let loan = &mut self.loans[place];
         loan.retype(from, kind, steps);
     }
@@ -213,7 +217,7 @@ impl<B: LoanBooks> Loans<B> {
         ensures remitted { remitted_in self.new.loans ≡ remitted_in self.old.loans }
         ensures loan_room { self.new.room ≡ self.old.room }
     {
-        let place = place_there(&self.loans, id);
+        let place = place_there(&self.loans, id, self.last);
         let loan = &mut self.loans[place];
         loan.set_line(line);
     }
@@ -227,7 +231,7 @@ impl<B: LoanBooks> Loans<B> {
         ensures remitted { remitted_in self.new.loans ≡ remitted_in self.old.loans }
         ensures loan_room { self.new.room ≡ self.old.room }
     {
-        let place = place_there(&self.loans, id);
+        let place = place_there(&self.loans, id, self.last);
         let loan = &mut self.loans[place];
         loan.drop_line(line);
     }
@@ -280,27 +284,43 @@ fn close_one<B: LoanBooks, L: Ledger>(loan: &mut Loan<B>, month: Month, steps: &
 }
 
 /// The place of the loan with that number, which is there.
-fn place_there<B: LoanBooks>(loans: &[Box<Loan<B>>], id: u32) -> usize
+fn place_there<B: LoanBooks>(loans: &[Box<Loan<B>>], id: u32, near: usize) -> usize
     requires rise { Rise (map (λ b. b.value) loans.now) }
     requires there { is_some (find_kept id (map (λ b. b.value) loans.now)) ≡ true }
     ensures { IsPlaceIn id (map (λ b. b.value) loans.now) (Some result) }
 {
-    match place_of(loans, id) {
+    match place_of(loans, id, near) {
         Some(place) => place,
         None => unreachable!(),
     }
 }
 
-/// The place of the loan with that number, where it is there.
-fn place_of<B: LoanBooks>(loans: &[Box<Loan<B>>], id: u32) -> Option<usize>
+/// The place of the loan with that number, where it is there. It is looked for at a place and just behind it first, since
+/// one command asks for its loan several times, and lists of payments are often in the order of numbers.
+fn place_of<B: LoanBooks>(loans: &[Box<Loan<B>>], id: u32, near: usize) -> Option<usize>
     requires { Rise (map (λ b. b.value) loans.now) }
     ensures { IsPlaceIn id (map (λ b. b.value) loans.now) result }
 {
+    if is_at(loans, near, id) {
+        return Some(near);
+    }
+    let behind = near.saturating_add(1);
+    if is_at(loans, behind, id) {
+        return Some(behind);
+    }
     let place = place_for(loans, id);
     if place < loans.len() && loans[place].id() == id {
         return Some(place);
     }
     None
+}
+
+/// Whether the loan with that number is at a place.
+fn is_at<B: LoanBooks>(loans: &[Box<Loan<B>>], place: usize, id: u32) -> bool
+    requires { Rise (map (λ b. b.value) loans.now) }
+    ensures { IsTrue result → IsPlaceIn id (map (λ b. b.value) loans.now) (Some place) }
+{
+    place < loans.len() && loans[place].id() == id
 }
 
 /// The place after the loans with lower numbers.

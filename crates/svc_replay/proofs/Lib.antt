@@ -5,3 +5,4 @@ pub mod ChosenLemmas
 pub mod KeptLemmas
 pub mod PlainLemmas
 pub mod RemoveLemmas
+pub mod LateLemmas

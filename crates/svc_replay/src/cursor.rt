@@ -142,8 +142,12 @@ fn late_day(terms: &Terms, k: u32) -> Day
     requires last { k ≤ terms.now.term }
     ensures { result ≡ events.late_day terms.now k }
 {
-    let due = first_day(add_months(terms.first, k - 1));
-    add_days(due, terms.grace + 1)
+    let month = add_months(terms.first, k - 1);
+    // all months have 28 days
+    if terms.grace <= 26 {
+        return Day::new(month, terms.grace + 2);
+    }
+    add_days(first_day(month), terms.grace + 1)
 }
 
 /// Of how many installments the grace is over by a day: of all that were due two months before it or

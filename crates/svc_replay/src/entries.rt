@@ -14,7 +14,10 @@ use svc_base::{Day, OutOfMemory, make_room};
 use svc_types::{Entry, before};
 
 /// By how many entries at least their lists grow.
-pub(crate) const STEP: usize = 2;
+pub(crate) const STEP: usize = 3;
+
+/// By how many places at least their list grows: the smallest piece of memory has room for so many.
+const PLACES: usize = 12;
 
 /// The entries of a loan by number, and the places of the live ones among them, in the order in which these take
 /// effect.
@@ -59,7 +62,7 @@ impl Entries {
         ensures room { self.old.room ≤ self.new.room }
     {
         make_room(&mut self.all, 1, STEP)?;
-        make_room(&mut self.live, 1, STEP)?;
+        make_room(&mut self.live, 1, PLACES)?;
         Ok(())
     }
 

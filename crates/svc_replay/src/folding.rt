@@ -30,59 +30,59 @@ pub fn refold<L: Ledger>(terms: &Terms, live: &Live, day: Day, steps: &mut Steps
     ensures sound { AreBooks terms.now result }
     ensures steps { steps.new + 1 ≡ steps.old + counted terms.now live.now day }
 {
-    fold_left(start(terms), Cursor::new(terms), terms, live, day, steps)
+    let mut books = start(terms);
+    fold_left(&mut books, Cursor::new(terms), terms, live, day, steps);
+    books
 }
 
-/// The books of a loan at a day, folded on from those of an earlier one. It counts a step for each
-/// event after that day, and one for each installment that is satisfied.
+/// Folds the books of a loan on from a day to a later one. It counts a step for each event after that day,
+/// and one for each installment that is satisfied.
 pub fn fold_on<L: Ledger>(
-    earlier: &Books,
+    books: &mut Books,
     terms: &Terms,
     live: &Live,
     day: Day,
     steps: &mut Steps<L>,
-) -> Books
+)
     requires terms { IsSound terms.now }
     requires boarded { IsReadDay terms.now.boarded }
-    requires since { terms.now.boarded ≤ earlier.now.day }
-    requires until { earlier.now.day ≤ day }
+    requires since { terms.now.boarded ≤ books.old.day }
+    requires until { books.old.day ≤ day }
     requires count { length live.now ≤ 4096 }
     requires entries { AreEntries terms.now live.now }
-    requires earlier { earlier.now ≡ books_at terms.now live.now earlier.now.day }
-    ensures books { result ≡ books_at terms.now live.now day }
-    ensures sound { AreBooks terms.now result }
-    ensures steps { steps.new + counted terms.now live.now earlier.now.day
+    requires earlier { books.old ≡ books_at terms.now live.now books.old.day }
+    ensures books { books.new ≡ books_at terms.now live.now day }
+    ensures sound { AreBooks terms.now books.new }
+    ensures steps { steps.new + counted terms.now live.now books.old.day
         ≡ steps.old + counted terms.now live.now day }
 {
-    let cursor = Cursor::after(terms, live, earlier.day);
-    fold_left(*earlier, cursor, terms, live, day, steps)
+    let cursor = Cursor::after(terms, live, books.day);
+    fold_left(books, cursor, terms, live, day, steps);
 }
 
-/// Books with what is left of the events up to a day, which they take.
+/// Folds what is left of the events up to a day into books.
 fn fold_left<L: Ledger>(
-    books: Books,
+    books: &mut Books,
     cursor: Cursor,
     terms: &Terms,
     live: &Live,
     day: Day,
     steps: &mut Steps<L>,
-) -> Books
+)
     requires terms { IsSound terms.now }
     requires boarded { IsReadDay terms.now.boarded }
     requires entries { AreEntries terms.now live.now }
-    requires can { CanFold terms.now books
+    requires can { CanFold terms.now books.old
         (left terms.now live.now day cursor.month cursor.late cursor.entry) }
-    ensures books { result ≡ on day (folded terms.now books
+    ensures books { books.new ≡ on day (folded terms.now books.old
         (left terms.now live.now day cursor.month cursor.late cursor.entry)) }
-    ensures sound { AreBooks terms.now result }
-    ensures steps { steps.new + books.next ≡ steps.old
-        + length (left terms.now live.now day cursor.month cursor.late cursor.entry) + result.next }
+    ensures sound { AreBooks terms.now books.new }
+    ensures steps { steps.new + books.old.next ≡ steps.old
+        + length (left terms.now live.now day cursor.month cursor.late cursor.entry) + books.new.next }
 {
-    let mut books = books;
     let mut cursor = cursor;
     while let Some(event) = cursor.next(terms, live, day) {
-        fold_step(&mut books, terms, &event, steps);
+        fold_step(books, terms, &event, steps);
     }
     books.day = day;
-    books
 }

@@ -18,34 +18,21 @@ asked g c =
     let v = world_of s.today s.loans s.seals in
     accepted_all c.args.count w v c.args.command.now c.args.cash.now.book.rows c.args.cash.now.custody c.deref.result.now c.requires.state.world c.requires.command c.requires.fresh c.requires.scope c.change_all-extra.ensures.world c.requires.cash (c.deref.ensures.value ∙ c.collect.ensures)
 
-pub append_all-requires-clause-read : goal.append_all-requires-clause-read
-append_all-requires-clause-read g c =
+pub append_all-cash-requires-clause-read : goal.append_all-cash-requires-clause-read
+append_all-cash-requires-clause-read g c =
     let s = c.change_all-extra.new.state in
     can_read (c.args.count + 1) (world_of s.today s.loans s.seals) s.loans.loans (asked g c).later refl c.change_all-extra.ensures.kept
 
-pub append_all-requires-clause-may : goal.append_all-requires-clause-may
-append_all-requires-clause-may g c = (asked g c).may
+pub append_all-cash-requires-clause-may : goal.append_all-cash-requires-clause-may
+append_all-cash-requires-clause-may g c = (asked g c).may
 
-pub append_all-requires-clause-room : goal.append_all-requires-clause-room
-append_all-requires-clause-room g c =
+pub append_all-cash-requires-clause-room : goal.append_all-cash-requires-clause-room
+append_all-cash-requires-clause-room g c =
     let olds = c.args.state.now.loans.loans in
     let news = c.change_all-extra.new.state.loans.loans in
     let count : length (held_in news) ≡ length (held_in olds) = (asked g c).count in
     let room = c.requires.room.rows_room in
     omega (arith, count, room, length-map olds (λ (k : KeptLoan). k.held), length-map news (λ (k : KeptLoan). k.held))
-
--- after they were added
-added : (g : Over) (c : goal.After-append_all g) → AreAdded c.args.count (world_of c.args.state.now.today c.args.state.now.loans c.args.state.now.seals) (world_of c.change_all-extra.new.state.today c.change_all-extra.new.state.loans c.change_all-extra.new.state.seals) c.args.cash.now.book.rows c.deref.result.now
-added g c =
-    let s = c.change_all-extra.new.state in
-    let w = world_of c.args.state.now.today c.args.state.now.loans c.args.state.now.seals in
-    let v = world_of s.today s.loans s.seals in
-    accepted_all c.args.count w v c.args.command.now c.args.cash.now.book.rows c.args.cash.now.custody c.deref.result.now c.requires.state.world c.requires.command c.requires.fresh c.requires.scope c.change_all-extra.ensures.world c.requires.cash (c.deref.ensures.value ∙ c.collect.ensures)
-
-pub whole_line-cash-requires : goal.whole_line-cash-requires
-whole_line-cash-requires g c =
-    let s = c.change_all-extra.new.state in
-    can_read (c.args.count + 1) (world_of s.today s.loans s.seals) s.loans.loans (added g c).later refl c.change_all-extra.ensures.kept
 
 pub returns-clause-rows : goal.returns-clause-rows
 returns-clause-rows g c =
@@ -53,4 +40,4 @@ returns-clause-rows g c =
     let w = world_of c.args.state.now.today c.args.state.now.loans c.args.state.now.seals in
     let v = world_of s.today s.loans s.seals in
     let are = accepted_all c.args.count w v c.args.command.now c.args.cash.now.book.rows c.args.cash.now.custody c.deref.result.now c.requires.state.world c.requires.command c.requires.fresh c.requires.scope c.change_all-extra.ensures.world c.requires.cash (c.deref.ensures.value ∙ c.collect.ensures) in
-    c.append_all.ensures ∙ ap (λ rs. c.args.cash.now.book.rows ++ rs) are.made
+    c.append_all-cash.ensures.rows ∙ ap (λ rs. c.args.cash.now.book.rows ++ rs) are.made

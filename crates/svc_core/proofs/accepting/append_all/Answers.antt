@@ -1,10 +1,17 @@
-use Rattle.std.proofs.Common.{◌<◌, [], ◌++◌, length, refl, arith, sym, ap, ◌∙◌, append-nil}
+use Rattle.std.proofs.Common.{◌<◌, ◌≤◌, [], ◌++◌, length, take, refl, arith, sym, ap, subst, ◌∙◌, append-nil}
 use Rattle.std.proofs.Math.ListN.{get_or-map as get_mapped}
-use Rattle.std.proofs.lemmas.List.{length-map}
+use Rattle.std.proofs.lemmas.List.{length-map, length-take, take_all}
+use Rattle.std.proofs.lemmas.List.Elements.{All-take}
+use Rattle.svc_world.specs.Held.{Held}
+use Rattle.svc_world.specs.declared.custody.Custody.{Custody}
 use Rattle.svc_world.specs.Custody.{no_totals}
 use Rattle.svc_loan.specs.Kept.{KeptLoan}
 use Rattle.svc_loan.specs.Loans.{held_in}
+use Rattle.svc_core.specs.Positions as rule
+use Rattle.svc_core.specs.Positions.{IsLine, IsPosition}
 use Rattle.svc_core.specs.State.{world_of}
+use Rattle.svc_core.proofs.LineLemmas.{line_over, line_within, line_more, custody_is}
+use Rattle.svc_core.proofs.PositionLemmas.{at_place, read_within}
 use Rattle.svc_core.proofs.AppendLemmas.{along_none, are_later, may_append_here, rows_here}
 use Rattle.svc_core.proofs.accepting.append_all.Goals as goal
 
@@ -14,6 +21,7 @@ loop-i-init g c =
     let rows = c.args.book.now.rows in
     record {
       rows = sym (ap (λ rs. rows ++ rs) (along_none c.args.number w []) ∙ append-nil rows);
+      line = c.share_of-line.ensures.value ∙ ap rule.share_of c.no_position-none.ensures.value;
       spare = (let room = c.requires.room in omega (arith, room));
       end = c.len-i-end.ensures;
       same = refl;
@@ -28,7 +36,7 @@ append_one-requires-clause-may g c =
     let k = c.at.result.now in
     let number = c.id-id.ensures ∙ ap (λ (j : KeptLoan). j.held.id) c.at.ensures ∙ sym (ap (λ (l : _). l.id) (get_mapped (λ (j : KeptLoan). j.held) ks i k)) in
     let lt : i < length (held_in ks) = (let t = c.loop-i-test.true in let e = c.loop-i.invariant.end in let m = length-map ks (λ (j : KeptLoan). j.held) in omega (arith, t, e, m)) in
-    may_append_here c.args.number c.id-id.result w c.args.totals.now c.args.book.now.rows c.loop-i.book.rows i no_totals k.held c.position_at.result (are_later w ks c.requires.read refl) c.requires.may lt number c.loop-i.invariant.rows (c.position_at.ensures.value k.held)
+    may_append_here c.args.number c.id-id.result w c.args.totals.now c.args.book.now.rows c.loop-i.book.rows i no_totals k.held c.position_at-later.result (are_later w ks c.requires.read refl) c.requires.may lt number c.loop-i.invariant.rows (c.position_at-later.ensures.value k.held)
 
 pub loop-i-preserved : goal.loop-i-preserved
 loop-i-preserved g c =
@@ -38,10 +46,34 @@ loop-i-preserved g c =
     let k = c.at.result.now in
     let number = c.id-id.ensures ∙ ap (λ (j : KeptLoan). j.held.id) c.at.ensures ∙ sym (ap (λ (l : _). l.id) (get_mapped (λ (j : KeptLoan). j.held) ks i k)) in
     let lt : i < length (held_in ks) = (let t = c.loop-i-test.true in let e = c.loop-i.invariant.end in let m = length-map ks (λ (j : KeptLoan). j.held) in omega (arith, t, e, m)) in
+    let d = (at_place (held_in ks) i lt).0 in
     record {
-      rows = rows_here c.args.number c.id-id.result w c.args.totals.now c.args.book.now.rows c.loop-i.book.rows c.append_one.new.book.rows i no_totals k.held c.position_at.result c.requires.may lt number c.loop-i.invariant.rows (c.position_at.ensures.value k.held) c.append_one.ensures.rows;
+      rows = rows_here c.args.number c.id-id.result w c.args.totals.now c.args.book.now.rows c.loop-i.book.rows c.append_one.new.book.rows i no_totals k.held c.position_at-later.result c.requires.may lt number c.loop-i.invariant.rows (c.position_at-later.ensures.value k.held) c.append_one.ensures.rows;
+      line =
+          c.line_after-line.ensures
+          ∙ ap (λ (x : Custody). rule.line_after x c.no_position-none.result c.position_at-later.result) c.loop-i.invariant.line
+          ∙ ap (λ x. rule.line_after (line_over w (take i (held_in ks))) x c.position_at-later.result) c.no_position-none.ensures.value
+          ∙ ap (rule.line_after (line_over w (take i (held_in ks))) rule.no_position) (c.position_at-later.ensures.value d)
+          ∙ line_more w (held_in ks) i d lt;
       spare = (let before = c.loop-i.invariant.spare in let room = c.append_one.ensures.room in omega (arith, before, room));
       end = c.loop-i.invariant.end;
       same = c.loop-i.invariant.same;
       from = (let t = c.loop-i-test.true in omega (arith, t));
     }
+
+pub line_after-line-requires-clause-line : goal.line_after-line-requires-clause-line
+line_after-line-requires-clause-line g c =
+    let w = world_of c.args.state.now.today c.args.state.now.loans c.args.state.now.seals in
+    let ks = c.args.state.now.loans.loans in
+    let i = c.loop-i.i in
+    let few : length (take i (held_in ks)) ≤ 12_000 = (let f = c.requires.read.few in omega (arith, f, length-take i (held_in ks), length-map ks (λ (j : KeptLoan). j.held))) in
+    let all = All-take (λ (l : Held). IsPosition (rule.position_of w l)) i (held_in ks) (read_within w ks c.requires.read refl) in
+    subst IsLine (sym c.loop-i.invariant.line) (line_within w (take i (held_in ks)) few all)
+
+pub returns-clause-custody : goal.returns-clause-custody
+returns-clause-custody g c =
+    let w = world_of c.args.state.now.today c.args.state.now.loans c.args.state.now.seals in
+    let ks = c.args.state.now.loans.loans in
+    let i = c.loop-i.i in
+    let all : length (held_in ks) ≤ i = (let t = c.loop-i-test.false in let e = c.loop-i.invariant.end in let m = length-map ks (λ (j : KeptLoan). j.held) in omega (arith, t, e, m)) in
+    c.loop-i.invariant.line ∙ ap (line_over w) (take_all i (held_in ks) all) ∙ sym (custody_is w)

@@ -42,5 +42,5 @@ fold_step-requires-clause-limits g c =
 pub returns-clause-books : goal.returns-clause-books
 returns-clause-books g c =
     let t = c.args.terms.now in
-    let last : c.loop-event.books ≡ folded t c.args.books (left t c.args.live.now c.args.day c.args.cursor.month c.args.cursor.late c.args.cursor.entry) = rw c.in_default.ensures at c.loop-event.invariant.books in
+    let last : c.loop-event.books ≡ folded t c.args.books.now (left t c.args.live.now c.args.day c.args.cursor.month c.args.cursor.late c.args.cursor.entry) = rw c.in_default.ensures at c.loop-event.invariant.books in
     ap (λ (x : Books). record x { day = c.args.day }) last

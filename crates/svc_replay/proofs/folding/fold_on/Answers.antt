@@ -13,7 +13,7 @@ pub fold_left-requires-clause-can : goal.fold_left-requires-clause-can
 fold_left-requires-clause-can g c =
     let t = c.args.terms.now in
     let live = c.args.live.now in
-    let b = c.args.earlier.now in
+    let b = c.args.books.now in
     let at = c.after-cursor.result in
     let rest = past_left t live b.day c.args.day at.month at.late at.entry c.requires.terms (omega arith) c.requires.until c.after-cursor.ensures in
     let can = can_fold_past t live b.day c.args.day c.requires.terms c.requires.entries c.requires.count c.requires.until in
@@ -23,7 +23,7 @@ pub returns-clause-books : goal.returns-clause-books
 returns-clause-books g c =
     let t = c.args.terms.now in
     let live = c.args.live.now in
-    let b = c.args.earlier.now in
+    let b = c.args.books.now in
     let at = c.after-cursor.result in
     let rest = past_left t live b.day c.args.day at.month at.late at.entry c.requires.terms (omega arith) c.requires.until c.after-cursor.ensures in
     c.fold_left.ensures.books
@@ -35,7 +35,7 @@ pub returns-clause-steps : goal.returns-clause-steps
 returns-clause-steps g c =
     let t = c.args.terms.now in
     let live = c.args.live.now in
-    let b = c.args.earlier.now in
+    let b = c.args.books.now in
     let at = c.after-cursor.result in
     let rest = past_left t live b.day c.args.day at.month at.late at.entry c.requires.terms (omega arith) c.requires.until c.after-cursor.ensures in
     let first = ap (λ (x : Books). x.next) c.requires.earlier in

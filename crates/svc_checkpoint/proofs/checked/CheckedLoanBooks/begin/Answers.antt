@@ -5,44 +5,44 @@ use Rattle.svc_spec.specs.Months.{counted}
 use Rattle.svc_checkpoint.proofs.EndsLemmas.{own_day, within_begin}
 use Rattle.svc_checkpoint.proofs.checked.CheckedLoanBooks.begin.Goals as goal
 
-pub pushed-now-requires-clause-after : goal.pushed-now-requires-clause-after
-pushed-now-requires-clause-after g c =
+pub push_on-requires-clause-after : goal.push_on-requires-clause-after
+push_on-requires-clause-after g c =
     let a = c.new-kept.result.account in
-    let own = own_day a.terms (live_of a) c.args.terms.boarded c.refolded-first.result c.refolded-first.ensures.books in
+    let own = own_day a.terms (live_of a) c.args.terms.boarded c.refolded-now.result c.refolded-now.ensures.books in
     let day = own.0 in
     let boarded = ap (λ (x : Account). x.terms.boarded) c.new-kept.ensures in
     omega arith
 
-pub pushed-now-requires-clause-until : goal.pushed-now-requires-clause-until
-pushed-now-requires-clause-until g c =
+pub push_on-requires-clause-until : goal.push_on-requires-clause-until
+push_on-requires-clause-until g c =
     let a = c.new-kept.result.account in
-    let own = own_day a.terms (live_of a) c.args.terms.boarded c.refolded-first.result c.refolded-first.ensures.books in
+    let own = own_day a.terms (live_of a) c.args.terms.boarded c.refolded-now.result c.refolded-now.ensures.books in
     let day = own.0 in
     let boarded = ap (λ (x : Account). x.terms.boarded) c.new-kept.ensures in
     omega arith
 
-pub pushed-now-requires-clause-books : goal.pushed-now-requires-clause-books
-pushed-now-requires-clause-books g c =
+pub push_on-requires-clause-books : goal.push_on-requires-clause-books
+push_on-requires-clause-books g c =
     let a = c.new-kept.result.account in
-    let own = own_day a.terms (live_of a) c.args.terms.boarded c.refolded-first.result c.refolded-first.ensures.books in
+    let own = own_day a.terms (live_of a) c.args.terms.boarded c.refolded-now.result c.refolded-now.ensures.books in
     let day = own.0 in
     let boarded = ap (λ (x : Account). x.terms.boarded) c.new-kept.ensures in
     own.1
 
-pub pushed-now-requires-clause-count : goal.pushed-now-requires-clause-count
-pushed-now-requires-clause-count g c =
+pub push_on-requires-clause-count : goal.push_on-requires-clause-count
+push_on-requires-clause-count g c =
     let a = c.new-kept.result.account in
-    let own = own_day a.terms (live_of a) c.args.terms.boarded c.refolded-first.result c.refolded-first.ensures.books in
+    let own = own_day a.terms (live_of a) c.args.terms.boarded c.refolded-now.result c.refolded-now.ensures.books in
     let day = own.0 in
     let boarded = ap (λ (x : Account). x.terms.boarded) c.new-kept.ensures in
     let month = ap month_of day in
     let first = ap month_of boarded in
     omega (arith, ap length c.in_ok-make_room.ensures.items, ap length c.new-ends.ensures.items)
 
-pub pushed-now-requires-clause-room : goal.pushed-now-requires-clause-room
-pushed-now-requires-clause-room g c =
+pub push_on-requires-clause-room : goal.push_on-requires-clause-room
+push_on-requires-clause-room g c =
     let a = c.new-kept.result.account in
-    let own = own_day a.terms (live_of a) c.args.terms.boarded c.refolded-first.result c.refolded-first.ensures.books in
+    let own = own_day a.terms (live_of a) c.args.terms.boarded c.refolded-now.result c.refolded-now.ensures.books in
     let day = own.0 in
     let boarded = ap (λ (x : Account). x.terms.boarded) c.new-kept.ensures in
     let month = ap month_of day in
@@ -51,10 +51,10 @@ pushed-now-requires-clause-room g c =
 pub returns-clause-steps : goal.returns-clause-steps
 returns-clause-steps g c =
     let a = c.new-kept.result.account in
-    let own = own_day a.terms (live_of a) c.args.terms.boarded c.refolded-first.result c.refolded-first.ensures.books in
+    let own = own_day a.terms (live_of a) c.args.terms.boarded c.refolded-now.result c.refolded-now.ensures.books in
     let day = own.0 in
     let boarded = ap (λ (x : Account). x.terms.boarded) c.new-kept.ensures in
     let today = ap (λ (x : Account). x.today) c.new-kept.ensures in
     let first = ap (counted a.terms (live_of a)) (sym boarded) in
     let last = ap (counted a.terms (live_of a)) (sym today) in
-    rw c.new-kept.ensures at (within_begin a c.refolded-first.result.day c.args.steps.now c.refolded-first.new.steps c.pushed-now.new.steps c.refolded-first.ensures.account (day ∙ sym boarded) (c.refolded-first.ensures.counted ∙ ap (λ x. c.args.steps.now + x) first) (c.pushed-now.ensures.steps ∙ ap (λ x. c.refolded-first.new.steps + x) last))
+    rw c.new-kept.ensures at (within_begin a c.refolded-now.result.day c.args.steps.now c.refolded-now.new.steps c.push_on.new.steps c.refolded-now.ensures.account (day ∙ sym boarded) (c.refolded-now.ensures.counted ∙ ap (λ x. c.args.steps.now + x) first) (c.push_on.ensures.steps ∙ ap (λ x. c.refolded-now.new.steps + x) last))

@@ -8,7 +8,7 @@ use Rattle.svc_loan.proofs.KeptLemmas.{Stays, on_ok, found_of, stay_behind, remi
 use Rattle.svc_loan.proofs.loans.Loans.reserve_for.Given.{Over}
 use Rattle.svc_loan.proofs.loans.Loans.reserve_for.Goals as goal
 
-whole : (g : Over) (c : goal.After-self-1 g) → Stays (map (λ (b : Box KeptLoan Global). b.value) c.self.inside.loans.items) (map (λ (b : Box KeptLoan Global). b.value) (set c.self.inside.loans.items c.place_there-place.result (with_value c.index_mut-loan.result.now c.reserve.new.self))) c.args.id c.reserve.new.self
+whole : (g : Over) (c : goal.After-self-2-1 g) → Stays (map (λ (b : Box KeptLoan Global). b.value) c.self.inside.loans.items) (map (λ (b : Box KeptLoan Global). b.value) (set c.self.inside.loans.items c.place_there-place.result (with_value c.index_mut-loan.result.now c.reserve.new.self))) c.args.id c.reserve.new.self
 whole g c =
     let xs = c.self.inside.loans.items in
     let i = c.place_there-place.result in

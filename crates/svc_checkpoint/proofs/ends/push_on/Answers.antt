@@ -5,19 +5,19 @@ use Rattle.svc_spec.specs.Months.{counted}
 use Rattle.svc_spec.proofs.MonthLemmas.{end_before_next}
 use Rattle.svc_spec.proofs.StepsLemmas.{ends_rise}
 use Rattle.svc_checkpoint.proofs.EndsLemmas.{live_count, live_fold, own_day, of_account, counted_of, ends_pushed}
-use Rattle.svc_checkpoint.proofs.ends.pushed.Goals as goal
-
-pub fold_on-books-requires-clause-count : goal.fold_on-books-requires-clause-count
-fold_on-books-requires-clause-count g c = live_count c.args.kept.now.account c.live.result c.is_account.ensures c.live.ensures
-
-pub fold_on-books-requires-clause-entries : goal.fold_on-books-requires-clause-entries
-fold_on-books-requires-clause-entries g c = live_fold c.args.kept.now.account c.terms.result.now c.live.result c.is_account.ensures c.terms.ensures c.live.ensures
+use Rattle.svc_checkpoint.proofs.ends.push_on.Goals as goal
 
 pub fold_on-requires-clause-count : goal.fold_on-requires-clause-count
-fold_on-requires-clause-count g c = live_count c.args.kept.now.account c.live-2.result c.is_account.ensures c.live-2.ensures
+fold_on-requires-clause-count g c = live_count c.args.kept.now.account c.live.result c.is_account.ensures c.live.ensures
 
 pub fold_on-requires-clause-entries : goal.fold_on-requires-clause-entries
-fold_on-requires-clause-entries g c = live_fold c.args.kept.now.account c.terms-2.result.now c.live-2.result c.is_account.ensures c.terms-2.ensures c.live-2.ensures
+fold_on-requires-clause-entries g c = live_fold c.args.kept.now.account c.terms.result.now c.live.result c.is_account.ensures c.terms.ensures c.live.ensures
+
+pub fold_on-requires-2-clause-count : goal.fold_on-requires-2-clause-count
+fold_on-requires-2-clause-count g c = live_count c.args.kept.now.account c.live-2.result c.is_account.ensures c.live-2.ensures
+
+pub fold_on-requires-2-clause-entries : goal.fold_on-requires-2-clause-entries
+fold_on-requires-2-clause-entries g c = live_fold c.args.kept.now.account c.terms-2.result.now c.live-2.result c.is_account.ensures c.terms-2.ensures c.live-2.ensures
 
 pub loop-last-preserved : goal.loop-last-preserved
 loop-last-preserved g c =
@@ -25,18 +25,18 @@ loop-last-preserved g c =
     let t = c.terms.result.now in
     let live = c.live.result in
     let m = c.loop-last.month in
-    let r = c.fold_on-books.result in
+    let r = c.fold_on.new.books in
     let old = c.loop-last.ends.items in
     let before = c.loop-last.invariant in
-    let own = own_day t live c.last_day.result r c.fold_on-books.ensures.books in
+    let own = own_day t live c.last_day.result r c.fold_on.ensures.books in
     let day = own.0 in
     let later : m < c.month_of-last.result = search rules in
     let end = end_before_next m c.args.day (omega arith) in
     let next = ap last_day c.plus-month.ensures in
     let more = length-append old (r ∷ []) in
     let pushed = ap length c.push_reserved.ensures.items in
-    let is : r ≡ books_of a (last_day (month_of a.terms.boarded + length old)) = c.fold_on-books.ensures.books ∙ of_account a t live c.last_day.result c.terms.ensures c.live.ensures ∙ ap (books_of a) (c.last_day.ensures ∙ ap last_day (sym before.count)) in
-    let here = counted_of a t live c.loop-last.books.day c.terms.ensures c.live.ensures in
+    let is : r ≡ books_of a (last_day (month_of a.terms.boarded + length old)) = c.fold_on.ensures.books ∙ of_account a t live c.last_day.result c.terms.ensures c.live.ensures ∙ ap (books_of a) (c.last_day.ensures ∙ ap last_day (sym before.count)) in
+    let here = counted_of a t live c.loop-last.now.day c.terms.ensures c.live.ensures in
     let there = counted_of a t live c.last_day.result c.terms.ensures c.live.ensures in
     let last = ap (counted a.terms (live_of a)) (sym day) in
     record {
@@ -49,5 +49,5 @@ loop-last-preserved g c =
       len = omega arith;
       capacity = c.push_reserved.ensures.capacity ∙ before.capacity;
       ends = rw c.push_reserved.ensures.items (ends_pushed a old (length old) (length (old ++ r ∷ [])) r before.ends refl (omega arith) is);
-      steps = omega (arith, c.fold_on-books.ensures.steps, here, there, last, before.steps);
+      steps = omega (arith, c.fold_on.ensures.steps, here, there, last, before.steps);
     }

@@ -3,21 +3,21 @@ use Rattle.svc_base.specs.Calendar.{month_of, last_day}
 use Rattle.svc_spec.specs.Accounts.{live_of, books_of}
 use Rattle.svc_spec.specs.Months.{counted}
 use Rattle.svc_checkpoint.specs.Ends.{AreEnds}
-use Rattle.svc_checkpoint.proofs.ends.pushed.Given as goal
+use Rattle.svc_checkpoint.proofs.ends.push_on.Given as goal
 
 -- the books are those at the end of the month before, and the ends so far are those of the account
 abbrev pub invariant-loop-last : goal.invariant-loop-last
 invariant-loop-last g l = record {
   high : l.month ≤ l.last;
-  books : l.books ≡ books_of l.kept.account l.books.day;
-  since : l.kept.account.terms.boarded ≤ l.books.day;
-  until : l.books.day ≤ l.day;
-  here : l.books.day ≤ last_day l.month;
+  books : l.now ≡ books_of l.kept.account l.now.day;
+  since : l.kept.account.terms.boarded ≤ l.now.day;
+  until : l.now.day ≤ l.day;
+  here : l.now.day ≤ last_day l.month;
   count : month_of l.kept.account.terms.boarded + length l.ends.items ≡ l.month;
   len : vec_len l.ends + (l.last - l.month) ≤ vec_capacity l.fn.ends;
   capacity : vec_capacity l.ends ≡ vec_capacity l.fn.ends;
   ends : AreEnds l.kept.account l.ends.items (length l.ends.items);
-  steps : l.steps + counted l.kept.account.terms (live_of l.kept.account) l.fn.now.day ≡ l.fn.steps + counted l.kept.account.terms (live_of l.kept.account) l.books.day;
+  steps : l.steps + counted l.kept.account.terms (live_of l.kept.account) l.fn.now.day ≡ l.fn.steps + counted l.kept.account.terms (live_of l.kept.account) l.now.day;
 }
 
 abbrev pub decreases-loop-last : goal.decreases-loop-last
