@@ -14,3 +14,4 @@ pub mod WordLemmas
 pub mod ImportLemmas
 pub mod ReviewLemmas
 pub mod LinksLemmas
+pub mod FeedLemmas

@@ -13,6 +13,7 @@ ghost use Rattle.serv_top.specs.Stop.{status_of, stop_of};
 
 use crate::answering::answer_line;
 use crate::status::Status;
+use memchr::memchr;
 use serv_disk::{Disk, Failed, Sink, write_whole};
 use serv_machine::{Halt, Machine};
 use std::alloc::Global;
@@ -57,7 +58,7 @@ pub(crate) fn stop_at(halt: Halt) -> Stop
 fn line_feed_in(bytes: &[u8]) -> Option<usize>
     ensures { result ≡ position (λ b. b == 10) bytes.now }
 {
-    bytes.iter().position(|byte| *byte == b'\n')
+    memchr(b'\n', bytes)
 }
 
 /// The front of the line that has come so far, and the replies that are not written yet: after each line at

@@ -111,7 +111,7 @@ one_changed n id w (command.Retype i from kind) l is found = one_by id i w (afte
 one_before : (id : ℕ) (w v : World) (h : IsOneChange id w v) → position w (find_loan id w.loans) ≡ position_of w h.loan
 one_before id w v h = ap (position w) h.found
 
-one_later : (id : ℕ) (w v : World) (h : IsOneChange id w v) → position v (find_loan id v.loans) ≡ position_of v (h.change h.loan)
+pub one_later : (id : ℕ) (w v : World) (h : IsOneChange id w v) → position v (find_loan id v.loans) ≡ position_of v (h.change h.loan)
 one_later id w v h = ap (λ ls. position v (find_loan id ls)) h.loans ∙ ap (position v) (find_changed id h.change w.loans h.loan h.found h.keeps)
 
 pub one_rows : (n id : ℕ) (w v : World) → IsWorld n w → IsOneChange id w v → rows_made (n + 1) w v ≡ rows_of (n + 1) id (position w (find_loan id w.loans)).totals (position v (find_loan id v.loans)).totals
@@ -133,9 +133,9 @@ one_line id w v h =
 -- ---- what adding the rows of one loan asks
 
 -- the balances before a command are what the accounts hold
-balances : (account : CashAccount) (n : ℕ) (w : World) (rows : List Row) (custody : Custody) → IsCash n w rows custody → balance_of account rows ≡ total_by (holds account w) w.loans
-balances T n w rows custody h = h.t ∙ sym (total_by-same (holds T w) borrower_cash w.loans (λ k d lt. refl))
-balances P n w rows custody h = h.p ∙ sym (total_by-same (holds P w) (held_for w) w.loans (λ k d lt. refl))
+balances : (account : CashAccount) (n : ℕ) (w : World) (rows : List Row) (custody : Custody) (positions : List Position) → IsCash n w rows custody positions → balance_of account rows ≡ total_by (holds account w) w.loans
+balances T n w rows custody positions h = h.t ∙ sym (total_by-same (holds T w) borrower_cash w.loans (λ k d lt. refl))
+balances P n w rows custody positions h = h.p ∙ sym (total_by-same (holds P w) (held_for w) w.loans (λ k d lt. refl))
 
 earlier : (n : ℕ) (rows : List Row) → All (λ (r : Row). r.number ≤ n) rows → All (λ (r : Row). r.number < n + 1) rows
 earlier n rows h = λ k d lt. (let le : (get_or rows k d).number ≤ n = h k d lt in omega arith)
@@ -144,22 +144,22 @@ earlier n rows h = λ k d lt. (let le : (get_or rows k d).number ≤ n = h k d l
 Brings : CashAccount → ℕ → World → World → List Row → Type 0
 Brings account n w v rows = balance_of account (rows ++ rows_made (n + 1) w v) ≡ balance_of account rows +ℤ (total_by (holds account v) v.loans -ℤ total_by (holds account w) w.loans)
 
-balance_after : (account : CashAccount) (n id : ℕ) (w v : World) (rows : List Row) (custody : Custody) (x y : Totals) → IsWorld (n + 1) v → IsCash n w rows custody → rows_made (n + 1) w v ≡ rows_of (n + 1) id x y → Brings account n w v rows → IsBalance (balance_with account rows x y)
+balance_after : (account : CashAccount) (n id : ℕ) (w v : World) (rows : List Row) (custody : Custody) (positions : List Position) (x y : Totals) → IsWorld (n + 1) v → IsCash n w rows custody positions → rows_made (n + 1) w v ≡ rows_of (n + 1) id x y → Brings account n w v rows → IsBalance (balance_with account rows x y)
 unfolding Brings
-balance_after account n id w v rows custody x y later cash made brings =
-    let whole = balances account n w rows custody cash in
+balance_after account n id w v rows custody positions x y later cash made brings =
+    let whole = balances account n w rows custody positions cash in
     let by_rows = balance_rows account rows (n + 1) id x y in
     let same = ap (λ rs. balance_of account (rows ++ rs)) made in
     let is : total_by (holds account v) v.loans ≡ balance_with account rows x y = omega (arith, ints, whole, by_rows, same, brings) in
     subst IsBalance is (balance_within account v (limited_held (n + 1) v later) later.reports later.few)
 
-may_by : (n id : ℕ) (w v : World) (rows : List Row) (custody : Custody) (x y : Totals) → IsWorld (n + 1) v → IsCash n w rows custody → rows_made (n + 1) w v ≡ rows_of (n + 1) id x y → ((account : CashAccount) → Brings account n w v rows) → AreTotals x → AreTotals y → MayAppend (n + 1) id rows x y
-may_by n id w v rows custody x y later cash made brings old new = record {
+may_by : (n id : ℕ) (w v : World) (rows : List Row) (custody : Custody) (positions : List Position) (x y : Totals) → IsWorld (n + 1) v → IsCash n w rows custody positions → rows_made (n + 1) w v ≡ rows_of (n + 1) id x y → ((account : CashAccount) → Brings account n w v rows) → AreTotals x → AreTotals y → MayAppend (n + 1) id rows x y
+may_by n id w v rows custody positions x y later cash made brings old new = record {
   next = next_after (n + 1) id rows (earlier_before (n + 1) id rows (earlier n rows cash.numbers));
   old = old;
   new = new;
-  t = balance_after T n id w v rows custody x y later cash made (brings T);
-  p = balance_after P n id w v rows custody x y later cash made (brings P);
+  t = balance_after T n id w v rows custody positions x y later cash made (brings T);
+  p = balance_after P n id w v rows custody positions x y later cash made (brings P);
 }
 
 -- rows and line of a command on one loan, from its positions before and after it
@@ -168,16 +168,16 @@ pub record IsAdded (n id : ℕ) (w v : World) (rows : List Row) (x y : Position)
   pub made : rows_of (n + 1) id x.totals y.totals ≡ rows_made (n + 1) w v
   pub line : line_after (custody_of w) x y ≡ custody_of v
 
-one_added : (n id : ℕ) (w v : World) (rows : List Row) (custody : Custody) (x y : Position) → IsWorld n w → IsWorld (n + 1) v → IsCash n w rows custody → IsOneChange id w v → x ≡ position w (find_loan id w.loans) → y ≡ position v (find_loan id v.loans) → IsPosition x → IsPosition y → IsAdded n id w v rows x y
+one_added : (n id : ℕ) (w v : World) (rows : List Row) (custody : Custody) (positions : List Position) (x y : Position) → IsWorld n w → IsWorld (n + 1) v → IsCash n w rows custody positions → IsOneChange id w v → x ≡ position w (find_loan id w.loans) → y ≡ position v (find_loan id v.loans) → IsPosition x → IsPosition y → IsAdded n id w v rows x y
 unfolding Brings
-one_added n id w v rows custody x y is later cash h xe ye xw yw =
+one_added n id w v rows custody positions x y is later cash h xe ye xw yw =
     let made : rows_made (n + 1) w v ≡ rows_of (n + 1) id x.totals y.totals =
     one_rows n id w v is h
     ∙ ap (λ (z : Position). rows_of (n + 1) id z.totals (position v (find_loan id v.loans)).totals) (sym xe)
     ∙ ap (λ (z : Position). rows_of (n + 1) id x.totals z.totals) (sym ye) in
     let numbers : numbers_of v.loans ≡ numbers_of w.loans = ap numbers_of h.loans ∙ changed_numbers id h.change w.loans h.keeps in
     record {
-      may = may_by n id w v rows custody x.totals y.totals later cash made (λ account. rows_are_cash account (n + 1) w v rows is.rising numbers (accounts n w is) (accounts (n + 1) v later)) xw.totals yw.totals;
+      may = may_by n id w v rows custody positions x.totals y.totals later cash made (λ account. rows_are_cash account (n + 1) w v rows is.rising numbers (accounts n w is) (accounts (n + 1) v later)) xw.totals yw.totals;
       made = sym made;
       line = sym (one_line id w v h ∙ ap (λ z. line_after (custody_of w) z (position v (find_loan id v.loans))) (sym xe) ∙ ap (line_after (custody_of w) x) (sym ye));
     }
@@ -190,13 +190,13 @@ there P' id ks h = by (find_kept id ks) refl h
     by None e h = absurd h
     by (Some k) e h = (k.held, find-held ks id ∙ ap (option_map (λ (j : KeptLoan). j.held)) e)
 
-pub accepted_one : (n id : ℕ) (w v : World) (c : Command) (ks : List KeptLoan) (P' : KeptLoan → Type 0) (rows : List Row) (custody : Custody) (x y : Position) → IsWorld n w → IsCommand c → refusal_of n w c ≡ None → scope_of c ≡ scope.One id → w.loans ≡ held_in ks → OfLoan id ks P' → v ≡ after (n + 1) w c → IsCash n w rows custody → x ≡ position w (find_loan id w.loans) → y ≡ position v (find_loan id v.loans) → IsPosition x → IsPosition y → IsAdded n id w v rows x y
-accepted_one n id w v c ks P' rows custody x y is formed fresh one loans ready made cash xe ye xw yw =
+pub accepted_one : (n id : ℕ) (w v : World) (c : Command) (ks : List KeptLoan) (P' : KeptLoan → Type 0) (rows : List Row) (custody : Custody) (positions : List Position) (x y : Position) → IsWorld n w → IsCommand c → refusal_of n w c ≡ None → scope_of c ≡ scope.One id → w.loans ≡ held_in ks → OfLoan id ks P' → v ≡ after (n + 1) w c → IsCash n w rows custody positions → x ≡ position w (find_loan id w.loans) → y ≡ position v (find_loan id v.loans) → IsPosition x → IsPosition y → IsAdded n id w v rows x y
+accepted_one n id w v c ks P' rows custody positions x y is formed fresh one loans ready made cash xe ye xw yw =
     let l = there P' id ks ready in
     let found : find_loan id w.loans ≡ Some l.0 = ap (find_loan id) loans ∙ l.1 in
     let change = subst (IsOneChange id w) (sym made) (one_changed (n + 1) id w c l.0 one found) in
     let later = subst (IsWorld (n + 1)) (sym made) (accepted_keeps n w c is formed fresh) in
-    one_added n id w v rows custody x y is later cash change xe ye xw yw
+    one_added n id w v rows custody positions x y is later cash change xe ye xw yw
 
 pub later_world : (n : ℕ) (w v : World) (c : Command) → IsWorld n w → IsCommand c → refusal_of n w c ≡ None → v ≡ after (n + 1) w c → IsWorld (n + 1) v
 later_world n w v c is formed fresh made = subst (IsWorld (n + 1)) (sym made) (accepted_keeps n w c is formed fresh)
@@ -213,22 +213,22 @@ pub taken_on : (n id : ℕ) (w : World) (t : Terms) → refusal_of n w (command.
 unfolding after loans_after seals_after
 taken_on n id w t fresh = record { loans = refl; new = (boarding n id t w fresh).new; same = record { reports = refl; remitted = refl } }
 
-new_later : (n : ℕ) (l : Held) (w v : World) (h : IsTakenOn n l w v) → position v (find_loan l.id v.loans) ≡ position_of v l
+pub new_later : (n : ℕ) (l : Held) (w v : World) (h : IsTakenOn n l w v) → position v (find_loan l.id v.loans) ≡ position_of v l
 new_later n l w v h =
     ap (λ ls. position v (find_loan l.id ls)) h.loans
     ∙ ap (position v) (find_boarded l.id l w.loans h.new)
     ∙ (let is : (l.id == l.id) ≡ true = grind (arith, nat_tests) in ap (λ b. position v (if b then Some l else find_loan l.id w.loans)) is)
 
-new_added : (n : ℕ) (w v : World) (l : Held) (rows : List Row) (custody : Custody) (x y : Position) → IsWorld n w → IsWorld (n + 1) v → IsCash n w rows custody → IsTakenOn n l w v → x ≡ no_position → y ≡ position v (find_loan l.id v.loans) → IsPosition x → IsPosition y → IsAdded n l.id w v rows x y
+new_added : (n : ℕ) (w v : World) (l : Held) (rows : List Row) (custody : Custody) (positions : List Position) (x y : Position) → IsWorld n w → IsWorld (n + 1) v → IsCash n w rows custody positions → IsTakenOn n l w v → x ≡ no_position → y ≡ position v (find_loan l.id v.loans) → IsPosition x → IsPosition y → IsAdded n l.id w v rows x y
 unfolding Brings
-new_added n w v l rows custody x y is later cash h xe ye xw yw =
+new_added n w v l rows custody positions x y is later cash h xe ye xw yw =
     let made : rows_made (n + 1) w v ≡ rows_of (n + 1) l.id x.totals y.totals =
     ap (rows_between (n + 1) w v) h.loans
     ∙ rows_boarded (n + 1) w v l w.loans h.same (all_found w.loans is.rising) h.new
     ∙ ap (λ (z : Position). rows_of (n + 1) l.id z.totals (position_of v l).totals) (sym xe)
     ∙ ap (λ (z : Position). rows_of (n + 1) l.id x.totals z.totals) (sym (ye ∙ new_later n l w v h)) in
     record {
-      may = may_by n l.id w v rows custody x.totals y.totals later cash made (λ account. boarding_rows_are_cash account (n + 1) w v rows l is.rising h.loans h.new (accounts n w is) (accounts (n + 1) v later)) xw.totals yw.totals;
+      may = may_by n l.id w v rows custody positions x.totals y.totals later cash made (λ account. boarding_rows_are_cash account (n + 1) w v rows l is.rising h.loans h.new (accounts n w is) (accounts (n + 1) v later)) xw.totals yw.totals;
       made = sym made;
       line = sym (
           custody_is v
@@ -240,11 +240,11 @@ new_added n w v l rows custody x y is later cash h xe ye xw yw =
           );
     }
 
-pub accepted_new : (n id : ℕ) (w v : World) (t : Terms) (rows : List Row) (custody : Custody) (x y : Position) → IsWorld n w → IsCommand (command.Board id t) → refusal_of n w (command.Board id t) ≡ None → v ≡ after (n + 1) w (command.Board id t) → IsCash n w rows custody → x ≡ no_position → y ≡ position v (find_loan id v.loans) → IsPosition x → IsPosition y → IsAdded n id w v rows x y
-accepted_new n id w v t rows custody x y is formed fresh made cash xe ye xw yw =
+pub accepted_new : (n id : ℕ) (w v : World) (t : Terms) (rows : List Row) (custody : Custody) (positions : List Position) (x y : Position) → IsWorld n w → IsCommand (command.Board id t) → refusal_of n w (command.Board id t) ≡ None → v ≡ after (n + 1) w (command.Board id t) → IsCash n w rows custody positions → x ≡ no_position → y ≡ position v (find_loan id v.loans) → IsPosition x → IsPosition y → IsAdded n id w v rows x y
+accepted_new n id w v t rows custody positions x y is formed fresh made cash xe ye xw yw =
     let later = later_world n w v (command.Board id t) is formed fresh made in
     let new = subst (IsTakenOn n (boarded id t w.today) w) (sym made) (taken_on n id w t fresh) in
-    new_added n w v (boarded id t w.today) rows custody x y is later cash new xe ye xw yw
+    new_added n w v (boarded id t w.today) rows custody positions x y is later cash new xe ye xw yw
 
 -- ---- a command on all loans
 
@@ -271,14 +271,14 @@ every_numbers n w (command.Retype i from kind) is = absurd (cc)
 totals_cash : (account : CashAccount) (n : ℕ) (w : World) → IsWorld n w → total_by (cash_of account) (map (totals_of w) w.loans) ≡ total_by (holds account w) w.loans
 totals_cash account n w is = total_by-map (cash_of account) (totals_of w) w.loans ∙ held_sum account w w.loans (accounts n w is)
 
-may_append_all : (n : ℕ) (w v : World) (rows : List Row) (custody : Custody) → IsWorld n w → IsWorld (n + 1) v → IsCash n w rows custody → numbers_of v.loans ≡ numbers_of w.loans → MayAppendAll (n + 1) v (map (totals_of w) w.loans) rows
-may_append_all n w v rows custody is later cash numbers = record {
+may_append_all : (n : ℕ) (w v : World) (rows : List Row) (custody : Custody) (positions : List Position) → IsWorld n w → IsWorld (n + 1) v → IsCash n w rows custody positions → numbers_of v.loans ≡ numbers_of w.loans → MayAppendAll (n + 1) v (map (totals_of w) w.loans) rows
+may_append_all n w v rows custody positions is later cash numbers = record {
   count = length-map w.loans (totals_of w) ∙ sym (length_by v.loans w.loans numbers);
   rising = later.rising;
   earlier = earlier n rows cash.numbers;
   each = All-map AreTotals (totals_of w) w.loans (λ k d lt. totals_within w _ (limited_held n w is k d lt) is.reports);
   cash = λ account. All-map (IsCashOf account) (totals_of w) w.loans (λ k d lt. cash_within account w _ (limited_held n w is k d lt) is.reports);
-  balances = λ account. balances account n w rows custody cash ∙ sym (totals_cash account n w is);
+  balances = λ account. balances account n w rows custody positions cash ∙ sym (totals_cash account n w is);
 }
 
 -- what adding the rows of a command on all loans asks, and what it leaves
@@ -288,13 +288,13 @@ pub record AreAdded (n : ℕ) (w v : World) (rows : List Row) (xs : List Totals)
   pub made : rows_along (n + 1) v xs v.loans ≡ rows_made (n + 1) w v
   pub count : length v.loans ≡ length w.loans
 
-pub accepted_all : (n : ℕ) (w v : World) (c : Command) (rows : List Row) (custody : Custody) (xs : List Totals) → IsWorld n w → IsCommand c → refusal_of n w c ≡ None → scope_of c ≡ scope.Every → v ≡ after (n + 1) w c → IsCash n w rows custody → xs ≡ map (totals_of w) w.loans → AreAdded n w v rows xs
-accepted_all n w v c rows custody xs is formed fresh every made cash totals =
+pub accepted_all : (n : ℕ) (w v : World) (c : Command) (rows : List Row) (custody : Custody) (positions : List Position) (xs : List Totals) → IsWorld n w → IsCommand c → refusal_of n w c ≡ None → scope_of c ≡ scope.Every → v ≡ after (n + 1) w c → IsCash n w rows custody positions → xs ≡ map (totals_of w) w.loans → AreAdded n w v rows xs
+accepted_all n w v c rows custody positions xs is formed fresh every made cash totals =
     let later = later_world n w v c is formed fresh made in
     let numbers : numbers_of v.loans ≡ numbers_of w.loans = ap (λ (x : World). numbers_of x.loans) made ∙ every_numbers (n + 1) w c every in
     record {
       later = later;
-      may = subst (λ ts. MayAppendAll (n + 1) v ts rows) (sym totals) (may_append_all n w v rows custody is later cash numbers);
+      may = subst (λ ts. MayAppendAll (n + 1) v ts rows) (sym totals) (may_append_all n w v rows custody positions is later cash numbers);
       made = ap (λ ts. rows_along (n + 1) v ts v.loans) totals ∙ along_is (n + 1) w v w.loans v.loans numbers (all_found w.loans is.rising);
       count = length_by v.loans w.loans numbers;
     }

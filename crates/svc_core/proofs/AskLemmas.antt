@@ -1,6 +1,6 @@
 -- What the answers to queries stand on.
-use Rattle.std.proofs.Common.{◌≡◌, ℕ, suc, ◌+◌, ◌-◌, ◌≤◌, ◌<◌, ◌^◌, true, false, cond, List, [], ◌∷◌, length, get_or, w64, to_z, of_z, arith, refl, sym, ap, subst, ◌∙◌}
-use Rattle.std.specs.Prelude.{◌==◌, is_some, Option, Some, None, IfSome, ℤ, pos, ◌≤ℤ◌, int_lt, if◌then◌else◌}
+use Rattle.std.proofs.Common.{◌≡◌, ℕ, suc, ◌+◌, ◌-◌, ◌≤◌, ◌<◌, true, false, cond, List, [], ◌∷◌, length, get_or, arith, refl, sym, ap, subst, ◌∙◌}
+use Rattle.std.specs.Prelude.{◌==◌, is_some, Option, Some, None, IfSome, pos, int_lt, if◌then◌else◌}
 use Rattle.std.specs.Option.{option_map}
 use Rattle.std.proofs.lemmas.Int.{ints}
 use Rattle.std.proofs.lemmas.Bool.Decides.{nat_tests}
@@ -11,7 +11,6 @@ use Rattle.svc_base.proofs.MoneyLemmas.{month_interest_low, month_interest_most}
 use Rattle.svc_types.specs.declared.terms.Terms.{Terms}
 use Rattle.svc_types.specs.Terms.{IsSound}
 use Rattle.svc_types.specs.declared.books.Books.{Books}
-use Rattle.svc_types.specs.declared.escrow.Figures.{Figures}
 use Rattle.svc_spec.specs.Books.{AreBooks}
 use Rattle.svc_spec.specs.Installments.{installment, open_installment, due_month}
 use Rattle.svc_spec.proofs.InstallmentLemmas.{IsBalance, principal_part_bounds, escrow_part_bounds}
@@ -19,20 +18,14 @@ use Rattle.period_adjust.specs.Sealed.{Sealed, State}
 use Rattle.period_adjust.specs.Conditions.{first_month, last_month}
 use Rattle.period_adjust.specs.Kept.{AreConsecutive, month_after}
 use Rattle.period_adjust.proofs.KeptLemmas.{month_after-last}
-use Rattle.escrow_analysis.specs.declared.analysis.Analysis.{Analysis}
-use Rattle.escrow_resolve.specs.declared.analysis.Parts.{Parts}
-use Rattle.escrow_resolve.specs.Parts.{AreParts}
-use Rattle.svc_world.specs.Held.{Held, find_loan, books_now}
-use Rattle.svc_world.specs.Analysing.{year_begins, analysis_of, parts_of, asked_figures}
+use Rattle.svc_world.specs.Held.{Held, find_loan}
 use Rattle.svc_world.specs.Judging.{report_for}
 use Rattle.svc_world.specs.Worlds.{IsHeld}
 use Rattle.svc_loan.specs.Kept.{KeptLoan}
 use Rattle.svc_loan.specs.Loans.{KeptLoans, find_kept, held_in}
-use Rattle.svc_loan.proofs.ClosedLemmas.{cents_same}
 use Rattle.svc_core.specs.Asking.{AreOnDay, IsPayable}
 use Rattle.svc_core.specs.State.{IsState}
 use Rattle.svc_core.proofs.RuleLemmas.{find-held}
-use Rattle.svc_core.proofs.AnalysingLemmas.{escrow_same}
 
 -- ---- the whole of an installment
 

@@ -1,11 +1,11 @@
 -- Where the cost of a call about a month is the cost of that month, and the facts of a month cost nothing, what a
 -- request costs lies within the bound on its steps.
-use Rattle.std.proofs.Common.{◌≡◌, ℕ, zero, suc, ◌+◌, ◌-◌, ◌*◌, ◌≤◌, ◌<◌, Bool, true, false, cond, List, [], ◌∷◌, ◌++◌, length, get_or, arith, refl, sym, ap, subst, ◌∙◌}
-use Rattle.std.specs.Prelude.{Option, Some, None, ℤ, nat_le, if◌then◌else◌}
+use Rattle.std.proofs.Common.{◌≡◌, ℕ, ◌+◌, ◌-◌, ◌≤◌, Bool, true, false, cond, List, [], ◌∷◌, length, get_or, arith, refl, sym, ap, subst, ◌∙◌}
+use Rattle.std.specs.Prelude.{Some, None, ℤ, nat_le, if◌then◌else◌}
 use Rattle.std.specs.List.{filter, sum_by, range_with_len}
 use Rattle.std.specs.Option.{option_map_or}
 use Rattle.std.proofs.lemmas.List.Sums.{sum_by-cons}
-use Rattle.svc_base.specs.Calendar.{IsDay, month_of}
+use Rattle.svc_base.specs.Calendar.{month_of}
 use Rattle.svc_types.specs.declared.account.Act.{Act}
 use Rattle.svc_types.specs.declared.account.Act.TheVariants.{Curtail, Payoff}
 use Rattle.svc_types.specs.declared.account.Entry.{Entry}
@@ -14,27 +14,26 @@ use Rattle.svc_types.specs.declared.requests.Command.TheVariants as command
 use Rattle.svc_types.specs.declared.requests.Query.{Query}
 use Rattle.svc_types.specs.declared.requests.Query.TheVariants as query
 use Rattle.svc_types.specs.declared.replies.Refusal.TheVariants.{KeyReused}
-use Rattle.svc_types.specs.Requests.{IsCommand}
 use Rattle.svc_types.specs.Live.{is_before, placed}
 use Rattle.svc_spec.specs.Accounts.{Account, IsAccount, MayPost, begun, posted, live_of, entry_of}
 use Rattle.svc_spec.specs.Books.{IsAct}
-use Rattle.svc_spec.specs.Months.{books_at_end, entries_from, months_from, open_by, cost_of_month}
+use Rattle.svc_spec.specs.Months.{books_at_end, entries_from, open_by, cost_of_month}
 use Rattle.svc_spec.proofs.AccountLemmas.{live_after_post}
 use Rattle.period_adjust.specs.Conditions.{last_month}
 use Rattle.period_adjust.specs.Kept.{month_after}
 use Rattle.svc_world.specs.Held.{Held, find_loan, changed, with_entry, boarded_month}
-use Rattle.svc_world.specs.World.{World, Accepted, accepted, entry, loans_after, after, world}
-use Rattle.svc_world.specs.Worlds.{IsWorld, IsHeld}
-use Rattle.svc_world.specs.Refusals.{Case, refusal_of, dated_cases, over_principal, payoff_short}
+use Rattle.svc_world.specs.World.{World, Accepted, entry, loans_after, after, world}
+use Rattle.svc_world.specs.Worlds.{IsWorld}
+use Rattle.svc_world.specs.Refusals.{refusal_of, dated_cases, over_principal, payoff_short}
 use Rattle.svc_world.specs.Judging.{Judgement, Kept, Refused, Fresh, Known, known, judged, IsHistory}
 use Rattle.svc_types.specs.Same.{is_same}
-use Rattle.svc_core.specs.Bound.{cost_for, cost_for_all, bound_of, bound_refused, bound_fresh, bound_by, entry_cost, cost_for_entry, step_bound, query_bound}
+use Rattle.svc_core.specs.Bound.{cost_for, cost_for_all, bound_refused, bound_fresh, bound_by, entry_cost, cost_for_entry, step_bound, query_bound}
 use Rattle.svc_world.proofs.AgreeLemmas.{posted_agrees}
-use Rattle.svc_world.proofs.LoanListLemmas.{KeepsNumber, find_changed, found_id}
-use Rattle.svc_world.proofs.CaseLemmas.{IsDated, dated}
+use Rattle.svc_world.proofs.LoanListLemmas.{KeepsNumber, find_changed}
+use Rattle.svc_world.proofs.CaseLemmas.{dated}
 use Rattle.svc_world.proofs.NamedLoans.{named_loan, asked}
 use Rattle.svc_world.proofs.EntryWorlds.{entered_sum}
-use Rattle.svc_world.proofs.HistoryLemmas.{is_world, world-push, fresh_none}
+use Rattle.svc_world.proofs.HistoryLemmas.{is_world, fresh_none}
 use Rattle.svc_loan.specs.Closed.{months_cost}
 use Rattle.svc_core.specs.Costs.{asking_month, refusing_cost, preparing_cost, changing_cost, entering_cost, reversing_cost, advancing_cost, closing_cost, accepting_cost, asking_cost}
 use Rattle.svc_core.specs.Core.{unknown_cost, where_unknown, judging_cost, accepted_cost, where_fresh, submitting_cost}

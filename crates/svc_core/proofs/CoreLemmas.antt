@@ -1,5 +1,5 @@
 -- A history stays one with a fresh command more, and what is known of the rows of a history.
-use Rattle.std.proofs.Common.{◌≡◌, ℕ, zero, suc, ◌+◌, ◌≤◌, ◌<◌, Bool, true, false, cond, List, [], ◌∷◌, ◌++◌, length, get_or, arith, refl, sym, ap, subst, ◌∙◌, append-nil, append_assoc}
+use Rattle.std.proofs.Common.{◌≡◌, ℕ, ◌+◌, ◌≤◌, true, false, List, [], ◌∷◌, ◌++◌, length, arith, refl, sym, subst, append-nil, append_assoc}
 use Rattle.std.specs.Prelude.{Option, Some, None, IfSome, if◌then◌else◌, pos, ◌-ℤ◌}
 use Rattle.std.specs.Ordering.{int_eq}
 use Rattle.std.specs.List.{All, filter_map, cons_option}
@@ -8,16 +8,16 @@ use Rattle.svc_types.specs.declared.requests.Command.{Command}
 use Rattle.svc_types.specs.Keys.{IsKey}
 use Rattle.svc_types.specs.Requests.{IsCommand}
 use Rattle.custodial_book.specs.declared.part.Part.{Part}
-use Rattle.custodial_book.specs.declared.part.Account.TheVariants.{T, P}
 use Rattle.custodial_book.specs.declared.row.Row.{Row}
 use Rattle.custodial_book.specs.declared.row.Totals.{Totals}
 use Rattle.custodial_book.specs.Parts.{parts}
 use Rattle.custodial_book.specs.Rows.{row_of, rows_of, total_of}
 use Rattle.svc_world.specs.Held.{Held, find_loan}
 use Rattle.svc_world.specs.World.{World, Accepted, accepted, first_world, after, world}
-use Rattle.svc_world.specs.Judging.{judged, Fresh, AreWellFormed, IsHistoryFrom, IsHistory}
+use Rattle.svc_world.specs.Judging.{judged, Fresh, IsHistoryFrom, IsHistory}
 use Rattle.svc_world.specs.Custody.{totals_of, totals_before, rows_between, rows_made, rows_from, rows_in, custody_of}
 use Rattle.svc_world.proofs.LawLemmas.{are_lawful}
+use Rattle.svc_core.specs.Positions.{positions_of}
 use Rattle.svc_core.specs.Rows.{IsCash}
 
 -- ---- one fresh command more
@@ -70,7 +70,7 @@ from_numbers most n w (a ∷ h) le =
     All-append (λ (r : Row). r.number ≤ most) (rows_made (n + 1) w later) (rows_from (n + 1) later h)
     (between_numbers (λ k. k ≤ most) (n + 1) w later later.loans (omega arith)) (from_numbers most (n + 1) later h (omega arith))
 
-pub cash_is : (h : List Accepted) → IsHistory h → IsCash (length h) (world h) (rows_in h) (custody_of (world h))
+pub cash_is : (h : List Accepted) → IsHistory h → IsCash (length h) (world h) (rows_in h) (custody_of (world h)) (positions_of (world h))
 cash_is h is =
     let laws = are_lawful h is in
-    record { line = refl; numbers = from_numbers (length h) 0 first_world h (omega arith); t = laws.t; p = laws.p }
+    record { line = refl; places = refl; numbers = from_numbers (length h) 0 first_world h (omega arith); t = laws.t; p = laws.p }

@@ -28,3 +28,4 @@ pub mod AppendLemmas
 pub mod PositionLemmas
 pub mod LineLemmas
 pub mod AcceptLemmas
+pub mod PlaceLemmas

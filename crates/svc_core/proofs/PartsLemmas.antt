@@ -17,7 +17,7 @@ use Rattle.svc_world.specs.declared.custody.Custody.{Custody}
 use Rattle.svc_world.specs.World.{World, Accepted, accepted, first_world, after, world_from, world}
 use Rattle.svc_world.specs.Worlds.{IsWorld}
 use Rattle.svc_world.specs.Refusals.{full_of_commands, cases_by_command, refusal_of}
-use Rattle.svc_world.specs.Judging.{Judgement, Kept, Refused, Fresh, Known, by_refusal, by_key, is_key, known_from, known, judged, extra_of, reply_of, next_reply, IsHistory}
+use Rattle.svc_world.specs.Judging.{Kept, Refused, Fresh, Known, by_refusal, by_key, is_key, known_from, known, judged, extra_of, reply_of, next_reply, IsHistory}
 use Rattle.svc_world.specs.Custody.{rows_made, rows_from, rows_in, custody_of}
 use Rattle.svc_world.proofs.HistoryLemmas.{is_world, world-push, rows-push, fresh_none}
 use Rattle.svc_world.proofs.CaseLemmas.{past}
@@ -26,6 +26,8 @@ use Rattle.svc_loan.specs.Kept.{KeptLoan}
 use Rattle.svc_loan.specs.Loans.{KeptLoans, held_in}
 use Rattle.svc_core.specs.Cash.{IsKeptIn}
 use Rattle.svc_core.specs.State.{world_of, IsState}
+use Rattle.svc_core.specs.declared.position.Position.{Position}
+use Rattle.svc_core.specs.Positions.{positions_of}
 use Rattle.svc_core.specs.Rows.{IsCash}
 use Rattle.svc_core.specs.Core.{AreParts, IsPrepared, unknown_cost, where_unknown, judging_cost}
 use Rattle.svc_core.specs.Costs.{refusing_cost, preparing_cost}
@@ -46,25 +48,26 @@ judged_known h key c k is = ap (by_key h c) is
 
 -- ---- what the parts are
 
-pub state_is : (posted : PostedCommands) (n today : ℕ) (loans : KeptLoans) (seals : State) (rows : List Row) (custody : Custody) → AreParts posted today loans seals rows custody → n ≡ length posted.history → IsState n today loans seals
-state_is posted n today loans seals rows custody h is =
+pub state_is : (posted : PostedCommands) (n today : ℕ) (loans : KeptLoans) (seals : State) (rows : List Row) (custody : Custody) (positions : List Position) → AreParts posted today loans seals rows custody positions → n ≡ length posted.history → IsState n today loans seals
+state_is posted n today loans seals rows custody positions h is =
     let world_is : IsWorld n (world posted.history) = subst (λ k. IsWorld k (world posted.history)) (sym is) (is_world posted.history h.history) in
     record {
       world = subst (λ w. IsWorld n w) (sym h.state) world_is;
       kept = subst (λ w. All (IsKeptIn w) loans.loans) (sym h.state) h.kept;
     }
 
-pub cash_of_parts : (posted : PostedCommands) (n today : ℕ) (loans : KeptLoans) (seals : State) (rows : List Row) (custody : Custody) → AreParts posted today loans seals rows custody → n ≡ length posted.history → IsCash n (world_of today loans seals) rows custody
-cash_of_parts posted n today loans seals rows custody h is =
+pub cash_of_parts : (posted : PostedCommands) (n today : ℕ) (loans : KeptLoans) (seals : State) (rows : List Row) (custody : Custody) (positions : List Position) → AreParts posted today loans seals rows custody positions → n ≡ length posted.history → IsCash n (world_of today loans seals) rows custody positions
+cash_of_parts posted n today loans seals rows custody positions h is =
     let c = cash_is posted.history h.history in
-    let c1 : IsCash n (world posted.history) (rows_in posted.history) (custody_of (world posted.history)) = subst (λ k. IsCash k (world posted.history) (rows_in posted.history) (custody_of (world posted.history))) (sym is) c in
-    let c2 = subst (λ r. IsCash n (world posted.history) r (custody_of (world posted.history))) (sym h.book) c1 in
-    let c3 = subst (λ x. IsCash n (world posted.history) rows x) (sym h.line) c2 in
-    subst (λ w. IsCash n w rows custody) (sym h.state) c3
+    let c1 : IsCash n (world posted.history) (rows_in posted.history) (custody_of (world posted.history)) (positions_of (world posted.history)) = subst (λ k. IsCash k (world posted.history) (rows_in posted.history) (custody_of (world posted.history)) (positions_of (world posted.history))) (sym is) c in
+    let c2 = subst (λ r. IsCash n (world posted.history) r (custody_of (world posted.history)) (positions_of (world posted.history))) (sym h.book) c1 in
+    let c3 = subst (λ x. IsCash n (world posted.history) rows x (positions_of (world posted.history))) (sym h.line) c2 in
+    let c4 = subst (λ xs. IsCash n (world posted.history) rows custody xs) (sym h.places) c3 in
+    subst (λ w. IsCash n w rows custody positions) (sym h.state) c4
 
 -- ---- one command more
 
-pub record IsMore (posted more : PostedCommands) (today today' : ℕ) (loans loans' : KeptLoans) (seals seals' : State) (rows rows' : List Row) (custody' : Custody) (key : List ℕ) (c : Command) (extra : Extra) : Type 0 where
+pub record IsMore (posted more : PostedCommands) (today today' : ℕ) (loans loans' : KeptLoans) (seals seals' : State) (rows rows' : List Row) (custody' : Custody) (positions' : List Position) (key : List ℕ) (c : Command) (extra : Extra) : Type 0 where
   pub key_formed : IsKey key
   pub formed : IsCommand c
   pub fresh : judged posted.history key c ≡ Fresh
@@ -75,14 +78,15 @@ pub record IsMore (posted more : PostedCommands) (today today' : ℕ) (loans loa
   pub kept : All (IsKeptIn (world_of today' loans' seals')) loans'.loans
   pub rows_are : rows' ≡ rows ++ rows_made (length posted.history + 1) (world_of today loans seals) (world_of today' loans' seals')
   pub line : custody' ≡ custody_of (world_of today' loans' seals')
+  pub places : positions' ≡ positions_of (world_of today' loans' seals')
 
-pub next_is : (posted more : PostedCommands) (today today' : ℕ) (loans loans' : KeptLoans) (seals seals' : State) (rows rows' : List Row) (custody custody' : Custody) (key : List ℕ) (c : Command) (extra : Extra) → AreParts posted today loans seals rows custody → IsMore posted more today today' loans loans' seals seals' rows rows' custody' key c extra → reply (length posted.history + 1) extra ≡ next_reply posted.history c
+pub next_is : (posted more : PostedCommands) (today today' : ℕ) (loans loans' : KeptLoans) (seals seals' : State) (rows rows' : List Row) (custody custody' : Custody) (positions positions' : List Position) (key : List ℕ) (c : Command) (extra : Extra) → AreParts posted today loans seals rows custody positions → IsMore posted more today today' loans loans' seals seals' rows rows' custody' positions' key c extra → reply (length posted.history + 1) extra ≡ next_reply posted.history c
 unfolding reply_of
-next_is posted more today today' loans loans' seals seals' rows rows' custody custody' key c extra h m =
+next_is posted more today today' loans loans' seals seals' rows rows' custody custody' positions positions' key c extra h m =
     ap (reply (length posted.history + 1)) (m.extra_is ∙ ap (λ w. extra_of w (after (length posted.history + 1) w c) c) h.state)
 
-pub parts_more : (posted more : PostedCommands) (today today' : ℕ) (loans loans' : KeptLoans) (seals seals' : State) (rows rows' : List Row) (custody custody' : Custody) (key : List ℕ) (c : Command) (extra : Extra) → AreParts posted today loans seals rows custody → IsMore posted more today today' loans loans' seals seals' rows rows' custody' key c extra → AreParts more today' loans' seals' rows' custody'
-parts_more posted more today today' loans loans' seals seals' rows rows' custody custody' key c extra h m =
+pub parts_more : (posted more : PostedCommands) (today today' : ℕ) (loans loans' : KeptLoans) (seals seals' : State) (rows rows' : List Row) (custody custody' : Custody) (positions positions' : List Position) (key : List ℕ) (c : Command) (extra : Extra) → AreParts posted today loans seals rows custody positions → IsMore posted more today today' loans loans' seals seals' rows rows' custody' positions' key c extra → AreParts more today' loans' seals' rows' custody' positions'
+parts_more posted more today today' loans loans' seals seals' rows rows' custody custody' positions positions' key c extra h m =
     let old = posted.history in
     let n = length old + 1 in
     let w' = world_of today' loans' seals' in
@@ -90,7 +94,7 @@ parts_more posted more today today' loans loans' seals seals' rows rows' custody
     let next : w' ≡ world (old ++ accepted key c ∷ []) = made ∙ sym (world-push old (accepted key c)) in
     let now : w' ≡ world more.history = next ∙ ap world (sym m.history) in
     let said : more.replies ≡ replies_to (old ++ accepted key c ∷ []) =
-    m.replies ∙ ap (λ r. posted.replies ++ r ∷ []) (next_is posted more today today' loans loans' seals seals' rows rows' custody custody' key c extra h m)
+    m.replies ∙ ap (λ r. posted.replies ++ r ∷ []) (next_is posted more today today' loans loans' seals seals' rows rows' custody custody' positions positions' key c extra h m)
     ∙ ap (λ rs. rs ++ next_reply old c ∷ []) h.replies ∙ sym (replies_next old (accepted key c)) in
     let moved : rows' ≡ rows_in (old ++ accepted key c ∷ []) =
     m.rows_are ∙ ap (λ x. rows ++ rows_made n x w') h.state ∙ ap (λ x. rows ++ rows_made n (world old) x) made
@@ -102,6 +106,7 @@ parts_more posted more today today' loans loans' seals seals' rows rows' custody
       kept = subst (λ w. All (IsKeptIn w) loans'.loans) now m.kept;
       book = moved ∙ ap rows_in (sym m.history);
       line = m.line ∙ ap custody_of now;
+      places = m.places ∙ ap positions_of now;
     }
 
 -- ---- before the first command
@@ -112,9 +117,9 @@ nothing_held = record { t = pos 0; p = pos 0; suspense = pos 0; escrow = pos 0; 
 abbrev pub world_from_parts : ℕ → List KeptLoan → Reporting → Option ℕ → World
 world_from_parts today loans seals remitted = record { today = today; loans = held_in loans; seals = seals; remitted = remitted }
 
-pub parts_first : (posted : PostedCommands) (today : ℕ) (loans : KeptLoans) (seals : State) (rows : List Row) → posted.history ≡ [] → posted.replies ≡ [] → today ≡ first_world.today → loans.loans ≡ [] → seals.reporting ≡ reporting [] [] → seals.remitted ≡ None → rows ≡ [] → AreParts posted today loans seals rows nothing_held
+pub parts_first : (posted : PostedCommands) (today : ℕ) (loans : KeptLoans) (seals : State) (rows : List Row) (positions : List Position) → posted.history ≡ [] → posted.replies ≡ [] → today ≡ first_world.today → loans.loans ≡ [] → seals.reporting ≡ reporting [] [] → seals.remitted ≡ None → rows ≡ [] → positions ≡ [] → AreParts posted today loans seals rows nothing_held positions
 unfolding world_from replies_from rows_from custody_of
-parts_first posted today loans seals rows h r d l s m b =
+parts_first posted today loans seals rows positions h r d l s m b p =
     record {
       history = subst IsHistory (sym h) empty_history;
       replies = r ∙ ap replies_to (sym h);
@@ -123,6 +128,7 @@ parts_first posted today loans seals rows h r d l s m b =
       kept = subst (λ ks. All (IsKeptIn (world posted.history)) ks) (sym l) (All-nil (IsKeptIn (world posted.history)));
       book = b ∙ ap rows_in (sym h);
       line = ap (λ x. custody_of (world x)) (sym h);
+      places = p ∙ ap (λ x. positions_of (world x)) (sym h);
     }
 
 -- ---- a fresh command has a key that no other has, and there is a number for it
@@ -152,35 +158,35 @@ pub fresh_few : (h : List Accepted) (key : List ℕ) (c : Command) → judged h 
 unfolding refusal_of
 fresh_few h key c e = not_full (length h) (past (full_of_commands (length h)) (cases_by_command (world h) c) (fresh_none h key c e)).no
 
-pub count_few : (posted : PostedCommands) (n today : ℕ) (loans : KeptLoans) (seals : State) (rows : List Row) (custody : Custody) → AreParts posted today loans seals rows custody → n ≡ length posted.history → n ≤ 1_000_000
-count_few posted n today loans seals rows custody h is = (state_is posted n today loans seals rows custody h is).world.count
+pub count_few : (posted : PostedCommands) (n today : ℕ) (loans : KeptLoans) (seals : State) (rows : List Row) (custody : Custody) (positions : List Position) → AreParts posted today loans seals rows custody positions → n ≡ length posted.history → n ≤ 1_000_000
+count_few posted n today loans seals rows custody positions h is = (state_is posted n today loans seals rows custody positions h is).world.count
 
 -- ---- the verdict on a command whose key is new
 
 -- the rules are those of the history
-pub judged_here : (posted : PostedCommands) (n today : ℕ) (loans : KeptLoans) (seals : State) (rows : List Row) (custody : Custody) (key : List ℕ) (c : Command) (o : Option Refusal) → AreParts posted today loans seals rows custody → n ≡ length posted.history → known posted.history key ≡ None → o ≡ refusal_of n (world_of today loans seals) c → judged posted.history key c ≡ by_refusal o
-judged_here posted n today loans seals rows custody key c o h is none cause =
+pub judged_here : (posted : PostedCommands) (n today : ℕ) (loans : KeptLoans) (seals : State) (rows : List Row) (custody : Custody) (positions : List Position) (key : List ℕ) (c : Command) (o : Option Refusal) → AreParts posted today loans seals rows custody positions → n ≡ length posted.history → known posted.history key ≡ None → o ≡ refusal_of n (world_of today loans seals) c → judged posted.history key c ≡ by_refusal o
+judged_here posted n today loans seals rows custody positions key c o h is none cause =
     judged_new posted.history key c o none (ap (λ k. refusal_of k (world posted.history) c) (sym is) ∙ ap (λ w. refusal_of n w c) (sym h.state) ∙ sym cause)
 
-pub fresh_here : (posted : PostedCommands) (n today : ℕ) (loans : KeptLoans) (seals : State) (rows : List Row) (custody : Custody) (key : List ℕ) (c : Command) → AreParts posted today loans seals rows custody → n ≡ length posted.history → judged posted.history key c ≡ Fresh → refusal_of n (world_of today loans seals) c ≡ None
-fresh_here posted n today loans seals rows custody key c h is fresh =
+pub fresh_here : (posted : PostedCommands) (n today : ℕ) (loans : KeptLoans) (seals : State) (rows : List Row) (custody : Custody) (positions : List Position) (key : List ℕ) (c : Command) → AreParts posted today loans seals rows custody positions → n ≡ length posted.history → judged posted.history key c ≡ Fresh → refusal_of n (world_of today loans seals) c ≡ None
+fresh_here posted n today loans seals rows custody positions key c h is fresh =
     ap (λ w. refusal_of n w c) h.state ∙ ap (λ k. refusal_of k (world posted.history) c) is ∙ fresh_none posted.history key c fresh
 
 -- what was counted is what it costs
-pub refused_steps : (cost : Account → ℕ → ℕ) (posted : PostedCommands) (today : ℕ) (loans : KeptLoans) (seals : State) (rows : List Row) (custody : Custody) (key : List ℕ) (c : Command) (why : Refusal) (s s' : ℕ) → AreParts posted today loans seals rows custody → judged posted.history key c ≡ Refused why → s' ≤ s + refusing_cost cost (world_of today loans seals) c → s' ≤ s + unknown_cost cost (world posted.history) c (judged posted.history key c)
-refused_steps cost posted today loans seals rows custody key c why s s' h is le =
+pub refused_steps : (cost : Account → ℕ → ℕ) (posted : PostedCommands) (today : ℕ) (loans : KeptLoans) (seals : State) (rows : List Row) (custody : Custody) (positions : List Position) (key : List ℕ) (c : Command) (why : Refusal) (s s' : ℕ) → AreParts posted today loans seals rows custody positions → judged posted.history key c ≡ Refused why → s' ≤ s + refusing_cost cost (world_of today loans seals) c → s' ≤ s + unknown_cost cost (world posted.history) c (judged posted.history key c)
+refused_steps cost posted today loans seals rows custody positions key c why s s' h is le =
     let w : refusing_cost cost (world_of today loans seals) c ≡ refusing_cost cost (world posted.history) c = ap (λ x. refusing_cost cost x c) h.state in
     subst (λ j. s' ≤ s + unknown_cost cost (world posted.history) c j) (sym is) (omega (arith, le, w))
 
-pub fresh_steps : (cost : Account → ℕ → ℕ) (posted : PostedCommands) (today : ℕ) (loans : KeptLoans) (seals : State) (rows : List Row) (custody : Custody) (key : List ℕ) (c : Command) (s s' : ℕ) → AreParts posted today loans seals rows custody → judged posted.history key c ≡ Fresh → s' ≤ s + refusing_cost cost (world_of today loans seals) c + preparing_cost cost (world_of today loans seals) c → s' ≤ s + unknown_cost cost (world posted.history) c (judged posted.history key c)
-fresh_steps cost posted today loans seals rows custody key c s s' h is le =
+pub fresh_steps : (cost : Account → ℕ → ℕ) (posted : PostedCommands) (today : ℕ) (loans : KeptLoans) (seals : State) (rows : List Row) (custody : Custody) (positions : List Position) (key : List ℕ) (c : Command) (s s' : ℕ) → AreParts posted today loans seals rows custody positions → judged posted.history key c ≡ Fresh → s' ≤ s + refusing_cost cost (world_of today loans seals) c + preparing_cost cost (world_of today loans seals) c → s' ≤ s + unknown_cost cost (world posted.history) c (judged posted.history key c)
+fresh_steps cost posted today loans seals rows custody positions key c s s' h is le =
     let w : refusing_cost cost (world_of today loans seals) c ≡ refusing_cost cost (world posted.history) c = ap (λ x. refusing_cost cost x c) h.state in
     let p : preparing_cost cost (world_of today loans seals) c ≡ preparing_cost cost (world posted.history) c = ap (λ x. preparing_cost cost x c) h.state in
     subst (λ j. s' ≤ s + unknown_cost cost (world posted.history) c j) (sym is) (omega (arith, le, w, p))
 
 -- the parts with room for more are the same parts
-pub parts_same : (posted more : PostedCommands) (today today' : ℕ) (loans loans' : KeptLoans) (seals seals' : State) (rows rows' : List Row) (custody custody' : Custody) → AreParts posted today loans seals rows custody → more.history ≡ posted.history → more.replies ≡ posted.replies → world_of today' loans' seals' ≡ world_of today loans seals → All (IsKeptIn (world_of today' loans' seals')) loans'.loans → rows' ≡ rows → custody' ≡ custody → AreParts more today' loans' seals' rows' custody'
-parts_same posted more today today' loans loans' seals seals' rows rows' custody custody' h hist reps state kept book line =
+pub parts_same : (posted more : PostedCommands) (today today' : ℕ) (loans loans' : KeptLoans) (seals seals' : State) (rows rows' : List Row) (custody custody' : Custody) (positions positions' : List Position) → AreParts posted today loans seals rows custody positions → more.history ≡ posted.history → more.replies ≡ posted.replies → world_of today' loans' seals' ≡ world_of today loans seals → All (IsKeptIn (world_of today' loans' seals')) loans'.loans → rows' ≡ rows → custody' ≡ custody → positions' ≡ positions → AreParts more today' loans' seals' rows' custody' positions'
+parts_same posted more today today' loans loans' seals seals' rows rows' custody custody' positions positions' h hist reps state kept book line places =
     let now : world_of today' loans' seals' ≡ world more.history = state ∙ h.state ∙ ap world (sym hist) in
     record {
       history = subst IsHistory (sym hist) h.history;
@@ -189,6 +195,7 @@ parts_same posted more today today' loans loans' seals seals' rows rows' custody
       kept = subst (λ w. All (IsKeptIn w) loans'.loans) now kept;
       book = book ∙ h.book ∙ ap rows_in (sym hist);
       line = line ∙ h.line ∙ ap (λ x. custody_of (world x)) (sym hist);
+      places = places ∙ h.places ∙ ap (λ x. positions_of (world x)) (sym hist);
     }
 
 -- ---- the reply that was put in last
@@ -202,18 +209,18 @@ unfolding replies_from
 replies_length n w [] = refl
 replies_length n w (a ∷ h) = ap suc (replies_length (n + 1) (after (n + 1) w a.command) h)
 
-pub replied_last : (posted more : PostedCommands) (today today' : ℕ) (loans loans' : KeptLoans) (seals seals' : State) (rows rows' : List Row) (custody custody' : Custody) (key : List ℕ) (c : Command) (extra : Extra) (k : ℕ) (r : Reply) → AreParts posted today loans seals rows custody → IsMore posted more today today' loans loans' seals seals' rows rows' custody' key c extra → k ≡ length posted.history → Some r ≡ slice_get more.replies (k + 1 - 1) → r ≡ next_reply posted.history c
-replied_last posted more today today' loans loans' seals seals' rows rows' custody custody' key c extra k r h m is got =
+pub replied_last : (posted more : PostedCommands) (today today' : ℕ) (loans loans' : KeptLoans) (seals seals' : State) (rows rows' : List Row) (custody custody' : Custody) (positions positions' : List Position) (key : List ℕ) (c : Command) (extra : Extra) (k : ℕ) (r : Reply) → AreParts posted today loans seals rows custody positions → IsMore posted more today today' loans loans' seals seals' rows rows' custody' positions' key c extra → k ≡ length posted.history → Some r ≡ slice_get more.replies (k + 1 - 1) → r ≡ next_reply posted.history c
+replied_last posted more today today' loans loans' seals seals' rows rows' custody custody' positions positions' key c extra k r h m is got =
     let last = reply (length posted.history + 1) extra in
     let place : k + 1 - 1 ≡ length posted.replies = (let l = ap length h.replies ∙ replies_length 0 first_world posted.history in omega (arith, l, is)) in
     let some : Some r ≡ Some last = got ∙ ap (λ i. slice_get more.replies i) place ∙ ap (λ rs. slice_get rs (length posted.replies)) m.replies ∙ last_of posted.replies last in
     let same : r ≡ last = cc in
-    same ∙ next_is posted more today today' loans loans' seals seals' rows rows' custody custody' key c extra h m
+    same ∙ next_is posted more today today' loans loans' seals seals' rows rows' custody custody' positions positions' key c extra h m
 
 -- ---- what a key finds
 
-pub known_here : (posted : PostedCommands) (today : ℕ) (loans : KeptLoans) (seals : State) (rows : List Row) (custody : Custody) (key : List ℕ) (o : Option Known) → AreParts posted today loans seals rows custody → o ≡ known_among posted.history posted.replies key → known posted.history key ≡ o
-known_here posted today loans seals rows custody key o h e =
+pub known_here : (posted : PostedCommands) (today : ℕ) (loans : KeptLoans) (seals : State) (rows : List Row) (custody : Custody) (positions : List Position) (key : List ℕ) (o : Option Known) → AreParts posted today loans seals rows custody positions → o ≡ known_among posted.history posted.replies key → known posted.history key ≡ o
+known_here posted today loans seals rows custody positions key o h e =
     known_of 0 first_world posted.history key ∙ ap (λ rs. known_among posted.history rs key) (sym h.replies) ∙ sym e
 
 -- where it finds nothing, what was counted is what it costs
@@ -222,6 +229,6 @@ unknown_steps cost h key c s s' none le = subst (λ o. s' ≤ s + where_unknown 
 
 -- ---- what is prepared is fresh
 
-pub prepared_fresh : (posted : PostedCommands) (today : ℕ) (loans : KeptLoans) (seals : State) (rows dues totals lines : ℕ) (boarding : Option KeptLoan) (o : Option Accepted) (a : Accepted) → MatchOption o ⊤ (IsPrepared posted today loans seals rows dues totals lines boarding) → o ≡ Some a → judged posted.history a.key a.command ≡ Fresh
-prepared_fresh posted today loans seals rows dues totals lines boarding None a h e = absurd (cc)
-prepared_fresh posted today loans seals rows dues totals lines boarding (Some b) a h e = (let same : b ≡ a = cc in subst (λ (x : Accepted). judged posted.history x.key x.command ≡ Fresh) same h.fresh)
+pub prepared_fresh : (posted : PostedCommands) (today : ℕ) (loans : KeptLoans) (seals : State) (rows dues places lines : ℕ) (boarding : Option KeptLoan) (o : Option Accepted) (a : Accepted) → MatchOption o ⊤ (IsPrepared posted today loans seals rows dues places lines boarding) → o ≡ Some a → judged posted.history a.key a.command ≡ Fresh
+prepared_fresh posted today loans seals rows dues places lines boarding None a h e = absurd (cc)
+prepared_fresh posted today loans seals rows dues places lines boarding (Some b) a h e = (let same : b ≡ a = cc in subst (λ (x : Accepted). judged posted.history x.key x.command ≡ Fresh) same h.fresh)

@@ -1,10 +1,9 @@
 -- What custody holds for a loan is what the definitions name, and lies within the limits.
-use Rattle.std.proofs.Common.{◌≡◌, ℕ, zero, suc, ◌+◌, ◌≤◌, ◌<◌, true, false, List, [], ◌∷◌, ◌++◌, map, length, take, get_or, arith, refl, sym, ap, subst, ◌∙◌, cond}
+use Rattle.std.proofs.Common.{◌≡◌, ℕ, zero, suc, ◌≤◌, ◌<◌, true, false, List, [], ◌∷◌, length, get_or, arith, refl, sym, ap, subst, ◌∙◌, cond}
 use Rattle.std.specs.Prelude.{ℤ, ◌==◌, ◌&&◌, Option, Some, None, IfSome}
 use Rattle.std.specs.Ordering.{int_eq}
 use Rattle.std.specs.List.{All}
 use Rattle.std.proofs.lemmas.Int.{ints, clamps}
-use Rattle.std.proofs.lemmas.List.{map-append, take_more}
 use Rattle.std.proofs.lemmas.List.Elements.{All-cons, All-head, All-tail, All-map}
 use Rattle.svc_spec.proofs.FloorLemmas.{account_parts}
 use Rattle.period_adjust.specs.Conditions.{first_month}
@@ -122,21 +121,11 @@ place_read w ks i d k h same lt e = read_by w ks k h same (λ Q all. subst Q (sy
 
 -- ---- all loans in turn
 
--- the loan at a place, whatever stands for one past the end
-pub at_place : (ls : List Held) (i : ℕ) → i < length ls → (l : Held) × ((d : Held) → get_or ls i d ≡ l)
+-- what stands at a place, whatever stands for one past the end
+pub at_place : {X : Type 0} (ls : List X) (i : ℕ) → i < length ls → (l : X) × ((d : X) → get_or ls i d ≡ l)
 at_place [] i lt = absurd (omega arith)
 at_place (l ∷ ls) zero lt = (l, λ d. refl)
 at_place (l ∷ ls) (suc i) lt = at_place ls i (omega arith)
-
--- the totals of one loan more
-pub totals_pushed : (w : World) (ls : List Held) (i : ℕ) (xs ys : List Totals) (x : Position) → i < length ls → xs ≡ map (totals_of w) (take i ls) → ((d : Held) → x ≡ position_of w (get_or ls i d)) → ys ≡ xs ++ x.totals ∷ [] → ys ≡ map (totals_of w) (take (i + 1) ls)
-totals_pushed w ls i xs ys x lt before here pushed =
-    let d = (at_place ls i lt).0 in
-    pushed
-    ∙ ap (λ ts. ts ++ x.totals ∷ []) before
-    ∙ ap (λ (z : Position). map (totals_of w) (take i ls) ++ z.totals ∷ []) (here d)
-    ∙ sym (map-append (totals_of w) (take i ls) (get_or ls i d ∷ []))
-    ∙ ap (map (totals_of w)) (sym (take_more ls i d lt))
 
 pub held_limited : (ks : List KeptLoan) → All (λ (k : KeptLoan). IsLimited k.held.account) ks → All (λ (l : Held). IsLimited l.account) (held_in ks)
 held_limited ks h = All-map (λ (l : Held). IsLimited l.account) (λ (k : KeptLoan). k.held) ks h

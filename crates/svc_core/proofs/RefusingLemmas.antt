@@ -1,13 +1,12 @@
 -- The loan that a command names, and the rules on it.
-use Rattle.std.proofs.Common.{◌≡◌, ℕ, ◌+◌, ◌≤◌, ◌<◌, true, false, List, [], ◌∷◌, refl, sym, ap, subst, ◌∙◌}
-use Rattle.std.specs.Prelude.{Option, Some, None, nat_le}
+use Rattle.std.proofs.Common.{◌≡◌, ℕ, ◌≤◌, ◌<◌, true, false, List, [], ◌∷◌, sym, ap, ◌∙◌}
+use Rattle.std.specs.Prelude.{Some, None, nat_le}
 use Rattle.std.specs.Option.{option_map, option_map_or}
 use Rattle.std.proofs.Common.{arith}
 use Rattle.std.proofs.lemmas.Bool.Decides.{nat_tests}
 use Rattle.svc_types.specs.declared.terms.Terms.{Terms}
 use Rattle.svc_types.specs.declared.requests.Command.{Command}
 use Rattle.svc_types.specs.declared.requests.Command.TheVariants as command
-use Rattle.svc_types.specs.declared.replies.Refusal.{Refusal}
 use Rattle.svc_types.specs.declared.replies.Refusal.TheVariants.{NoSuchLoan, Full}
 use Rattle.svc_types.specs.declared.replies.Limit.TheVariants.{Commands}
 use Rattle.svc_spec.specs.Accounts.{Account}
@@ -15,14 +14,14 @@ use Rattle.svc_base.specs.Calendar.{month_of}
 use Rattle.period_adjust.specs.Sealed.{State}
 use Rattle.svc_world.specs.Held.{Held, find_loan}
 use Rattle.svc_world.specs.World.{World}
-use Rattle.svc_world.specs.Refusals.{Case, case, first_of, on_loan, full_of_commands, cases_by_command, board_cases, refusal_of, dated_cases, present_cases, asks_no_more, over_principal, payoff_short, no_such_line, over_refund, over_waiver, analyse_cases, reversal_cases, line_cases, retype_cases}
+use Rattle.svc_world.specs.Refusals.{Case, case, first_of, on_loan, full_of_commands, cases_by_command, refusal_of, dated_cases, present_cases, asks_no_more, over_principal, payoff_short, no_such_line, over_refund, over_waiver, analyse_cases, reversal_cases, line_cases, retype_cases}
 use Rattle.svc_world.specs.Worlds.{IsHeld}
 use Rattle.svc_world.proofs.LoanListLemmas.{found_all}
 use Rattle.svc_loan.specs.Kept.{KeptLoan}
 use Rattle.svc_loan.specs.Loans.{KeptLoans, find_kept, held_in}
-use Rattle.svc_core.specs.declared.scope.Scope.TheVariants.{One, New, Every}
+use Rattle.svc_core.specs.declared.scope.Scope.TheVariants.{One, New}
 use Rattle.svc_core.specs.Scope.{scope_of}
-use Rattle.svc_core.specs.State.{world_of, IsState}
+use Rattle.svc_core.specs.State.{IsState}
 use Rattle.svc_core.specs.Rules.{rules_of, rules_cost}
 use Rattle.svc_core.specs.Costs.{asking_month, refusing_cost}
 use Rattle.svc_core.proofs.RuleLemmas.{find-held, first_holds, first_past}

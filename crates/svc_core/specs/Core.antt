@@ -1,5 +1,5 @@
 -- What callers see of the core, what it answers, and what it keeps.
-use Rattle.std.specs.Prelude.{◌≡◌, ℕ, ◌+◌, ◌≤◌, List, [], ◌∷◌, ◌++◌, length, Option, Some, None, MatchOption, ⊤}
+use Rattle.std.specs.Prelude.{◌≡◌, ℕ, ◌+◌, ◌≤◌, List, length, Option, Some, None, MatchOption, ⊤}
 use Rattle.std.specs.List.{All}
 use Rattle.svc_types.specs.declared.requests.Command.{Command}
 use Rattle.svc_types.specs.declared.replies.Reply.{Reply}
@@ -19,7 +19,9 @@ use Rattle.svc_core.specs.declared.verdict.Verdict.{Verdict}
 use Rattle.svc_core.specs.declared.verdict.Verdict.TheVariants as verdict
 use Rattle.svc_core.specs.declared.fault.CoreFault.{CoreFault}
 use Rattle.svc_core.specs.declared.fault.CoreFault.TheVariants as fault
+use Rattle.svc_core.specs.declared.position.Position.{Position}
 use Rattle.svc_core.specs.Cash.{IsKeptIn}
+use Rattle.svc_core.specs.Positions.{positions_of}
 use Rattle.svc_core.specs.State.{world_of}
 use Rattle.svc_core.specs.Scope.{scope_of}
 use Rattle.svc_core.specs.Ready.{IsReadyFor}
@@ -93,22 +95,23 @@ submitting_cost cost month_cost h key c =
 -- ---- what it keeps
 
 -- the parts are those that the history of accepted commands gives
-pub record AreParts (posted : PostedCommands) (today : ℕ) (loans : KeptLoans) (seals : State) (rows : List Row) (custody : Custody) : Type 0 where
+pub record AreParts (posted : PostedCommands) (today : ℕ) (loans : KeptLoans) (seals : State) (rows : List Row) (custody : Custody) (positions : List Position) : Type 0 where
   pub history : IsHistory posted.history
   pub replies : posted.replies ≡ replies_to posted.history
   pub state : world_of today loans seals ≡ world posted.history
   pub kept : All (IsKeptIn (world posted.history)) loans.loans
   pub book : rows ≡ rows_in posted.history
   pub line : custody ≡ custody_of (world posted.history)
+  pub places : positions ≡ positions_of (world posted.history)
 
 -- the prepared command is fresh, and there is room for it in each part
-pub record IsPrepared (posted : PostedCommands) (today : ℕ) (loans : KeptLoans) (seals : State) (rows dues totals lines : ℕ) (boarding : Option KeptLoan) (a : Accepted) : Type 0 where
+pub record IsPrepared (posted : PostedCommands) (today : ℕ) (loans : KeptLoans) (seals : State) (rows dues places lines : ℕ) (boarding : Option KeptLoan) (a : Accepted) : Type 0 where
   pub fresh : judged posted.history a.key a.command ≡ Fresh
   pub key_formed : IsKey a.key
   pub formed : IsCommand a.command
   pub place : 1 ≤ posted.room
-  pub ready : IsReadyFor (scope_of a.command) today (today_after today a.command) loans seals rows dues totals lines boarding
+  pub ready : IsReadyFor (scope_of a.command) today (today_after today a.command) loans seals rows dues places lines boarding
 
-pub record IsCore (posted : PostedCommands) (today : ℕ) (loans : KeptLoans) (seals : State) (rows : List Row) (custody : Custody) (spare dues totals lines : ℕ) (boarding : Option KeptLoan) (prepared : Option Accepted) : Type 0 where
-  pub parts : AreParts posted today loans seals rows custody
-  pub prepare : MatchOption prepared ⊤ (IsPrepared posted today loans seals spare dues totals lines boarding)
+pub record IsCore (posted : PostedCommands) (today : ℕ) (loans : KeptLoans) (seals : State) (rows : List Row) (custody : Custody) (positions : List Position) (spare dues places lines : ℕ) (boarding : Option KeptLoan) (prepared : Option Accepted) : Type 0 where
+  pub parts : AreParts posted today loans seals rows custody positions
+  pub prepare : MatchOption prepared ⊤ (IsPrepared posted today loans seals spare dues places lines boarding)

@@ -1,6 +1,7 @@
 -- What custody holds for a loan, and what it counts for in the custodial line.
-use Rattle.std.specs.Prelude.{ℕ, ◌≤◌, List, length, Option, Some, None, ℤ, pos, neg_ℤ, ◌+ℤ◌, ◌-ℤ◌, ◌≤ℤ◌}
+use Rattle.std.specs.Prelude.{ℕ, ◌≤◌, List, length, map, Option, Some, None, ℤ, pos, neg_ℤ, ◌+ℤ◌, ◌-ℤ◌, ◌≤ℤ◌}
 use Rattle.std.specs.List.{All}
+use Rattle.custodial_book.specs.declared.row.Totals.{Totals}
 use Rattle.custodial_book.specs.Rows.{AreTotals}
 use Rattle.svc_world.specs.declared.custody.Custody.{Custody}
 use Rattle.svc_world.specs.Held.{Held, books_now}
@@ -36,6 +37,19 @@ no_position = record { totals = no_totals; suspense = pos 0; escrow = pos 0; hel
 abbrev pub position : World → Option Held → Position
 position w None = no_position
 position w (Some l) = position_of w l
+
+-- what custody holds for all loans, in the order of numbers
+abbrev pub positions_of : World → List Position
+positions_of w = map (position_of w) w.loans
+
+-- their totals
+abbrev pub totals_in : List Position → List Totals
+totals_in positions = map (λ (x : Position). x.totals) positions
+
+-- the positions as they are kept, and for how many more there is room
+pub record KeptPositions : Type 0 where
+  pub items : List Position
+  pub room : ℕ
 
 -- what a loan counts for in the custodial line
 abbrev pub share_of : Position → Custody

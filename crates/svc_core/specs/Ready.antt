@@ -17,10 +17,11 @@ pub record HasRoomForOne (id today : ℕ) (loans : KeptLoans) (seals : State) (r
   pub dues_room : length seals.reporting.reports ≤ dues
   pub adjustments : length seals.reporting.reports ≤ seals.adjustment_room
 
--- for a loan that is taken on: a place among the others, and room for its rows
-pub record HasRoomForNew (loans : KeptLoans) (rows : ℕ) : Type 0 where
+-- for a loan that is taken on: a place among the others and for what custody holds for it, and room for its rows
+pub record HasRoomForNew (loans : KeptLoans) (rows places : ℕ) : Type 0 where
   pub place : 1 ≤ loans.room
   pub rows_room : 11 ≤ rows
+  pub places_room : 1 ≤ places
 
 -- the loan that is to be taken on is the one that the command names
 pub record IsBoarding (id : ℕ) (t : Terms) (today : ℕ) (k : KeptLoan) : Type 0 where
@@ -28,22 +29,21 @@ pub record IsBoarding (id : ℕ) (t : Terms) (today : ℕ) (k : KeptLoan) : Type
   pub closed : k.closed ≡ 0
   pub remitted : k.remitted ≡ pos 0
 
--- for a command on all loans, after which the business day is that one: room in each, for the rows of each, for
--- the totals that each had, and for a report with a line of each
-pub record HasRoomForAll (today : ℕ) (loans : KeptLoans) (seals : State) (rows totals lines : ℕ) : Type 0 where
+-- for a command on all loans, after which the business day is that one: room in each, for the rows of each, and
+-- for a report with a line of each
+pub record HasRoomForAll (today : ℕ) (loans : KeptLoans) (seals : State) (rows lines : ℕ) : Type 0 where
   pub each : All (IsReady today) loans.loans
   pub rows_room : 11 * length loans.loans ≤ rows
-  pub totals_room : length loans.loans ≤ totals
   pub lines_room : length loans.loans ≤ lines
   pub report_lines : length loans.loans ≤ seals.line_room
   pub report : 1 ≤ seals.report_room
 
 -- what a command of a scope needs, where the business day is today before it and later after it: room for rows, for
--- former dues and totals, and for the lines of a report; and the loan that is to be taken on
+-- former dues, for the positions of more loans, and for the lines of a report; and the loan that is to be taken on
 abbrev pub IsReadyFor : Scope → ℕ → ℕ → KeptLoans → State → ℕ → ℕ → ℕ → ℕ → Option KeptLoan → Type 0
-IsReadyFor (One id) today later loans seals rows dues totals lines boarding =
+IsReadyFor (One id) today later loans seals rows dues places lines boarding =
     HasRoomForOne id today loans seals rows dues
-IsReadyFor (New id t) today later loans seals rows dues totals lines boarding =
-    HasRoomForNew loans rows × MatchOption boarding ⊥ (IsBoarding id t today)
-IsReadyFor Every today later loans seals rows dues totals lines boarding =
-    HasRoomForAll later loans seals rows totals lines
+IsReadyFor (New id t) today later loans seals rows dues places lines boarding =
+    HasRoomForNew loans rows places × MatchOption boarding ⊥ (IsBoarding id t today)
+IsReadyFor Every today later loans seals rows dues places lines boarding =
+    HasRoomForAll later loans seals rows lines

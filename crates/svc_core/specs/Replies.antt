@@ -1,5 +1,5 @@
 -- The replies to commands by number, of which only those that say something are kept.
-use Rattle.std.specs.Prelude.{◌≡◌, ℕ, ◌≤◌, ◌<◌, ◌==◌, List, map, Option, Some, None}
+use Rattle.std.specs.Prelude.{ℕ, ◌≤◌, ◌<◌, ◌==◌, List, map, Option, Some, None}
 use Rattle.std.specs.List.{All, AllPairs, find, range_with_len}
 use Rattle.svc_types.specs.declared.replies.Reply.{Reply}
 use Rattle.svc_types.specs.declared.replies.Extra.TheVariants.{Plain}

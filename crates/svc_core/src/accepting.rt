@@ -1,20 +1,20 @@
 //! The cash side of accepting a command: its rows, and the custodial line after it.
 
-ghost use Rattle.std.specs.Prelude.{◌≡◌, ◌+◌, ◌*◌, ◌≤◌, None, ◌++◌, length, map, vec_capacity};
+ghost use Rattle.std.specs.Prelude.{◌≡◌, ◌+◌, ◌*◌, ◌≤◌, None, Some, ◌++◌, is_some, length, true, vec_capacity};
 ghost use Rattle.std.specs.List.{All};
 ghost use Rattle.svc_types.specs.declared.requests.Command.TheVariants.{Board};
 ghost use Rattle.svc_types.specs.Requests.{IsCommand};
 ghost use Rattle.custodial_book.specs.Rows.{rows_of};
-ghost use Rattle.svc_world.specs.Custody.{custody_of, rows_made, totals_of};
+ghost use Rattle.svc_world.specs.Custody.{custody_of, rows_made};
 ghost use Rattle.svc_world.specs.Judging.{extra_of};
 ghost use Rattle.svc_world.specs.Refusals.{refusal_of};
 ghost use Rattle.svc_world.specs.World.{after, today_after};
-ghost use Rattle.svc_loan.specs.Loans.{held_in};
+ghost use Rattle.svc_loan.specs.Loans.{IsPlaceIn, find_kept, held_in};
 ghost use Rattle.svc_core.specs.Appending.{MayAppend, MayAppendAll, rows_along};
 ghost use Rattle.svc_core.specs.Cash.{IsKeptIn};
 ghost use Rattle.svc_core.specs.Costs.{accepting_cost};
 ghost use Rattle.svc_core.specs.Positions as rule;
-ghost use Rattle.svc_core.specs.Positions.{CanRead, IsLine, IsPosition};
+ghost use Rattle.svc_core.specs.Positions.{CanRead, IsLine, IsPosition, positions_of, totals_in};
 ghost use Rattle.svc_core.specs.Ready.{HasRoomForOne, HasRoomForNew, HasRoomForAll, IsBoarding};
 ghost use Rattle.svc_core.specs.Rows.{IsCash};
 ghost use Rattle.svc_core.specs.Scope.{scope_of};
@@ -30,13 +30,12 @@ use crate::taking_on::change_new;
 use custodial_book::{Book, Totals};
 use std::sync::ledger::Ledger;
 use svc_base::Steps;
-use svc_loan::Loan;
+use svc_loan::{Loan, Loans};
 use svc_replay::LoanBooks;
 use svc_types::{Command, Extra, Terms};
-use svc_world::Custody;
 
-/// Accepts a command on one loan, for which there is room: changes the loan, adds the command's rows, and
-/// moves the custodial line. Before it `count` commands were accepted.
+/// Accepts a command on one loan, for which there is room: changes the loan, adds the command's rows, moves the
+/// custodial line, and keeps what custody holds for the loan then. Before it `count` commands were accepted.
 pub(crate) fn accept_one<B: LoanBooks, L: Ledger>(
     count: u32,
     id: u32,
@@ -54,7 +53,7 @@ pub(crate) fn accept_one<B: LoanBooks, L: Ledger>(
     requires room { HasRoomForOne id state.old.today state.old.loans state.old.seals cash.old.book.spare
         (vec_capacity scratch.old.dues) }
     requires cash { IsCash count (world_of state.old.today state.old.loans state.old.seals)
-        cash.old.book.rows cash.old.custody }
+        cash.old.book.rows cash.old.custody cash.old.positions.items }
     ensures world { world_of state.new.today state.new.loans state.new.seals
         ≡ after (count + 1) (world_of state.old.today state.old.loans state.old.seals) command.now }
     ensures kept { All (IsKeptIn (world_of state.new.today state.new.loans state.new.seals))
@@ -70,11 +69,15 @@ pub(crate) fn accept_one<B: LoanBooks, L: Ledger>(
         (world_of state.new.today state.new.loans state.new.seals) }
     ensures custody { cash.new.custody
         ≡ custody_of (world_of state.new.today state.new.loans state.new.seals) }
+    ensures positions { cash.new.positions.items
+        ≡ positions_of (world_of state.new.today state.new.loans state.new.seals) }
 {
-    let before = position_of(state, id);
+    let place = place_there(&state.loans, id);
+    let before = cash.positions.at(place);
     let extra = change_one(count, id, command, state, &mut scratch.dues, steps);
     let later = position_of(state, id);
     add(cash, count + 1, id, &before, &later);
+    cash.positions.set(place, &later);
     extra
 }
 
@@ -93,9 +96,9 @@ pub(crate) fn accept_new<B: LoanBooks>(
     requires fresh { refusal_of count (world_of state.old.today state.old.loans state.old.seals)
         (Board id terms.now) ≡ None }
     requires boarding { IsBoarding id terms.now state.old.today loan.value }
-    requires room { HasRoomForNew state.old.loans cash.old.book.spare }
+    requires room { HasRoomForNew state.old.loans cash.old.book.spare cash.old.positions.room }
     requires cash { IsCash count (world_of state.old.today state.old.loans state.old.seals)
-        cash.old.book.rows cash.old.custody }
+        cash.old.book.rows cash.old.custody cash.old.positions.items }
     ensures world { world_of state.new.today state.new.loans state.new.seals
         ≡ after (count + 1) (world_of state.old.today state.old.loans state.old.seals) (Board id terms.now) }
     ensures kept { All (IsKeptIn (world_of state.new.today state.new.loans state.new.seals))
@@ -105,10 +108,14 @@ pub(crate) fn accept_new<B: LoanBooks>(
         (world_of state.new.today state.new.loans state.new.seals) }
     ensures custody { cash.new.custody
         ≡ custody_of (world_of state.new.today state.new.loans state.new.seals) }
+    ensures positions { cash.new.positions.items
+        ≡ positions_of (world_of state.new.today state.new.loans state.new.seals) }
 {
     change_new(count, id, terms, loan, state);
     let later = position_of(state, id);
     add(cash, count + 1, id, &no_position(), &later);
+    let place = place_there(&state.loans, id);
+    cash.positions.insert(place, &later);
 }
 
 /// Accepts a command on all loans, for which there is room: changes them, adds the command's rows, and sums
@@ -127,9 +134,9 @@ pub(crate) fn accept_all<B: LoanBooks, L: Ledger>(
     requires fresh { refusal_of count (world_of state.old.today state.old.loans state.old.seals)
         command.now ≡ None }
     requires room { HasRoomForAll (today_after state.old.today command.now) state.old.loans state.old.seals
-        cash.old.book.spare (vec_capacity scratch.old.totals) (vec_capacity scratch.old.lines) }
+        cash.old.book.spare (vec_capacity scratch.old.lines) }
     requires cash { IsCash count (world_of state.old.today state.old.loans state.old.seals)
-        cash.old.book.rows cash.old.custody }
+        cash.old.book.rows cash.old.custody cash.old.positions.items }
     ensures world { world_of state.new.today state.new.loans state.new.seals
         ≡ after (count + 1) (world_of state.old.today state.old.loans state.old.seals) command.now }
     ensures kept { All (IsKeptIn (world_of state.new.today state.new.loans state.new.seals))
@@ -145,10 +152,11 @@ pub(crate) fn accept_all<B: LoanBooks, L: Ledger>(
         (world_of state.new.today state.new.loans state.new.seals) }
     ensures custody { cash.new.custody
         ≡ custody_of (world_of state.new.today state.new.loans state.new.seals) }
+    ensures positions { cash.new.positions.items
+        ≡ positions_of (world_of state.new.today state.new.loans state.new.seals) }
 {
-    collect(state, &mut scratch.totals);
     let extra = change_all(count, command, state, &mut scratch.lines, steps);
-    cash.custody = append_all(&mut cash.book, count + 1, state, &scratch.totals);
+    append_all(cash, count + 1, state);
     extra
 }
 
@@ -162,6 +170,7 @@ fn add(cash: &mut Cash, number: u32, loan: u32, before: &Position, later: &Posit
     ensures rows { cash.new.book.rows
         ≡ cash.old.book.rows ++ rows_of number loan before.now.totals later.now.totals }
     ensures custody { cash.new.custody ≡ rule.line_after cash.old.custody before.now later.now }
+    ensures positions { cash.new.positions ≡ cash.old.positions }
 {
     append_one(&mut cash.book, number, loan, &before.totals, &later.totals);
     cash.custody = line_after(&cash.custody, before, later);
@@ -180,43 +189,40 @@ fn append_one(book: &mut Book, number: u32, loan: u32, before: &Totals, later: &
     }
 }
 
-/// The totals that all loans have, in the order of numbers.
-fn collect<B: LoanBooks>(state: &State<B>, totals: &mut Vec<Totals>)
-    requires read { CanRead (world_of state.now.today state.now.loans state.now.seals) state.now.loans.loans }
-    requires room { length state.now.loans.loans ≤ vec_capacity totals.old }
-    ensures { totals.new.items ≡ map (totals_of (world_of state.now.today state.now.loans state.now.seals))
-        (held_in state.now.loans.loans) }
-{
-    totals.clear();
-    for i in 0..state.loans.len() {
-        totals.push_reserved(position_at(state, i).totals);
-    }
-}
-
-/// Adds the rows of a command for all loans, by the totals that they had before it, and sums the custodial
+/// Adds the rows of a command for all loans, by what custody held for each before it, and sums the custodial
 /// line anew.
-fn append_all<B: LoanBooks>(
-    book: &mut Book,
-    number: u32,
-    state: &State<B>,
-    totals: &[Totals],
-) -> Custody
+fn append_all<B: LoanBooks>(cash: &mut Cash, number: u32, state: &State<B>)
     requires read { CanRead (world_of state.now.today state.now.loans state.now.seals) state.now.loans.loans }
     requires may { MayAppendAll number (world_of state.now.today state.now.loans state.now.seals)
-        totals.now book.old.rows }
-    requires room { 11 * length state.now.loans.loans ≤ book.old.spare }
-    ensures rows { book.new.rows ≡ book.old.rows ++ rows_along number
-        (world_of state.now.today state.now.loans state.now.seals) totals.now
+        (totals_in cash.old.positions.items) cash.old.book.rows }
+    requires room { 11 * length state.now.loans.loans ≤ cash.old.book.spare }
+    ensures rows { cash.new.book.rows ≡ cash.old.book.rows ++ rows_along number
+        (world_of state.now.today state.now.loans state.now.seals) (totals_in cash.old.positions.items)
         (held_in state.now.loans.loans) }
-    ensures custody { result ≡ custody_of (world_of state.now.today state.now.loans state.now.seals) }
+    ensures custody { cash.new.custody ≡ custody_of (world_of state.now.today state.now.loans state.now.seals) }
+    ensures positions { cash.new.positions.items
+        ≡ positions_of (world_of state.now.today state.now.loans state.now.seals) }
 {
     let none = no_position();
     let mut line = share_of(&none);
     for i in 0..state.loans.len() {
         let id = state.loans.at(i).id();
+        let before = cash.positions.at(i);
         let later = position_at(state, i);
-        append_one(book, number, id, &totals[i], &later.totals);
+        append_one(&mut cash.book, number, id, &before.totals, &later.totals);
         line = line_after(&line, &none, &later);
+        cash.positions.set(i, &later);
     }
-    line
+    cash.custody = line;
+}
+
+/// The place of the loan with that number, which is there.
+fn place_there<B: LoanBooks>(loans: &Loans<B>, id: u32) -> usize
+    requires { is_some (find_kept id loans.now.loans) ≡ true }
+    ensures { IsPlaceIn id loans.now.loans (Some result) }
+{
+    match loans.place(id) {
+        Some(place) => place,
+        None => unreachable!(),
+    }
 }

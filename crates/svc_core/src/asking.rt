@@ -51,7 +51,7 @@ pub(crate) fn answer<B: LoanBooks, L: Ledger>(
 ) -> Result<Answer, CoreFault>
     requires state { IsState count state.now.today state.now.loans state.now.seals }
     requires cash { IsCash count (world_of state.now.today state.now.loans state.now.seals)
-        cash.now.book.rows cash.now.custody }
+        cash.now.book.rows cash.now.custody cash.now.positions.items }
     requires query { IsQuery query.now }
     ensures refused { IfErr result (λ f. (cause : AnyRefusal) → f ≡ CoreFault.Refused cause →
         rule.query_refusal count (world_of state.now.today state.now.loans state.now.seals) query.now

@@ -18,6 +18,7 @@ mod laws;
 mod others;
 mod parts;
 mod position;
+mod positions;
 mod posted;
 mod preparing;
 mod refusals;

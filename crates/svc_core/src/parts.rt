@@ -15,10 +15,12 @@ ghost use Rattle.svc_core.specs.Core as core;
 ghost use Rattle.svc_core.specs.Scope.{scope_of};
 ghost use Rattle.svc_core.specs.Ready.{IsReadyFor};
 ghost use Rattle.svc_core.specs.Costs.{accepting_cost};
+ghost use Rattle.svc_core.specs.Positions.{positions_of};
 ghost use Rattle.svc_core.specs.Posted.{known_as};
 
 use crate::accepting::{accept_all, accept_new, accept_one};
 use crate::fault::CoreFault;
+use crate::positions::Positions;
 use crate::posted::Posted;
 use crate::preparing::prepare;
 use crate::refusing::refuse;
@@ -50,7 +52,7 @@ impl<B: LoanBooks> Parts<B> {
     /// Those of no command, on the business day 1990-01-01.
     pub(crate) fn new(alloc: Global) -> Parts<B>
         ensures parts { core.AreParts result.posted result.state.today result.state.loans result.state.seals
-            result.cash.book.rows result.cash.custody }
+            result.cash.book.rows result.cash.custody result.cash.positions.items }
         ensures history { result.posted.history ≡ [] }
     {
         Parts {
@@ -72,6 +74,7 @@ impl<B: LoanBooks> Parts<B> {
                     held: 0,
                     pi_advance: 0,
                 },
+                positions: Positions::new(alloc),
             },
             scratch: Scratch::new(alloc),
         }
@@ -104,17 +107,19 @@ pub(crate) fn judge_new<B: LoanBooks, L: Ledger>(
     steps: &mut Steps<L>,
 ) -> Result<(), CoreFault>
     requires parts { core.AreParts parts.old.posted parts.old.state.today parts.old.state.loans
-        parts.old.state.seals parts.old.cash.book.rows parts.old.cash.custody }
+        parts.old.state.seals parts.old.cash.book.rows parts.old.cash.custody
+        parts.old.cash.positions.items }
     requires unknown { known parts.old.posted.history key.now ≡ None }
     requires command { IsCommand command.now }
     ensures parts { core.AreParts parts.new.posted parts.new.state.today parts.new.state.loans
-        parts.new.state.seals parts.new.cash.book.rows parts.new.cash.custody }
+        parts.new.state.seals parts.new.cash.book.rows parts.new.cash.custody
+        parts.new.cash.positions.items }
     ensures history { parts.new.posted.history ≡ parts.old.posted.history }
     ensures fault { IfErr result (core.IsFault (judged parts.old.posted.history key.now command.now)) }
     ensures fresh { OnOk result (judged parts.old.posted.history key.now command.now ≡ Judgement.Fresh) }
     ensures prepared { OnOk result (core.IsPrepared parts.new.posted parts.new.state.today
         parts.new.state.loans parts.new.state.seals parts.new.cash.book.spare
-        (vec_capacity parts.new.scratch.dues) (vec_capacity parts.new.scratch.totals)
+        (vec_capacity parts.new.scratch.dues) parts.new.cash.positions.room
         (vec_capacity parts.new.scratch.lines) (option_map (λ b. b.value) boarding.new)
         (accepted key.now command.now)) }
     ensures steps { steps.new ≤ steps.old + core.unknown_cost B.cost (world parts.old.posted.history)
@@ -148,14 +153,16 @@ pub(crate) fn accept_prepared<B: LoanBooks, L: Ledger>(
     steps: &mut Steps<L>,
 ) -> Reply
     requires parts { core.AreParts parts.old.posted parts.old.state.today parts.old.state.loans
-        parts.old.state.seals parts.old.cash.book.rows parts.old.cash.custody }
+        parts.old.state.seals parts.old.cash.book.rows parts.old.cash.custody
+        parts.old.cash.positions.items }
     requires prepared { core.IsPrepared parts.old.posted parts.old.state.today
         parts.old.state.loans parts.old.state.seals parts.old.cash.book.spare
-        (vec_capacity parts.old.scratch.dues) (vec_capacity parts.old.scratch.totals)
+        (vec_capacity parts.old.scratch.dues) parts.old.cash.positions.room
         (vec_capacity parts.old.scratch.lines) (option_map (λ b. b.value) boarding)
         (accepted key.now command.now) }
     ensures parts { core.AreParts parts.new.posted parts.new.state.today parts.new.state.loans
-        parts.new.state.seals parts.new.cash.book.rows parts.new.cash.custody }
+        parts.new.state.seals parts.new.cash.book.rows parts.new.cash.custody
+        parts.new.cash.positions.items }
     ensures history { parts.new.posted.history
         ≡ parts.old.posted.history ++ accepted key.now command.now ∷ [] }
     ensures reply { result ≡ next_reply parts.old.posted.history command.now }
@@ -188,12 +195,12 @@ fn accept_scoped<B: LoanBooks, L: Ledger>(
 ) -> Extra
     requires state { IsState count state.old.today state.old.loans state.old.seals }
     requires cash { IsCash count (world_of state.old.today state.old.loans state.old.seals)
-        cash.old.book.rows cash.old.custody }
+        cash.old.book.rows cash.old.custody cash.old.positions.items }
     requires command { IsCommand command.now }
     requires fresh { refusal_of count (world_of state.old.today state.old.loans state.old.seals) command.now ≡ None }
     requires ready { IsReadyFor (scope_of command.now) state.old.today (today_after state.old.today command.now)
         state.old.loans state.old.seals cash.old.book.spare (vec_capacity scratch.old.dues)
-        (vec_capacity scratch.old.totals) (vec_capacity scratch.old.lines) (option_map (λ b. b.value) boarding) }
+        cash.old.positions.room (vec_capacity scratch.old.lines) (option_map (λ b. b.value) boarding) }
     ensures world { world_of state.new.today state.new.loans state.new.seals
         ≡ after (count + 1) (world_of state.old.today state.old.loans state.old.seals) command.now }
     ensures kept { All (IsKeptIn (world_of state.new.today state.new.loans state.new.seals)) state.new.loans.loans }
@@ -201,6 +208,8 @@ fn accept_scoped<B: LoanBooks, L: Ledger>(
         ++ rows_made (count + 1) (world_of state.old.today state.old.loans state.old.seals)
         (world_of state.new.today state.new.loans state.new.seals) }
     ensures custody { cash.new.custody ≡ custody_of (world_of state.new.today state.new.loans state.new.seals) }
+    ensures positions { cash.new.positions.items
+        ≡ positions_of (world_of state.new.today state.new.loans state.new.seals) }
     ensures extra { result ≡ extra_of (world_of state.old.today state.old.loans state.old.seals)
         (after (count + 1) (world_of state.old.today state.old.loans state.old.seals) command.now) command.now }
     ensures steps { steps.new ≤ steps.old + accepting_cost B.cost B.month_cost

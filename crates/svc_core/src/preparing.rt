@@ -49,9 +49,10 @@ pub(crate) fn prepare<B: LoanBooks, L: Ledger>(
         state.new.loans.loans }
     ensures rows { cash.new.book.rows ≡ cash.old.book.rows }
     ensures custody { cash.new.custody ≡ cash.old.custody }
+    ensures positions { cash.new.positions.items ≡ cash.old.positions.items }
     ensures ready { OnOk result (IsReadyFor (rule.scope_of command.now) state.old.today
         (world.today_after state.old.today command.now) state.new.loans state.new.seals
-        cash.new.book.spare (vec_capacity scratch.new.dues) (vec_capacity scratch.new.totals)
+        cash.new.book.spare (vec_capacity scratch.new.dues) cash.new.positions.room
         (vec_capacity scratch.new.lines) (option_map (λ b. b.value) boarding.new)) }
     ensures steps { steps.new ≤ steps.old
         + preparing_cost B.cost (world_of state.old.today state.old.loans state.old.seals) command.now }
@@ -83,6 +84,7 @@ fn room_for_one<B: LoanBooks>(
     ensures stay { HaveStayed state.old.loans state.new.loans state.old.seals state.new.seals }
     ensures rows { cash.new.book.rows ≡ cash.old.book.rows }
     ensures custody { cash.new.custody ≡ cash.old.custody }
+    ensures positions { cash.new.positions.items ≡ cash.old.positions.items }
     ensures ready { OnOk result (HasRoomForOne id state.old.today state.new.loans state.new.seals
         cash.new.book.spare (vec_capacity scratch.new.dues)) }
 {
@@ -94,16 +96,19 @@ fn room_for_one<B: LoanBooks>(
     make_room(&mut scratch.dues, closed)
 }
 
-/// A place and rows for a loan that is taken on.
+/// A place, rows and a position for a loan that is taken on.
 fn room_for_new<B: LoanBooks>(state: &mut State<B>, cash: &mut Cash) -> Result<(), OutOfMemory>
     ensures today { state.new.today ≡ state.old.today }
     ensures stay { HaveStayed state.old.loans state.new.loans state.old.seals state.new.seals }
     ensures rows { cash.new.book.rows ≡ cash.old.book.rows }
     ensures custody { cash.new.custody ≡ cash.old.custody }
-    ensures ready { OnOk result (HasRoomForNew state.new.loans cash.new.book.spare) }
+    ensures positions { cash.new.positions.items ≡ cash.old.positions.items }
+    ensures ready { OnOk result (HasRoomForNew state.new.loans cash.new.book.spare
+        cash.new.positions.room) }
 {
     state.loans.reserve()?;
-    cash.book.reserve(11)
+    cash.book.reserve(11)?;
+    cash.positions.reserve()
 }
 
 /// A loan that is taken on, on a business day.
@@ -134,14 +139,14 @@ fn room_for_all<B: LoanBooks>(
     ensures stay { HaveStayed state.old.loans state.new.loans state.old.seals state.new.seals }
     ensures rows { cash.new.book.rows ≡ cash.old.book.rows }
     ensures custody { cash.new.custody ≡ cash.old.custody }
+    ensures positions { cash.new.positions.items ≡ cash.old.positions.items }
     ensures ready { OnOk result (HasRoomForAll later state.new.loans state.new.seals
-        cash.new.book.spare (vec_capacity scratch.new.totals) (vec_capacity scratch.new.lines)) }
+        cash.new.book.spare (vec_capacity scratch.new.lines)) }
 {
     let count = state.loans.len();
     state.loans.reserve_all(later)?;
     state.seals.reserve(count as u32, 0)?;
     cash.book.reserve(11 * count as u32)?;
-    make_room(&mut scratch.totals, count)?;
     make_room(&mut scratch.lines, count)
 }
 

@@ -55,8 +55,8 @@ impl<B: LoanBooks> Model for Core<B> {
     } };
 
     ghost invariant = { λ c. IsCore c.parts.posted c.parts.state.today c.parts.state.loans
-        c.parts.state.seals c.parts.cash.book.rows c.parts.cash.custody c.parts.cash.book.spare
-        (vec_capacity c.parts.scratch.dues) (vec_capacity c.parts.scratch.totals)
+        c.parts.state.seals c.parts.cash.book.rows c.parts.cash.custody c.parts.cash.positions.items
+        c.parts.cash.book.spare (vec_capacity c.parts.scratch.dues) c.parts.cash.positions.room
         (vec_capacity c.parts.scratch.lines) (option_map (λ b. b.value) c.boarding)
         (option_map (λ p. accepted p.0 p.1) c.prepared) };
 }

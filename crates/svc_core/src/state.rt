@@ -1,6 +1,7 @@
 //! What the core holds.
 
-use custodial_book::{Book, Totals};
+use crate::positions::Positions;
+use custodial_book::Book;
 use period_adjust::{ReportLine, Seals};
 use remit_types::MonthDue;
 use std::alloc::Global;
@@ -17,19 +18,19 @@ pub(crate) struct State<B: LoanBooks> {
     pub(crate) seals: Seals,
 }
 
-/// The custodial rows of all commands, and the custodial line that runs along.
+/// The custodial rows of all commands, and what runs along: the custodial line, and what custody holds for each loan.
 #[derive(Drop)]
 pub(crate) struct Cash {
     pub(crate) book: Book,
     pub(crate) custody: Custody,
+    pub(crate) positions: Positions,
 }
 
 /// Lists that accepting a command fills anew, in room that was made beforehand: the dues that a loan had for closed
-/// months, the totals that all loans had, and the lines of a report.
+/// months, and the lines of a report.
 #[derive(Drop)]
 pub(crate) struct Scratch {
     pub(crate) dues: Vec<MonthDue>,
-    pub(crate) totals: Vec<Totals>,
     pub(crate) lines: Vec<ReportLine>,
 }
 
@@ -38,7 +39,6 @@ impl Scratch {
     pub(crate) fn new(alloc: Global) -> Scratch {
         Scratch {
             dues: Vec::new(alloc),
-            totals: Vec::new(alloc),
             lines: Vec::new(alloc),
         }
     }

@@ -81,6 +81,13 @@ impl<B: LoanBooks> Loans<B> {
         Some(&self.loans[place])
     }
 
+    /// The place of the loan with that number, in the order of numbers.
+    pub fn place(&self, id: u32) -> Option<usize>
+        ensures { IsPlaceIn id self.now.loans result }
+    {
+        place_of(&self.loans, id, self.last)
+    }
+
     /// The loan at a place, in the order of numbers.
     pub fn at(&self, place: usize) -> &Loan<B>
         requires { place < length self.now.loans }

@@ -79,6 +79,8 @@ fn ten_thousand_loans_are_found_by_their_numbers(rt: HostRuntime) -> Result<(), 
         let even = 2 * (half + 1);
         assert_eq!(rt; found(&loans, even), Some(even));
         assert_eq!(rt; found(&loans, even - 1), None);
+        assert_eq!(rt; loans.place(even), Some(half as usize));
+        assert_eq!(rt; loans.place(even - 1), None);
     }
     assert_eq!(rt; found(&loans, 0), None);
     assert_eq!(rt; found(&loans, 20_001), None);

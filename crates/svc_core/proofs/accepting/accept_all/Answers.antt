@@ -2,32 +2,31 @@ use Rattle.std.proofs.Common.{◌≡◌, ◌+◌, ◌++◌, length, refl, arith,
 use Rattle.std.proofs.lemmas.List.{length-map}
 use Rattle.svc_loan.specs.Kept.{KeptLoan}
 use Rattle.svc_loan.specs.Loans.{held_in}
+use Rattle.svc_core.specs.Positions.{totals_in}
 use Rattle.svc_core.specs.State.{world_of}
 use Rattle.svc_core.proofs.AcceptLemmas.{AreAdded, can_read, accepted_all}
+use Rattle.svc_core.proofs.PlaceLemmas.{totals_are}
 use Rattle.svc_core.proofs.accepting.accept_all.Given.{Over}
 use Rattle.svc_core.proofs.accepting.accept_all.Goals as goal
 
-pub collect-requires-clause-read : goal.collect-requires-clause-read
-collect-requires-clause-read g c = can_read c.args.count (world_of c.args.state.now.today c.args.state.now.loans c.args.state.now.seals) c.args.state.now.loans.loans c.requires.state.world refl c.requires.state.kept
-
 -- before the rows are added
-asked : (g : Over) (c : goal.After-deref g) → AreAdded c.args.count (world_of c.args.state.now.today c.args.state.now.loans c.args.state.now.seals) (world_of c.change_all-extra.new.state.today c.change_all-extra.new.state.loans c.change_all-extra.new.state.seals) c.args.cash.now.book.rows c.deref.result.now
+asked : (g : Over) (c : goal.After-append_all-arg-1 g) → AreAdded c.args.count (world_of c.args.state.now.today c.args.state.now.loans c.args.state.now.seals) (world_of c.change_all-extra.new.state.today c.change_all-extra.new.state.loans c.change_all-extra.new.state.seals) c.args.cash.now.book.rows (totals_in c.args.cash.now.positions.items)
 asked g c =
     let s = c.change_all-extra.new.state in
     let w = world_of c.args.state.now.today c.args.state.now.loans c.args.state.now.seals in
     let v = world_of s.today s.loans s.seals in
-    accepted_all c.args.count w v c.args.command.now c.args.cash.now.book.rows c.args.cash.now.custody c.deref.result.now c.requires.state.world c.requires.command c.requires.fresh c.requires.scope c.change_all-extra.ensures.world c.requires.cash (c.deref.ensures.value ∙ c.collect.ensures)
+    accepted_all c.args.count w v c.args.command.now c.args.cash.now.book.rows c.args.cash.now.custody c.args.cash.now.positions.items (totals_in c.args.cash.now.positions.items) c.requires.state.world c.requires.command c.requires.fresh c.requires.scope c.change_all-extra.ensures.world c.requires.cash (ap totals_in c.requires.cash.places ∙ totals_are w w.loans)
 
-pub append_all-cash-requires-clause-read : goal.append_all-cash-requires-clause-read
-append_all-cash-requires-clause-read g c =
+pub append_all-requires-clause-read : goal.append_all-requires-clause-read
+append_all-requires-clause-read g c =
     let s = c.change_all-extra.new.state in
     can_read (c.args.count + 1) (world_of s.today s.loans s.seals) s.loans.loans (asked g c).later refl c.change_all-extra.ensures.kept
 
-pub append_all-cash-requires-clause-may : goal.append_all-cash-requires-clause-may
-append_all-cash-requires-clause-may g c = (asked g c).may
+pub append_all-requires-clause-may : goal.append_all-requires-clause-may
+append_all-requires-clause-may g c = (asked g c).may
 
-pub append_all-cash-requires-clause-room : goal.append_all-cash-requires-clause-room
-append_all-cash-requires-clause-room g c =
+pub append_all-requires-clause-room : goal.append_all-requires-clause-room
+append_all-requires-clause-room g c =
     let olds = c.args.state.now.loans.loans in
     let news = c.change_all-extra.new.state.loans.loans in
     let count : length (held_in news) ≡ length (held_in olds) = (asked g c).count in
@@ -39,5 +38,5 @@ returns-clause-rows g c =
     let s = c.change_all-extra.new.state in
     let w = world_of c.args.state.now.today c.args.state.now.loans c.args.state.now.seals in
     let v = world_of s.today s.loans s.seals in
-    let are = accepted_all c.args.count w v c.args.command.now c.args.cash.now.book.rows c.args.cash.now.custody c.deref.result.now c.requires.state.world c.requires.command c.requires.fresh c.requires.scope c.change_all-extra.ensures.world c.requires.cash (c.deref.ensures.value ∙ c.collect.ensures) in
-    c.append_all-cash.ensures.rows ∙ ap (λ rs. c.args.cash.now.book.rows ++ rs) are.made
+    let are = accepted_all c.args.count w v c.args.command.now c.args.cash.now.book.rows c.args.cash.now.custody c.args.cash.now.positions.items (totals_in c.args.cash.now.positions.items) c.requires.state.world c.requires.command c.requires.fresh c.requires.scope c.change_all-extra.ensures.world c.requires.cash (ap totals_in c.requires.cash.places ∙ totals_are w w.loans) in
+    c.append_all.ensures.rows ∙ ap (λ rs. c.args.cash.now.book.rows ++ rs) are.made

@@ -1,13 +1,22 @@
-use Rattle.std.proofs.Common.{◌+◌, ◌++◌, refl, sym, ap, subst, ◌∙◌}
+use Rattle.std.proofs.Common.{◌≡◌, ◌+◌, ◌<◌, ◌++◌, length, refl, sym, ap, subst, ◌∙◌}
+use Rattle.std.proofs.Math.ListN.{set}
+use Rattle.svc_world.specs.Held.{find_loan}
 use Rattle.svc_loan.specs.Kept.{IsReady}
-use Rattle.svc_core.specs.Positions.{IsLine, line_after}
+use Rattle.svc_loan.specs.Loans.{held_in}
+use Rattle.svc_core.specs.Positions.{KeptPositions, IsPosition, IsLine, position, line_after}
 use Rattle.svc_core.specs.State.{world_of}
 use Rattle.svc_core.proofs.AcceptLemmas.{IsAdded, can_read, custody_within, accepted_one, later_world}
+use Rattle.svc_core.proofs.PlaceLemmas.{is_there, kept_here, place_within, set_here}
 use Rattle.svc_core.proofs.accepting.accept_one.Given.{Over}
 use Rattle.svc_core.proofs.accepting.accept_one.Goals as goal
 
-pub position_of-before-requires : goal.position_of-before-requires
-position_of-before-requires g c = record { read = can_read c.args.count (world_of c.args.state.now.today c.args.state.now.loans c.args.state.now.seals) c.args.state.now.loans.loans c.requires.state.world refl c.requires.state.kept }
+pub place_there-place-requires : goal.place_there-place-requires
+place_there-place-requires g c = is_there (IsReady c.args.state.now.today) c.args.id c.args.state.now.loans.loans c.requires.room.loan
+
+pub at-before-requires : goal.at-before-requires
+at-before-requires g c =
+    let s = c.args.state.now in
+    place_within c.args.id c.place_there-place.result (world_of s.today s.loans s.seals) s.loans.loans c.args.cash.now.positions.items refl c.requires.cash.places c.place_there-place.ensures
 
 pub position_of-later-requires : goal.position_of-later-requires
 position_of-later-requires g c =
@@ -17,26 +26,56 @@ position_of-later-requires g c =
     let later = later_world c.args.count w v c.args.command.now c.requires.state.world c.requires.command c.requires.fresh c.change_one-extra.ensures.world in
     record { read = can_read (c.args.count + 1) v s.loans.loans later refl c.change_one-extra.ensures.kept }
 
-pub add-requires-clause-may : goal.add-requires-clause-may
-add-requires-clause-may g c =
+-- what was kept is what custody held before
+before : (g : Over) (c : goal.After-later-1 g) → (c.at-before.result ≡ position (world_of c.args.state.now.today c.args.state.now.loans c.args.state.now.seals) (find_loan c.args.id (held_in c.args.state.now.loans.loans))) × IsPosition c.at-before.result
+before g c =
+    let s = c.args.state.now in
+    kept_here c.args.count c.args.id c.place_there-place.result (world_of s.today s.loans s.seals) s.loans.loans c.args.cash.now.positions.items c.at-before.result c.requires.state.world refl c.requires.cash.places c.place_there-place.ensures c.at-before.ensures
+
+-- before the rows are added
+asked : (g : Over) (c : goal.After-later-1 g) → IsAdded c.args.count c.args.id (world_of c.args.state.now.today c.args.state.now.loans c.args.state.now.seals) (world_of c.change_one-extra.new.state.today c.change_one-extra.new.state.loans c.change_one-extra.new.state.seals) c.args.cash.now.book.rows c.at-before.result c.position_of-later.result
+asked g c =
     let s = c.change_one-extra.new.state in
     let w = world_of c.args.state.now.today c.args.state.now.loans c.args.state.now.seals in
     let v = world_of s.today s.loans s.seals in
-    (accepted_one c.args.count c.args.id w v c.args.command.now c.args.state.now.loans.loans (IsReady c.args.state.now.today) c.args.cash.now.book.rows c.args.cash.now.custody c.position_of-before.result c.position_of-later.result c.requires.state.world c.requires.command c.requires.fresh c.requires.scope refl c.requires.room.loan c.change_one-extra.ensures.world c.requires.cash c.position_of-before.ensures.value c.position_of-later.ensures.value c.position_of-before.ensures.limits c.position_of-later.ensures.limits).may
+    let old = before g c in
+    accepted_one c.args.count c.args.id w v c.args.command.now c.args.state.now.loans.loans (IsReady c.args.state.now.today) c.args.cash.now.book.rows c.args.cash.now.custody c.args.cash.now.positions.items c.at-before.result c.position_of-later.result c.requires.state.world c.requires.command c.requires.fresh c.requires.scope refl c.requires.room.loan c.change_one-extra.ensures.world c.requires.cash old.0 c.position_of-later.ensures.value old.1 c.position_of-later.ensures.limits
+
+pub add-requires-clause-may : goal.add-requires-clause-may
+add-requires-clause-may g c = (asked g c).may
 
 pub add-requires-clause-line : goal.add-requires-clause-line
 add-requires-clause-line g c = subst IsLine (sym c.requires.cash.line) (custody_within c.args.count (world_of c.args.state.now.today c.args.state.now.loans c.args.state.now.seals) c.requires.state.world)
 
+pub add-requires-clause-before : goal.add-requires-clause-before
+add-requires-clause-before g c = (before g c).1
+
+pub set-requires : goal.set-requires
+set-requires g c =
+    let s = c.args.state.now in
+    let within = place_within c.args.id c.place_there-place.result (world_of s.today s.loans s.seals) s.loans.loans c.args.cash.now.positions.items refl c.requires.cash.places c.place_there-place.ensures in
+    subst (λ (p : KeptPositions). c.place_there-place.result < length p.items) (sym c.add.ensures.positions) within
+
 -- the rows and the line are those of the command
-added : (g : Over) (c : goal.After-add g) → IsAdded c.args.count c.args.id (world_of c.args.state.now.today c.args.state.now.loans c.args.state.now.seals) (world_of c.change_one-extra.new.state.today c.change_one-extra.new.state.loans c.change_one-extra.new.state.seals) c.args.cash.now.book.rows c.position_of-before.result c.position_of-later.result
+added : (g : Over) (c : goal.After-set g) → IsAdded c.args.count c.args.id (world_of c.args.state.now.today c.args.state.now.loans c.args.state.now.seals) (world_of c.change_one-extra.new.state.today c.change_one-extra.new.state.loans c.change_one-extra.new.state.seals) c.args.cash.now.book.rows c.at-before.result c.position_of-later.result
 added g c =
     let s = c.change_one-extra.new.state in
     let w = world_of c.args.state.now.today c.args.state.now.loans c.args.state.now.seals in
     let v = world_of s.today s.loans s.seals in
-    accepted_one c.args.count c.args.id w v c.args.command.now c.args.state.now.loans.loans (IsReady c.args.state.now.today) c.args.cash.now.book.rows c.args.cash.now.custody c.position_of-before.result c.position_of-later.result c.requires.state.world c.requires.command c.requires.fresh c.requires.scope refl c.requires.room.loan c.change_one-extra.ensures.world c.requires.cash c.position_of-before.ensures.value c.position_of-later.ensures.value c.position_of-before.ensures.limits c.position_of-later.ensures.limits
+    let old = kept_here c.args.count c.args.id c.place_there-place.result w c.args.state.now.loans.loans c.args.cash.now.positions.items c.at-before.result c.requires.state.world refl c.requires.cash.places c.place_there-place.ensures c.at-before.ensures in
+    accepted_one c.args.count c.args.id w v c.args.command.now c.args.state.now.loans.loans (IsReady c.args.state.now.today) c.args.cash.now.book.rows c.args.cash.now.custody c.args.cash.now.positions.items c.at-before.result c.position_of-later.result c.requires.state.world c.requires.command c.requires.fresh c.requires.scope refl c.requires.room.loan c.change_one-extra.ensures.world c.requires.cash old.0 c.position_of-later.ensures.value old.1 c.position_of-later.ensures.limits
 
 pub returns-clause-rows : goal.returns-clause-rows
 returns-clause-rows g c = c.add.ensures.rows ∙ ap (λ rs. c.args.cash.now.book.rows ++ rs) (added g c).made
 
 pub returns-clause-custody : goal.returns-clause-custody
-returns-clause-custody g c = c.add.ensures.custody ∙ ap (λ x. line_after x c.position_of-before.result c.position_of-later.result) c.requires.cash.line ∙ (added g c).line
+returns-clause-custody g c = c.add.ensures.custody ∙ ap (λ x. line_after x c.at-before.result c.position_of-later.result) c.requires.cash.line ∙ (added g c).line
+
+pub returns-clause-positions : goal.returns-clause-positions
+returns-clause-positions g c =
+    let s = c.change_one-extra.new.state in
+    let w = world_of c.args.state.now.today c.args.state.now.loans c.args.state.now.seals in
+    let v = world_of s.today s.loans s.seals in
+    c.set.ensures
+    ∙ ap (λ (p : KeptPositions). set p.items c.place_there-place.result c.position_of-later.result) c.add.ensures.positions
+    ∙ set_here c.args.count c.args.id c.place_there-place.result w v c.args.command.now c.args.state.now.loans.loans c.args.cash.now.positions.items c.position_of-later.result c.requires.state.world c.requires.scope refl c.change_one-extra.ensures.world c.requires.cash.places c.place_there-place.ensures c.position_of-later.ensures.value

@@ -1,4 +1,4 @@
-use Rattle.std.proofs.Common.{◌≡◌, ap, sym, ◌∙◌}
+use Rattle.std.proofs.Common.{ap, sym, ◌∙◌}
 use Rattle.svc_world.specs.Refusals.{first_of, cases_by_command}
 use Rattle.svc_core.specs.State.{world_of}
 use Rattle.svc_core.proofs.RefusingLemmas.{refused_full, refused_by, cases_one, cases_new}

@@ -1,4 +1,4 @@
-use Rattle.std.proofs.Common.{◌≤◌, ◌+◌, arith, ◌∙◌}
+use Rattle.std.proofs.Common.{arith, ◌∙◌}
 use Rattle.svc_core.specs.State.{world_of}
 use Rattle.svc_core.specs.Rules.{rules_of}
 use Rattle.svc_core.proofs.RefusingLemmas.{kept_found, kept_none, kept_today, rules_there, rules_none, rules_cost_is}

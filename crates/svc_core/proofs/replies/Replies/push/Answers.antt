@@ -1,5 +1,4 @@
-use Rattle.std.proofs.Common.{◌≡◌, ◌+◌, ◌<◌, ◌∷◌, [], ◌++◌, length, arith, rules, refl, sym, ap, subst, ◌∙◌}
-use Rattle.svc_types.specs.declared.replies.Reply.{Reply}
+use Rattle.std.proofs.Common.{◌+◌, ◌<◌, ◌∷◌, [], ◌++◌, length, arith, rules, refl, sym, ap, subst, ◌∙◌}
 use Rattle.svc_types.specs.declared.replies.Extra.TheVariants.{Plain}
 use Rattle.svc_core.specs.Posted.{reply}
 use Rattle.svc_core.specs.Replies.{GivenReplies, AreAmong, replies_of}

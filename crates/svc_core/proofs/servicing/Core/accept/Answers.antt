@@ -1,5 +1,4 @@
-use Rattle.std.proofs.Common.{◌≡◌, ap, subst, vec_capacity, ◌∙◌}
-use Rattle.std.specs.Prelude.{Some}
+use Rattle.std.proofs.Common.{ap, subst, vec_capacity, ◌∙◌}
 use Rattle.std.specs.Option.{option_map}
 use Rattle.svc_world.specs.Laws.{IsLawfulStep}
 use Rattle.svc_world.specs.World.{accepted}
@@ -15,5 +14,5 @@ pub returns-clause-step : goal.returns-clause-step
 returns-clause-step g c =
     let hist = ap (λ (s : Standing). s.history) c.self.view_is in
     let is = ap (λ (s : Standing). s.prepared) c.self.view_is ∙ c.requires in
-    let fresh = prepared_fresh c.self.inside.parts.posted c.self.inside.parts.state.today c.self.inside.parts.state.loans c.self.inside.parts.state.seals c.self.inside.parts.cash.book.spare (vec_capacity c.self.inside.parts.scratch.dues) (vec_capacity c.self.inside.parts.scratch.totals) (vec_capacity c.self.inside.parts.scratch.lines) (option_map (λ b. b.value) c.self.inside.boarding) (option_map (λ p. accepted p.0 p.1) c.self.inside.prepared) (accepted c.args.key.now c.args.command.now) c.self.invariant.prepare is in
+    let fresh = prepared_fresh c.self.inside.parts.posted c.self.inside.parts.state.today c.self.inside.parts.state.loans c.self.inside.parts.state.seals c.self.inside.parts.cash.book.spare (vec_capacity c.self.inside.parts.scratch.dues) c.self.inside.parts.cash.positions.room (vec_capacity c.self.inside.parts.scratch.lines) (option_map (λ b. b.value) c.self.inside.boarding) (option_map (λ p. accepted p.0 p.1) c.self.inside.prepared) (accepted c.args.key.now c.args.command.now) c.self.invariant.prepare is in
     subst (λ h. IsLawfulStep h c.args.command.now) hist (is_lawful_step c.self.inside.parts.posted.history c.args.key.now c.args.command.now c.self.invariant.parts.history fresh)

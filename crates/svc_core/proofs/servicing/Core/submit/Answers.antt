@@ -1,4 +1,4 @@
-use Rattle.std.proofs.Common.{◌≡◌, ◌+◌, ◌≤◌, arith, subst}
+use Rattle.std.proofs.Common.{arith, subst}
 use Rattle.svc_world.specs.Judging.{judged}
 use Rattle.svc_core.specs.Core.{IsVerdict}
 use Rattle.svc_world.proofs.LawLemmas.{is_lawful_step}

@@ -1,0 +1,74 @@
+//! What custody holds for each loan, in the order of numbers.
+
+ghost use Rattle.std.specs.Prelude.{◌≡◌, ◌≤◌, ◌<◌, [], insert, length, set, slice_index_or, OnOk};
+ghost use Rattle.svc_core.specs.declared.position.Position as kept;
+
+use crate::position::Position;
+use std::alloc::Global;
+use std::marker::Model;
+use svc_base::{OutOfMemory, make_room};
+
+/// What custody holds for each loan, kept so that a command is added by what it changes.
+#[derive(Drop)]
+pub(crate) struct Positions {
+    items: Vec<Position>,
+}
+
+impl Model for Positions {
+    ghost use Rattle.std.specs.Prelude.{◌-◌, vec_len, vec_capacity};
+    ghost use Rattle.svc_core.specs.Positions.{KeptPositions};
+
+    ghost Value = { KeptPositions };
+
+    ghost view = { λ p. record {
+      items = p.items.items;
+      room = vec_capacity p.items - vec_len p.items;
+    } };
+}
+
+impl Positions {
+    /// Those of no loan.
+    pub(crate) fn new(alloc: Global) -> Positions
+        ensures { result.items ≡ [] }
+    {
+        Positions {
+            items: Vec::new(alloc),
+        }
+    }
+
+    /// Makes room for one more; fails for want of memory alone.
+    pub(crate) fn reserve(&mut self) -> Result<(), OutOfMemory>
+        ensures items { self.new.items ≡ self.old.items }
+        ensures room { OnOk result (1 ≤ self.new.room) }
+    {
+        make_room(&mut self.items, 1, 0)
+    }
+
+    /// The one at a place.
+    pub(crate) fn at(&self, place: usize) -> Position
+        requires { place < length self.now.items }
+        ensures { (d : kept.Position) → result ≡ slice_index_or self.now.items place d }
+    {
+        self.items[place]
+    }
+
+    /// Puts another in at a place.
+    pub(crate) fn set(&mut self, place: usize, position: &Position)
+        requires { place < length self.old.items }
+        ensures { self.new.items ≡ set self.old.items place position.now }
+    {
+        self.items[place] = *position;
+    }
+
+    /// Puts one in before the others from a place on, for which there is room.
+    pub(crate) fn insert(&mut self, place: usize, position: &Position)
+        requires place { place ≤ length self.old.items }
+        requires room { 1 ≤ self.old.room }
+        ensures { self.new.items ≡ insert self.old.items place position.now }
+    {
+        match self.items.insert(place, *position) {
+            Ok(()) => {}
+            Err(_) => unreachable!(),
+        }
+    }
+}
