@@ -1,6 +1,6 @@
 //! Reading the fields of a form, word by word.
 
-ghost use Rattle.std.specs.Prelude.{◌≡◌, ◌≤◌, ◌∷◌, Some, length, map, slice_get, IfOk, IfErr, IfSome, IfNone};
+ghost use Rattle.std.specs.Prelude.{◌≡◌, ◌≤◌, ◌∷◌, [], Some, length, map, slice_get, OnOk, IfErr, IfSome, IfNone};
 ghost use Rattle.svc_forms.specs.Fields.{kind_of_field};
 ghost use Rattle.svc_forms.specs.Values.{text_of_value, IsValueOf, AreValuesOf};
 ghost use Rattle.serv_line.specs.Lines.{words_of, words_left};
@@ -21,18 +21,19 @@ fn first_value(field: Field, text: &[u8]) -> Option<(Value, Option<&[u8]>)>
     Some((value, rest))
 }
 
-/// The values of some fields that the words left of a line spell, all of them. Errs with the number
+/// Reads the values of some fields that the words left of a line spell, all of them. Errs with the number
 /// of bytes from the first word that does not fit to the line's end; 0 where a word is missing.
 pub(crate) fn read_fields(
     fields: &[Field],
     words: Option<&[u8]>,
-) -> Result<ArrayVec<Value, MAX_FIELDS>, usize>
-    requires { length fields.now ≤ MAX_FIELDS }
-    ensures values { IfOk result (λ v. AreValuesOf fields.now v.items) }
-    ensures read { IfOk result (λ v. words_left words.entry ≡ map text_of_value v.items) }
+    values: &mut ArrayVec<Value, MAX_FIELDS>,
+) -> Result<(), usize>
+    requires few { length fields.now ≤ MAX_FIELDS }
+    requires empty { values.old.items ≡ [] }
+    ensures values { OnOk result (AreValuesOf fields.now values.new.items) }
+    ensures read { OnOk result (words_left words.entry ≡ map text_of_value values.new.items) }
     ensures fault { IfErr result (IsLeftAt (λ k. FitsWord (slice_get fields.now k) (slice_get (words_left words.entry) k)) (words_left words.entry)) }
 {
-    let mut values = ArrayVec::new();
     let mut rest = words;
     for field in fields {
         let Some(text) = rest else {
@@ -49,6 +50,6 @@ pub(crate) fn read_fields(
     }
     match rest {
         Some(text) => Err(text.len()),
-        None => Ok(values),
+        None => Ok(()),
     }
 }

@@ -11,6 +11,7 @@ ghost use Rattle.serv_line.specs.LineFaults.{Fits, IsLeftAt, IsFault};
 
 use crate::fields::read_fields;
 use crate::words::next_word;
+use arrayvec::ArrayVec;
 use svc_forms::{command_of, form_named, query_of, question_named};
 use svc_types::{Command, Query, Request, read_key};
 use thiserror::Error;
@@ -72,7 +73,8 @@ fn read_command(words: Option<&[u8]>) -> Result<Command, usize>
     let Some(form) = form_named(name) else {
         return Err(text.len());
     };
-    let values = read_fields(form.fields(), rest)?;
+    let mut values = ArrayVec::new();
+    read_fields(form.fields(), rest, &mut values)?;
     Ok(command_of(form, &values))
 }
 
@@ -89,6 +91,7 @@ fn read_query(words: Option<&[u8]>) -> Result<Query, usize>
     let Some(question) = question_named(name) else {
         return Err(text.len());
     };
-    let values = read_fields(question.fields(), rest)?;
+    let mut values = ArrayVec::new();
+    read_fields(question.fields(), rest, &mut values)?;
     Ok(query_of(question, &values))
 }

@@ -13,7 +13,7 @@ use svc_replay::{BookFault, LoanAccount, LoanBooks, facts_between};
 use svc_types::{Books, Entry, MonthFacts, Terms};
 
 /// By how many months at least the list of their ends grows.
-const STEP: usize = 3;
+const STEP: usize = 5;
 
 /// Books with checkpoints: all entries and reversals, the live entries in order, the books at the end
 /// of each month from the boarded one to the one before the business day's, and those of the business

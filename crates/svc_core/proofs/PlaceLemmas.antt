@@ -229,6 +229,12 @@ one_moved w ls olds news i y lt same is h =
       count = length-set news i y ∙ count;
     }
 
+-- while there are more, there is one at the place
+pub still_within : (w : World) (ks : List KeptLoan) (olds news : List Position) (i last : ℕ) → last ≡ length ks → i < last → length (totals_in olds) ≡ length (held_in ks) → AreMoved w (held_in ks) olds news i → i < length news
+still_within w ks olds news i last end lt same h =
+    let count = h.count in
+    omega (arith, end, lt, same, count, length-map olds (λ (x : Position). x.totals), length-map ks (λ (k : KeptLoan). k.held))
+
 pub all_moved : (w : World) (ls : List Held) (olds news : List Position) (i : ℕ) → length ls ≤ i → length olds ≡ length ls → AreMoved w ls olds news i → news ≡ map (position_of w) ls
 all_moved w ls olds news i le same h =
     let count = h.count in

@@ -73,7 +73,7 @@ pub(crate) fn accept_one<B: LoanBooks, L: Ledger>(
         ≡ positions_of (world_of state.new.today state.new.loans state.new.seals) }
 {
     let place = place_there(&state.loans, id);
-    let before = cash.positions.at(place);
+    let before = *cash.positions.at(place);
     let extra = change_one(count, id, command, state, &mut scratch.dues, steps);
     let later = position_of(state, id);
     add(cash, count + 1, id, &before, &later);

@@ -45,11 +45,11 @@ impl Positions {
     }
 
     /// The one at a place.
-    pub(crate) fn at(&self, place: usize) -> Position
+    pub(crate) fn at(&self, place: usize) -> &Position
         requires { place < length self.now.items }
-        ensures { (d : kept.Position) → result ≡ slice_index_or self.now.items place d }
+        ensures { (d : kept.Position) → result.now ≡ slice_index_or self.now.items place d }
     {
-        self.items[place]
+        &self.items[place]
     }
 
     /// Puts another in at a place.

@@ -32,7 +32,7 @@ use svc_replay::LoanBooks;
 use svc_types::{Books, Entry, RemitType, Terms, TypeChange};
 
 /// By how many months at least the lists of closed ones grow.
-const STEP: usize = 3;
+const STEP: usize = 6;
 
 /// A loan: its number, its books however they are kept, its escrow lines and changes of remittance type,
 /// the dues of its closed months, and what was remitted to the investor for it.

@@ -3,6 +3,7 @@ use Rattle.std.proofs.Common.{◌≡◌, ℕ, zero, suc, ◌+◌, ◌-◌, ◌�
 use Rattle.std.specs.Prelude.{nat_le, nat_lt}
 use Rattle.std.specs.List.{All, AllPairs}
 use Rattle.std.specs.List.Sorted.{IsPartitionedBy, IsPartitionPoint}
+use Rattle.std.proofs.lemmas.List.{get_or_default}
 use Rattle.std.proofs.lemmas.List.Elements.{All-cons}
 use Rattle.std.proofs.lemmas.Bool.Decides.{nat_tests}
 use Rattle.svc_base.specs.Calendar.{month_of}
@@ -61,3 +62,28 @@ point_taken live d i le point = all_taken (λ e. e.day ≤ d) live i le (λ k x 
 
 pub point_dropped : (live : List Entry) (d i : ℕ) → IsPartitionPoint (λ e. nat_le e.day d ≡ true) (λ e. nat_le e.day d ≡ false) live i → All (λ e. d < e.day) (drop i live)
 point_dropped live d i point = all_dropped (λ e. d < e.day) live i (λ k x low lt. from_not_nat_le (get_or live k x).day d (point.1 k x low lt))
+
+-- the first n are up to a day where the last of them is
+pub first_taken : (live : List Entry) (d n : ℕ) (x : Entry) → AllPairs (λ a b. a.day ≤ b.day) live → n ≤ length live → get_or live (n - 1) x ≡ x → (1 ≤ n → x.day ≤ d) → All (λ e. e.day ≤ d) (take n live)
+first_taken live d n x h le at by = all_taken (λ e. e.day ≤ d) live n le (λ k y lt. (
+    let last : (get_or live (n - 1) y).day ≡ x.day = ap (λ (e : Entry). e.day) (get_or_default live (n - 1) y x (omega arith) ∙ at) in
+    let most = by (omega (arith, lt)) in
+    elim (nat_lt k (n - 1)) as (λ v. nat_lt k (n - 1) ≡ v → (get_or live k y).day ≤ d) [
+      | true ↦ λ e.
+          let less : k < n - 1 = grind (arith, nat_tests) in
+          let rises = h k (n - 1) y less (omega arith) in
+          omega (arith, rises, last, most)
+      | false ↦ λ e. let back : n - 1 ≤ k = grind (arith, nat_tests) in let same : k ≡ n - 1 = omega (arith, back, lt) in rw same (omega (arith, last, most))
+    ] refl))
+
+-- and all from the last of them on are later where that is
+pub last_dropped : (live : List Entry) (d n : ℕ) (x : Entry) → AllPairs (λ a b. a.day ≤ b.day) live → n ≤ length live → 1 ≤ n → get_or live (n - 1) x ≡ x → d < x.day → All (λ e. d < e.day) (drop (n - 1) live)
+last_dropped live d n x h le some at late = all_dropped (λ e. d < e.day) live (n - 1) (λ k y low lt. (
+    let last : (get_or live (n - 1) y).day ≡ x.day = ap (λ (e : Entry). e.day) (get_or_default live (n - 1) y x (omega arith) ∙ at) in
+    elim (nat_lt (n - 1) k) as (λ v. nat_lt (n - 1) k ≡ v → d < (get_or live k y).day) [
+      | true ↦ λ e.
+          let less : n - 1 < k = grind (arith, nat_tests) in
+          let rises = h (n - 1) k y less lt in
+          omega (arith, rises, last, late)
+      | false ↦ λ e. let back : k ≤ n - 1 = grind (arith, nat_tests) in let same : k ≡ n - 1 = omega (arith, back, low) in rw same (omega (arith, last, late))
+    ] refl))

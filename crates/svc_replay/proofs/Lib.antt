@@ -6,3 +6,4 @@ pub mod KeptLemmas
 pub mod PlainLemmas
 pub mod RemoveLemmas
 pub mod LateLemmas
+pub mod PlaceLemmas

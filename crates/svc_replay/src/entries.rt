@@ -1,6 +1,6 @@
 //! The entries of a loan, and the live ones among them.
 
-ghost use Rattle.std.specs.Prelude.{◌≡◌, ◌+◌, ◌≤◌, ◌<◌, ◌∷◌, ◌++◌, [], nat_le, false, get_or, length, take, drop, OnOk, OnErr};
+ghost use Rattle.std.specs.Prelude.{◌≡◌, ◌+◌, ◌-◌, ◌≤◌, ◌<◌, ◌∷◌, ◌++◌, [], nat_le, true, false, get_or, length, take, drop, OnOk, OnErr};
 ghost use Rattle.std.specs.Prelude.{◌==◌, not};
 ghost use Rattle.std.specs.List.{All, AllPairs, Contains, filter, insert, remove};
 ghost use Rattle.svc_types.specs.Live.{is_before, placed};
@@ -14,7 +14,7 @@ use svc_base::{Day, OutOfMemory, make_room};
 use svc_types::{Entry, before};
 
 /// By how many entries at least their lists grow.
-pub(crate) const STEP: usize = 3;
+pub(crate) const STEP: usize = 6;
 
 /// By how many places at least their list grows: the smallest piece of memory has room for so many.
 const PLACES: usize = 12;
@@ -159,8 +159,35 @@ impl<'a> Live<'a> {
         &self.entries[at]
     }
 
-    /// How many are up to a day.
+    /// How many are up to a day. It looks at the last two first, since folding mostly begins near the end.
     pub(crate) fn up_to(&self, day: Day) -> usize
+        requires { AllPairs (λ a b. a.day ≤ b.day) self.now }
+        ensures taken { All (λ e. e.day ≤ day) (take result self.now) }
+        ensures later { All (λ e. day < e.day) (drop result self.now) }
+    {
+        let len = self.len();
+        if self.are_by(len, day) {
+            return len;
+        }
+        if self.are_by(len - 1, day) {
+            return len - 1;
+        }
+        self.searched_to(day)
+    }
+
+    /// Whether the first so many are up to a day: the last of these is.
+    fn are_by(&self, count: usize, day: Day) -> bool
+        requires order { AllPairs (λ a b. a.day ≤ b.day) self.now }
+        requires count { count ≤ length self.now }
+        ensures taken { result ≡ true → All (λ e. e.day ≤ day) (take count self.now) }
+        ensures later { result ≡ false → All (λ e. day < e.day) (drop (count - 1) self.now) }
+        ensures some { result ≡ false → 1 ≤ count }
+    {
+        count == 0 || self.at(count - 1).day <= day
+    }
+
+    /// How many are up to a day, by binary search.
+    fn searched_to(&self, day: Day) -> usize
         requires { AllPairs (λ a b. a.day ≤ b.day) self.now }
         ensures taken { All (λ e. e.day ≤ day) (take result self.now) }
         ensures later { All (λ e. day < e.day) (drop result self.now) }
@@ -170,8 +197,30 @@ impl<'a> Live<'a> {
             .partition_point(|place| is_by(entries, *place, day))
     }
 
-    /// The place that an entry takes among them: after all that it does not take effect before.
+    /// The place that an entry takes among them: after all that it does not take effect before. It looks at the
+    /// last one first, since most entries come in order.
     pub(crate) fn place_of(&self, entry: &Entry) -> usize
+        requires { AllPairs (λ a b. is_before b a ≡ false) self.now }
+        ensures bound { result ≤ length self.now }
+        ensures placed { insert self.now result entry.now ≡ placed entry.now self.now }
+    {
+        if self.comes_last(entry) {
+            return self.len();
+        }
+        self.searched_place(entry)
+    }
+
+    /// Whether an entry takes effect before none of them: not before the last.
+    fn comes_last(&self, entry: &Entry) -> bool
+        requires { AllPairs (λ a b. is_before b a ≡ false) self.now }
+        ensures { result ≡ true → insert self.now (length self.now) entry.now ≡ placed entry.now self.now }
+    {
+        let len = self.len();
+        len == 0 || !before(entry, self.at(len - 1))
+    }
+
+    /// The place that an entry takes among them, by binary search.
+    fn searched_place(&self, entry: &Entry) -> usize
         requires { AllPairs (λ a b. is_before b a ≡ false) self.now }
         ensures bound { result ≤ length self.now }
         ensures placed { insert self.now result entry.now ≡ placed entry.now self.now }

@@ -13,10 +13,10 @@ returns-in_default-question_named-clause-fault c =
     let P : Option (Bor (List ℕ)) → Type 0 = λ w. IsLeftAt (Fits ((63 ∷ []) ∷ words_left w)) ((63 ∷ []) ∷ words_left w) (length c.in-Some.text.now) in
     subst P (sym c.in-Some.is) (query_name_misfit c.in-Some.text c.next_word.result.0.now c.next_word.result.1 c.next_word.ensures c.in_default-question_named.ensures.none)
 
-pub returns-in_err-values-clause-fault : goal.returns-in_err-values-clause-fault
-returns-in_err-values-clause-fault c =
+pub returns-in_err-read_fields-clause-fault : goal.returns-in_err-read_fields-clause-fault
+returns-in_err-read_fields-clause-fault c =
     let p = err_from_is_err_and c.from_residual.result c.from_residual.ensures.1 in
-    let Q : List Field → Type 0 = λ fs. IsLeftAt (λ i. FitsWord (slice_get fs i) (slice_get (words_left c.next_word.result.1) i)) (words_left c.next_word.result.1) c.in_err-values.field-0.0 in
+    let Q : List Field → Type 0 = λ fs. IsLeftAt (λ i. FitsWord (slice_get fs i) (slice_get (words_left c.next_word.result.1) i)) (words_left c.next_word.result.1) c.in_err-read_fields.field-0.0 in
     rw (p.1, p.2) (
-    query_fields_misfit (words_left c.args.words) c.next_word.result.0.now c.next_word.result.1 c.in-Some-question_named.question c.in_err-values.field-0.0
-    (ap words_left c.in-Some.is ∙ c.next_word.ensures) c.in-Some-question_named.ensures.named (subst Q c.fields.ensures.value c.in_err-values.ensures.fault))
+    query_fields_misfit (words_left c.args.words) c.next_word.result.0.now c.next_word.result.1 c.in-Some-question_named.question c.in_err-read_fields.field-0.0
+    (ap words_left c.in-Some.is ∙ c.next_word.ensures) c.in-Some-question_named.ensures.named (subst Q c.fields.ensures.value c.in_err-read_fields.ensures.fault))

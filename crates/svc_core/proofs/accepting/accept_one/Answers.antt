@@ -13,8 +13,8 @@ use Rattle.svc_core.proofs.accepting.accept_one.Goals as goal
 pub place_there-place-requires : goal.place_there-place-requires
 place_there-place-requires g c = is_there (IsReady c.args.state.now.today) c.args.id c.args.state.now.loans.loans c.requires.room.loan
 
-pub at-before-requires : goal.at-before-requires
-at-before-requires g c =
+pub at-requires : goal.at-requires
+at-requires g c =
     let s = c.args.state.now in
     place_within c.args.id c.place_there-place.result (world_of s.today s.loans s.seals) s.loans.loans c.args.cash.now.positions.items refl c.requires.cash.places c.place_there-place.ensures
 
@@ -27,19 +27,19 @@ position_of-later-requires g c =
     record { read = can_read (c.args.count + 1) v s.loans.loans later refl c.change_one-extra.ensures.kept }
 
 -- what was kept is what custody held before
-before : (g : Over) (c : goal.After-later-1 g) → (c.at-before.result ≡ position (world_of c.args.state.now.today c.args.state.now.loans c.args.state.now.seals) (find_loan c.args.id (held_in c.args.state.now.loans.loans))) × IsPosition c.at-before.result
+before : (g : Over) (c : goal.After-later-1 g) → (c.at.result.now ≡ position (world_of c.args.state.now.today c.args.state.now.loans c.args.state.now.seals) (find_loan c.args.id (held_in c.args.state.now.loans.loans))) × IsPosition c.at.result.now
 before g c =
     let s = c.args.state.now in
-    kept_here c.args.count c.args.id c.place_there-place.result (world_of s.today s.loans s.seals) s.loans.loans c.args.cash.now.positions.items c.at-before.result c.requires.state.world refl c.requires.cash.places c.place_there-place.ensures c.at-before.ensures
+    kept_here c.args.count c.args.id c.place_there-place.result (world_of s.today s.loans s.seals) s.loans.loans c.args.cash.now.positions.items c.at.result.now c.requires.state.world refl c.requires.cash.places c.place_there-place.ensures c.at.ensures
 
 -- before the rows are added
-asked : (g : Over) (c : goal.After-later-1 g) → IsAdded c.args.count c.args.id (world_of c.args.state.now.today c.args.state.now.loans c.args.state.now.seals) (world_of c.change_one-extra.new.state.today c.change_one-extra.new.state.loans c.change_one-extra.new.state.seals) c.args.cash.now.book.rows c.at-before.result c.position_of-later.result
+asked : (g : Over) (c : goal.After-later-1 g) → IsAdded c.args.count c.args.id (world_of c.args.state.now.today c.args.state.now.loans c.args.state.now.seals) (world_of c.change_one-extra.new.state.today c.change_one-extra.new.state.loans c.change_one-extra.new.state.seals) c.args.cash.now.book.rows c.at.result.now c.position_of-later.result
 asked g c =
     let s = c.change_one-extra.new.state in
     let w = world_of c.args.state.now.today c.args.state.now.loans c.args.state.now.seals in
     let v = world_of s.today s.loans s.seals in
     let old = before g c in
-    accepted_one c.args.count c.args.id w v c.args.command.now c.args.state.now.loans.loans (IsReady c.args.state.now.today) c.args.cash.now.book.rows c.args.cash.now.custody c.args.cash.now.positions.items c.at-before.result c.position_of-later.result c.requires.state.world c.requires.command c.requires.fresh c.requires.scope refl c.requires.room.loan c.change_one-extra.ensures.world c.requires.cash old.0 c.position_of-later.ensures.value old.1 c.position_of-later.ensures.limits
+    accepted_one c.args.count c.args.id w v c.args.command.now c.args.state.now.loans.loans (IsReady c.args.state.now.today) c.args.cash.now.book.rows c.args.cash.now.custody c.args.cash.now.positions.items c.at.result.now c.position_of-later.result c.requires.state.world c.requires.command c.requires.fresh c.requires.scope refl c.requires.room.loan c.change_one-extra.ensures.world c.requires.cash old.0 c.position_of-later.ensures.value old.1 c.position_of-later.ensures.limits
 
 pub add-requires-clause-may : goal.add-requires-clause-may
 add-requires-clause-may g c = (asked g c).may
@@ -57,19 +57,19 @@ set-requires g c =
     subst (λ (p : KeptPositions). c.place_there-place.result < length p.items) (sym c.add.ensures.positions) within
 
 -- the rows and the line are those of the command
-added : (g : Over) (c : goal.After-set g) → IsAdded c.args.count c.args.id (world_of c.args.state.now.today c.args.state.now.loans c.args.state.now.seals) (world_of c.change_one-extra.new.state.today c.change_one-extra.new.state.loans c.change_one-extra.new.state.seals) c.args.cash.now.book.rows c.at-before.result c.position_of-later.result
+added : (g : Over) (c : goal.After-set g) → IsAdded c.args.count c.args.id (world_of c.args.state.now.today c.args.state.now.loans c.args.state.now.seals) (world_of c.change_one-extra.new.state.today c.change_one-extra.new.state.loans c.change_one-extra.new.state.seals) c.args.cash.now.book.rows c.at.result.now c.position_of-later.result
 added g c =
     let s = c.change_one-extra.new.state in
     let w = world_of c.args.state.now.today c.args.state.now.loans c.args.state.now.seals in
     let v = world_of s.today s.loans s.seals in
-    let old = kept_here c.args.count c.args.id c.place_there-place.result w c.args.state.now.loans.loans c.args.cash.now.positions.items c.at-before.result c.requires.state.world refl c.requires.cash.places c.place_there-place.ensures c.at-before.ensures in
-    accepted_one c.args.count c.args.id w v c.args.command.now c.args.state.now.loans.loans (IsReady c.args.state.now.today) c.args.cash.now.book.rows c.args.cash.now.custody c.args.cash.now.positions.items c.at-before.result c.position_of-later.result c.requires.state.world c.requires.command c.requires.fresh c.requires.scope refl c.requires.room.loan c.change_one-extra.ensures.world c.requires.cash old.0 c.position_of-later.ensures.value old.1 c.position_of-later.ensures.limits
+    let old = kept_here c.args.count c.args.id c.place_there-place.result w c.args.state.now.loans.loans c.args.cash.now.positions.items c.at.result.now c.requires.state.world refl c.requires.cash.places c.place_there-place.ensures c.at.ensures in
+    accepted_one c.args.count c.args.id w v c.args.command.now c.args.state.now.loans.loans (IsReady c.args.state.now.today) c.args.cash.now.book.rows c.args.cash.now.custody c.args.cash.now.positions.items c.at.result.now c.position_of-later.result c.requires.state.world c.requires.command c.requires.fresh c.requires.scope refl c.requires.room.loan c.change_one-extra.ensures.world c.requires.cash old.0 c.position_of-later.ensures.value old.1 c.position_of-later.ensures.limits
 
 pub returns-clause-rows : goal.returns-clause-rows
 returns-clause-rows g c = c.add.ensures.rows ∙ ap (λ rs. c.args.cash.now.book.rows ++ rs) (added g c).made
 
 pub returns-clause-custody : goal.returns-clause-custody
-returns-clause-custody g c = c.add.ensures.custody ∙ ap (λ x. line_after x c.at-before.result c.position_of-later.result) c.requires.cash.line ∙ (added g c).line
+returns-clause-custody g c = c.add.ensures.custody ∙ ap (λ x. line_after x c.at.result.now c.position_of-later.result) c.requires.cash.line ∙ (added g c).line
 
 pub returns-clause-positions : goal.returns-clause-positions
 returns-clause-positions g c =

@@ -16,7 +16,7 @@ use Rattle.svc_core.specs.State.{world_of}
 use Rattle.svc_core.proofs.LineLemmas.{line_over, line_within, line_more, custody_is}
 use Rattle.svc_core.proofs.PositionLemmas.{at_place, read_within}
 use Rattle.svc_core.proofs.AppendLemmas.{along_none, are_later, may_append_here, rows_here}
-use Rattle.svc_core.proofs.PlaceLemmas.{AreMoved, none_moved, one_moved, all_moved, totals_before}
+use Rattle.svc_core.proofs.PlaceLemmas.{AreMoved, none_moved, one_moved, all_moved, still_within, totals_before}
 use Rattle.svc_core.proofs.accepting.append_all.Goals as goal
 
 pub loop-i-init : goal.loop-i-init
@@ -43,29 +43,15 @@ append_one-requires-clause-may g c =
     let lt : i < length (held_in ks) = (let t = c.loop-i-test.true in let e = c.loop-i.invariant.end in let m = length-map ks (λ (j : KeptLoan). j.held) in omega (arith, t, e, m)) in
     let olds = c.args.cash.now.positions.items in
     let count : length olds ≡ length (held_in ks) = (let m = c.requires.may.count in omega (arith, m, length-map olds (λ (x : Position). x.totals))) in
-    let was = totals_before w (held_in ks) olds c.loop-i.cash.positions.items i c.at-before.result no_totals (omega (arith, lt, count)) c.at-before.ensures c.loop-i.invariant.moved in
+    let was = totals_before w (held_in ks) olds c.loop-i.cash.positions.items i c.at-before.result.now no_totals (omega (arith, lt, count)) c.at-before.ensures c.loop-i.invariant.moved in
     subst (λ t. MayAppend c.args.number c.id-id.result c.loop-i.cash.book.rows t c.position_at-later.result.totals) (sym was)
     (may_append_here c.args.number c.id-id.result w (totals_in c.args.cash.now.positions.items) c.args.cash.now.book.rows c.loop-i.cash.book.rows i no_totals k.held c.position_at-later.result (are_later w ks c.requires.read refl) c.requires.may lt number c.loop-i.invariant.rows (c.position_at-later.ensures.value k.held))
 
 pub at-before-requires : goal.at-before-requires
-at-before-requires g c =
-    let ks = c.args.state.now.loans.loans in
-    let i = c.loop-i.i in
-    let lt : i < length (held_in ks) = (let t = c.loop-i-test.true in let e = c.loop-i.invariant.end in let m = length-map ks (λ (j : KeptLoan). j.held) in omega (arith, t, e, m)) in
-    let olds = c.args.cash.now.positions.items in
-    let count : length olds ≡ length (held_in ks) = (let m = c.requires.may.count in omega (arith, m, length-map olds (λ (x : Position). x.totals))) in
-    let same = c.loop-i.invariant.moved.count in
-    omega (arith, lt, count, same)
+at-before-requires g c = still_within (world_of c.args.state.now.today c.args.state.now.loans c.args.state.now.seals) c.args.state.now.loans.loans c.args.cash.now.positions.items c.loop-i.cash.positions.items c.loop-i.i _ c.loop-i.invariant.end c.loop-i-test.true c.requires.may.count c.loop-i.invariant.moved
 
 pub set-requires : goal.set-requires
-set-requires g c =
-    let ks = c.args.state.now.loans.loans in
-    let i = c.loop-i.i in
-    let lt : i < length (held_in ks) = (let t = c.loop-i-test.true in let e = c.loop-i.invariant.end in let m = length-map ks (λ (j : KeptLoan). j.held) in omega (arith, t, e, m)) in
-    let olds = c.args.cash.now.positions.items in
-    let count : length olds ≡ length (held_in ks) = (let m = c.requires.may.count in omega (arith, m, length-map olds (λ (x : Position). x.totals))) in
-    let same = c.loop-i.invariant.moved.count in
-    omega (arith, lt, count, same)
+set-requires g c = still_within (world_of c.args.state.now.today c.args.state.now.loans c.args.state.now.seals) c.args.state.now.loans.loans c.args.cash.now.positions.items c.loop-i.cash.positions.items c.loop-i.i _ c.loop-i.invariant.end c.loop-i-test.true c.requires.may.count c.loop-i.invariant.moved
 
 pub loop-i-preserved : goal.loop-i-preserved
 loop-i-preserved g c =
@@ -78,7 +64,7 @@ loop-i-preserved g c =
     let d = (at_place (held_in ks) i lt).0 in
     let olds = c.args.cash.now.positions.items in
     let count : length olds ≡ length (held_in ks) = (let m = c.requires.may.count in omega (arith, m, length-map olds (λ (x : Position). x.totals))) in
-    let was = totals_before w (held_in ks) olds c.loop-i.cash.positions.items i c.at-before.result no_totals (omega (arith, lt, count)) c.at-before.ensures c.loop-i.invariant.moved in
+    let was = totals_before w (held_in ks) olds c.loop-i.cash.positions.items i c.at-before.result.now no_totals (omega (arith, lt, count)) c.at-before.ensures c.loop-i.invariant.moved in
     record {
       rows = rows_here c.args.number c.id-id.result w (totals_in c.args.cash.now.positions.items) c.args.cash.now.book.rows c.loop-i.cash.book.rows c.append_one.new.book.rows i no_totals k.held c.position_at-later.result c.requires.may lt number c.loop-i.invariant.rows (c.position_at-later.ensures.value k.held) (c.append_one.ensures.rows ∙ ap (λ t. c.loop-i.cash.book.rows ++ rows_of c.args.number c.id-id.result t c.position_at-later.result.totals) was);
       moved = subst (λ xs. AreMoved w (held_in ks) olds xs (i + 1)) (sym c.set.ensures) (one_moved w (held_in ks) olds c.loop-i.cash.positions.items i c.position_at-later.result lt count c.position_at-later.ensures.value c.loop-i.invariant.moved);

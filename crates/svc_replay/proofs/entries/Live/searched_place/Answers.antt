@@ -5,7 +5,7 @@ use Rattle.svc_types.specs.Live.{is_before}
 use Rattle.svc_types.proofs.OrderLemmas.{partitioned, placed_at}
 use Rattle.svc_replay.specs.Chosen.{passes}
 use Rattle.svc_replay.proofs.ChosenLemmas.{count_of, point_of}
-use Rattle.svc_replay.proofs.entries.Live.place_of.Goals as goal
+use Rattle.svc_replay.proofs.entries.Live.searched_place.Goals as goal
 
 pub returns-clause-bound : goal.returns-clause-bound
 returns-clause-bound c =

@@ -4,7 +4,7 @@ use Rattle.std.proofs.lemmas.List.Sorted.{IsPartitionPoint-from_clause}
 use Rattle.svc_replay.specs.Chosen.{passes}
 use Rattle.svc_replay.proofs.AfterLemmas.{days_partitioned, point_taken, point_dropped}
 use Rattle.svc_replay.proofs.ChosenLemmas.{count_of, point_of}
-use Rattle.svc_replay.proofs.entries.Live.up_to.Goals as goal
+use Rattle.svc_replay.proofs.entries.Live.searched_to.Goals as goal
 
 pub returns-clause-taken : goal.returns-clause-taken
 returns-clause-taken c =
