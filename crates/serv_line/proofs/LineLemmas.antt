@@ -1,15 +1,14 @@
 -- The line of a request is told by the request, and tells it.
 use Rattle.std.proofs.Common.{◌≡◌, ℕ, zero, suc, ◌+◌, ◌*◌, ◌/◌, ◌%◌, ◌^◌, ◌<◌, ◌≤◌, inl, inr, List, [], ◌∷◌, ◌++◌, length, Option, Some, None, Bool, true, false, refl, sym, ap, subst, ◌∙◌, arith, length-append, ℤ, pos, negsuc, ◌≤ℤ◌, ◌<ℤ◌}
-use Rattle.std.specs.Prelude.{map, slice_get, codes, ◌==◌, ◌&&◌, not}
-use Rattle.std.specs.List.{list_all}
+use Rattle.std.specs.Prelude.{map, slice_get, codes, ◌==◌, ◌&&◌, nat_lt}
+use Rattle.std.specs.List.{All, list_all}
 use Rattle.std.proofs.lemmas.List.Splits.{slice_split_none, slice_split_at}
-use Rattle.std.proofs.lemmas.List.Elements.{All-cons, All-nil, All-append}
+use Rattle.std.proofs.lemmas.List.Elements.{All-cons, All-nil, All-append, All-weaker}
 use Rattle.std.proofs.lemmas.Option.{slice_get-map}
-use Rattle.std.proofs.lemmas.Fmt.{length-decimal-le}
+use Rattle.std.proofs.lemmas.Fmt.{length-decimal-le, decimal_by_steps}
 use Rattle.std.proofs.lemmas.Int.{ints}
 use Rattle.std.specs.Fmt.{decimal}
-use Rattle.svc_base.specs.Text.{text_of_number, text_of_cents, text_of_amount, text_of_month, text_of_day, IsReadAmount}
-use Rattle.svc_base.proofs.TextLemmas.{HasNoSpace, no_space_number, no_space_amount, no_space_month, no_space_day}
+use Rattle.svc_base.specs.Text.{two_digits, four_digits, text_of_number, text_of_cents, text_of_amount, text_of_month, text_of_day, IsReadAmount}
 use Rattle.svc_types.specs.Keys.{IsKey, is_key_byte}
 use Rattle.svc_types.specs.Requests.{IsRequest}
 use Rattle.svc_types.specs.Words.{text_of_type, text_of_kind, text_of_surplus, text_of_part, text_of_designation, IsReadPart, IsNamed}
@@ -45,83 +44,117 @@ use Rattle.serv_line.specs.LineFaults.{command, query, FitsWord, Fits, IsFault, 
 use Rattle.serv_line.proofs.FieldLemmas.{fits_text}
 use Rattle.serv_line.proofs.FaultLemmas.{not_key}
 
--- ---- words: no space stands in them, and they are short
+-- ---- words: their bytes are greater than a space's, and they are short
 
-pub record IsWord (word : List ℕ) : Type 0 where
-  pub no_space : HasNoSpace word
-  pub short : length word ≤ 32
+abbrev AreVisible : List ℕ → Type 0
+AreVisible text = All (λ b. 32 < b) text
 
-is_other : ℕ → Bool
-is_other b = not (b == 32)
+record IsWord (word : List ℕ) : Type 0 where
+  visible : AreVisible word
+  short : length word ≤ 32
 
-other_bytes : (text : List ℕ) → list_all is_other text ≡ true → HasNoSpace text
-unfolding is_other
-other_bytes [] h = All-nil (λ b. (b == 32) ≡ false)
-other_bytes (b ∷ text) h =
-    elim (b == 32) as (λ v. (b == 32) ≡ v → (not v && list_all is_other text) ≡ true → HasNoSpace (b ∷ text)) [
-      | true ↦ λ e k. absurd cc
-      | false ↦ λ e k. All-cons (λ b. (b == 32) ≡ false) b text e (other_bytes text k)
+is_visible : ℕ → Bool
+is_visible b = nat_lt 32 b
+
+visible_bytes : (text : List ℕ) → list_all is_visible text ≡ true → AreVisible text
+unfolding is_visible
+visible_bytes [] h = All-nil (λ b. 32 < b)
+visible_bytes (b ∷ text) h =
+    elim (nat_lt 32 b) as (λ v. nat_lt 32 b ≡ v → (v && list_all is_visible text) ≡ true → AreVisible (b ∷ text)) [
+      | true ↦ λ e k. All-cons (λ b. 32 < b) b text (grind arith) (visible_bytes text k)
+      | false ↦ λ e k. absurd cc
     ] refl h
 
-key_byte : (b : ℕ) → is_key_byte b ≡ true → (b == 32) ≡ false
-key_byte b h =
-    elim (b == 32) as (λ v. (b == 32) ≡ v → v ≡ false) [
-      | true ↦ λ e. let at : b ≡ 32 = grind arith in let space : is_key_byte 32 ≡ true = subst (λ (n : ℕ). is_key_byte n ≡ true) at h in cc
-      | false ↦ λ e. refl
-    ] refl
+key_byte : (b : ℕ) → is_key_byte b ≡ true → 32 < b
+key_byte b h = grind arith
 
-key_bytes : (text : List ℕ) → list_all is_key_byte text ≡ true → HasNoSpace text
-key_bytes [] h = All-nil (λ b. (b == 32) ≡ false)
+key_bytes : (text : List ℕ) → list_all is_key_byte text ≡ true → AreVisible text
+key_bytes [] h = All-nil (λ b. 32 < b)
 key_bytes (b ∷ text) h =
-    elim (is_key_byte b) as (λ v. is_key_byte b ≡ v → (v && list_all is_key_byte text) ≡ true → HasNoSpace (b ∷ text)) [
-      | true ↦ λ e k. All-cons (λ b. (b == 32) ≡ false) b text (key_byte b e) (key_bytes text k)
+    elim (is_key_byte b) as (λ v. is_key_byte b ≡ v → (v && list_all is_key_byte text) ≡ true → AreVisible (b ∷ text)) [
+      | true ↦ λ e k. All-cons (λ b. 32 < b) b text (key_byte b e) (key_bytes text k)
       | false ↦ λ e k. absurd cc
     ] refl h
 
 key_word : (key : List ℕ) → IsKey key → IsWord key
-key_word key k = record { no_space = key_bytes key k.each; short = k.high }
+key_word key k = record { visible = key_bytes key k.each; short = k.high }
 
-plain : (word : List ℕ) → list_all is_other word ≡ true → length word ≤ 32 → IsWord word
-plain word h short = record { no_space = other_bytes word h; short = short }
+plain : (word : List ℕ) → list_all is_visible word ≡ true → length word ≤ 32 → IsWord word
+plain word h short = record { visible = visible_bytes word h; short = short }
+
+-- ---- numbers, amounts, months and days
+
+visible_pair : (n : ℕ) → AreVisible (two_digits n)
+visible_pair n = All-cons (λ b. 32 < b) (48 + n / 10) ((48 + n % 10) ∷ []) (omega arith) (All-cons (λ b. 32 < b) (48 + n % 10) [] (omega arith) (All-nil (λ b. 32 < b)))
+
+visible_marked : (text : List ℕ) (mark n : ℕ) → AreVisible text → 32 < mark → AreVisible (text ++ mark ∷ two_digits n)
+visible_marked text mark n all h = All-append (λ b. 32 < b) text (mark ∷ two_digits n) all (All-cons (λ b. 32 < b) mark (two_digits n) h (visible_pair n))
+
+visible_number : (n : ℕ) → n < 2 ^ 64 → AreVisible (text_of_number n)
+visible_number n h =
+    let P : ℕ → List ℕ → Type 0 = λ _ ds. AreVisible ds in
+    decimal_by_steps P
+    (λ m small. All-cons (λ b. 32 < b) (48 + m) [] (omega arith) (All-nil (λ b. 32 < b)))
+    (λ m ds large all. All-append (λ b. 32 < b) ds ((48 + m % 10) ∷ []) all (All-cons (λ b. 32 < b) (48 + m % 10) [] (omega arith) (All-nil (λ b. 32 < b))))
+    n h
+
+visible_amount : (z : ℤ) → IsReadAmount z → AreVisible (text_of_amount z)
+unfolding text_of_cents
+visible_amount (pos n) read =
+    let small : n < 10 ^ 13 = (let h : pos n <ℤ pos (10 ^ 13) = read.high in grind (arith, ints)) in
+    visible_marked (decimal (n / 100)) 46 (n % 100) (visible_number (n / 100) (omega arith)) (omega arith)
+visible_amount (negsuc n) read = absurd (let h : pos 0 ≤ℤ negsuc n = read.low in grind (arith, ints))
+
+visible_month : (m : ℕ) → AreVisible (text_of_month m)
+unfolding text_of_month
+visible_month m =
+    visible_marked (four_digits (m / 12)) 45 (m % 12 + 1)
+    (All-append (λ b. 32 < b) (two_digits (m / 12 / 100)) (two_digits (m / 12 % 100)) (visible_pair (m / 12 / 100)) (visible_pair (m / 12 % 100))) (omega arith)
+
+visible_day : (d : ℕ) → AreVisible (text_of_day d)
+unfolding text_of_day
+visible_day d = visible_marked (text_of_month (d / 31)) 45 (d % 31 + 1) (visible_month (d / 31)) (omega arith)
+
+-- ---- the other values
 
 type_word : (t : RemitType) → IsWord (text_of_type t)
-unfolding is_other
+unfolding is_visible
 type_word AA = plain (text_of_type AA) refl (omega arith)
 type_word SA = plain (text_of_type SA) refl (omega arith)
 type_word SS = plain (text_of_type SS) refl (omega arith)
 
 kind_word : (k : LineKind) → IsWord (text_of_kind k)
-unfolding is_other
+unfolding is_visible
 kind_word Tax = plain (text_of_kind Tax) refl (omega arith)
 kind_word Hazard = plain (text_of_kind Hazard) refl (omega arith)
 kind_word Flood = plain (text_of_kind Flood) refl (omega arith)
 kind_word Other = plain (text_of_kind Other) refl (omega arith)
 
 surplus_word : (s : SurplusPlan) → IsWord (text_of_surplus s)
-unfolding is_other
+unfolding is_visible
 surplus_word surplus.Unsaid = plain (text_of_surplus surplus.Unsaid) refl (omega arith)
 surplus_word surplus.Refund = plain (text_of_surplus surplus.Refund) refl (omega arith)
 surplus_word surplus.Credit = plain (text_of_surplus surplus.Credit) refl (omega arith)
 surplus_word surplus.Retain = plain (text_of_surplus surplus.Retain) refl (omega arith)
 
-number_word : (n : ℕ) → n < 2 ^ 32 → HasNoSpace (text_of_number n) × (length (text_of_number n) ≤ 10)
-number_word n h = (no_space_number n (omega arith), length-decimal-le 10 n (omega arith) (omega arith) (omega arith))
+number_word : (n : ℕ) → n < 2 ^ 32 → AreVisible (text_of_number n) × (length (text_of_number n) ≤ 10)
+number_word n h = (visible_number n (omega arith), length-decimal-le 10 n (omega arith) (omega arith) (omega arith))
 
-spread_bytes : (text : List ℕ) → HasNoSpace text → HasNoSpace (codes "spread:" ++ text)
-unfolding is_other
-spread_bytes text h = All-append (λ b. (b == 32) ≡ false) (codes "spread:") text (other_bytes (codes "spread:") refl) h
+spread_bytes : (text : List ℕ) → AreVisible text → AreVisible (codes "spread:" ++ text)
+unfolding is_visible
+spread_bytes text h = All-append (λ b. 32 < b) (codes "spread:") text (visible_bytes (codes "spread:") refl) h
 
 part_word : (p : PartPlan) → IsReadPart p → IsWord (text_of_part p)
-unfolding is_other
+unfolding is_visible
 part_word part.Unsaid h = plain (text_of_part part.Unsaid) refl (omega arith)
 part_word part.Leave h = plain (text_of_part part.Leave) refl (omega arith)
 part_word part.Within30 h = plain (text_of_part part.Within30) refl (omega arith)
 part_word (part.Spread n) h =
     let w = number_word n h in
-    record { no_space = spread_bytes (text_of_number n) w.0; short = (let s = w.1 in omega (arith, length-append (codes "spread:") (text_of_number n))) }
+    record { visible = spread_bytes (text_of_number n) w.0; short = (let s = w.1 in omega (arith, length-append (codes "spread:") (text_of_number n))) }
 
 over_word : (d : Designation) → IsNamed d → IsWord (text_of_designation d)
-unfolding is_other
+unfolding is_visible
 over_word over.Regular h = absurd h
 over_word over.Principal h = plain (text_of_designation over.Principal) refl (omega arith)
 over_word over.Escrow h = plain (text_of_designation over.Escrow) refl (omega arith)
@@ -143,10 +176,10 @@ unfolding text_of_day text_of_month
 day_length_is d = refl
 
 value_word : (v : Value) → IsReadValue v → IsWord (text_of_value v)
-value_word (value.Number n) h = let w = number_word n h in record { no_space = w.0; short = (let s = w.1 in omega arith) }
-value_word (value.Amount z) h = record { no_space = no_space_amount z h; short = amount_short z h }
-value_word (value.Day d) h = record { no_space = no_space_day d; short = omega (arith, day_length_is d) }
-value_word (value.Month m) h = record { no_space = no_space_month m; short = omega (arith, month_length_is m) }
+value_word (value.Number n) h = let w = number_word n h in record { visible = w.0; short = (let s = w.1 in omega arith) }
+value_word (value.Amount z) h = record { visible = visible_amount z h; short = amount_short z h }
+value_word (value.Day d) h = record { visible = visible_day d; short = omega (arith, day_length_is d) }
+value_word (value.Month m) h = record { visible = visible_month m; short = omega (arith, month_length_is m) }
 value_word (value.Type t) h = type_word t
 value_word (value.Kind k) h = kind_word k
 value_word (value.Surplus s) h = surplus_word s
@@ -154,7 +187,7 @@ value_word (value.Part p) h = part_word p h
 value_word (value.Designation d) h = over_word d h
 
 form_word : (f : Form) → IsWord (word_of f)
-unfolding is_other
+unfolding is_visible
 form_word form.Day = plain (word_of form.Day) refl (omega arith)
 form_word form.Board = plain (word_of form.Board) refl (omega arith)
 form_word form.Pay = plain (word_of form.Pay) refl (omega arith)
@@ -173,7 +206,7 @@ form_word form.Remit = plain (word_of form.Remit) refl (omega arith)
 form_word form.Retype = plain (word_of form.Retype) refl (omega arith)
 
 question_word : (q : Question) → IsWord (word_of_question q)
-unfolding is_other
+unfolding is_visible
 question_word question.Books = plain (word_of_question question.Books) refl (omega arith)
 question_word question.At = plain (word_of_question question.At) refl (omega arith)
 question_word question.Payoff = plain (word_of_question question.Payoff) refl (omega arith)
@@ -185,15 +218,18 @@ question_word question.Rows = plain (word_of_question question.Rows) refl (omega
 
 -- ---- words joined are split again, and are not long
 
+no_space : (word : List ℕ) → AreVisible word → All (λ b. (b == 32) ≡ false) word
+no_space word all = All-weaker (λ b. 32 < b) (λ b. (b == 32) ≡ false) (λ b h. grind arith) word all
+
 are_words : List (List ℕ) → Type 0
 are_words [] = Unit {0}
 are_words (w ∷ ws) = IsWord w × are_words ws
 
 split_again : (w : List ℕ) (ws : List (List ℕ)) → are_words (w ∷ ws) → words_of (joined (w ∷ ws)) ≡ w ∷ ws
 unfolding are_words
-split_again w [] h = slice_split_none (λ b. b == 32) w h.0.no_space
+split_again w [] h = slice_split_none (λ b. b == 32) w (no_space w h.0.visible)
 split_again w (x ∷ xs) h =
-    slice_split_at (λ b. b == 32) w 32 (joined (x ∷ xs)) h.0.no_space refl ∙ ap (λ (ws : List (List ℕ)). w ∷ ws) (split_again x xs h.1)
+    slice_split_at (λ b. b == 32) w 32 (joined (x ∷ xs)) (no_space w h.0.visible) refl ∙ ap (λ (ws : List (List ℕ)). w ∷ ws) (split_again x xs h.1)
 
 joined_short : (ws : List (List ℕ)) → are_words ws → length (joined ws) ≤ 33 * length ws
 unfolding are_words
@@ -217,8 +253,8 @@ fields_words : (fields : List Field) (values : List Value) → AreValuesOf field
 fields_words fields values h =
     values_words values (λ i v e. read_in (slice_get fields i) v (subst (λ (x : Option Value). FitsField (slice_get fields i) x) e (h.each i)))
 
-question_mark : list_all is_other (codes "?") ≡ true
-unfolding is_other
+question_mark : list_all is_visible (codes "?") ≡ true
+unfolding is_visible
 question_mark = refl
 
 request_words : (r : Request) → IsRequest r → are_words (words_of_request r)
@@ -271,6 +307,24 @@ line_short (request.Do key c) h =
     omega (arith, few_values c, joined_short (words_of_request (request.Do key c)) (request_words (request.Do key c) h))
 line_short (request.Ask q) h =
     omega (arith, few_query_values q, joined_short (words_of_request (request.Ask q)) (request_words (request.Ask q) h))
+
+-- ---- no line feed stands in it: each byte is a space or a greater one
+
+printed : (word : List ℕ) → AreVisible word → All (λ b. 32 ≤ b) word
+printed word all = All-weaker (λ b. 32 < b) (λ b. 32 ≤ b) (λ b h. omega arith) word all
+
+joined_printed : (ws : List (List ℕ)) → are_words ws → All (λ b. 32 ≤ b) (joined ws)
+unfolding are_words
+joined_printed [] h = All-nil (λ b. 32 ≤ b)
+joined_printed (w ∷ []) h = printed w h.0.visible
+joined_printed (w ∷ x ∷ xs) h =
+    All-append (λ b. 32 ≤ b) w (32 ∷ joined (x ∷ xs)) (printed w h.0.visible)
+    (All-cons (λ b. 32 ≤ b) 32 (joined (x ∷ xs)) (omega arith) (joined_printed (x ∷ xs) h.1))
+
+pub line_printed : (r : Request) → IsRequest r → All (λ b. 32 ≤ b) (line_of r)
+unfolding line_of
+line_printed (request.Do key c) h = joined_printed (words_of_request (request.Do key c)) (request_words (request.Do key c) h)
+line_printed (request.Ask q) h = joined_printed (words_of_request (request.Ask q)) (request_words (request.Ask q) h)
 
 -- ---- no word of it is a misfit
 

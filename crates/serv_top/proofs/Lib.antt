@@ -15,3 +15,4 @@ pub mod ImportLemmas
 pub mod ReviewLemmas
 pub mod LinksLemmas
 pub mod FeedLemmas
+pub mod ExtractLemmas

@@ -1,8 +1,12 @@
 //! What lines, words and files say, and what is said to them.
 
-ghost use Rattle.std.specs.Prelude.{◌≡◌, ℕ, List, Some};
+ghost use Rattle.std.specs.Prelude.{◌≡◌, ℕ, List, [], Some};
 ghost use Rattle.svc_base.specs.Text.{IsReadMonth, text_of_month};
 ghost use Rattle.svc_world.specs.World.{Accepted};
+ghost use Rattle.svc_world.specs.Judging.{IsHistory};
+ghost use Rattle.serv_engine.specs.Histories.{lines_of_history};
+ghost use Rattle.serv_top.specs.Lines.{ended_lines, lines_of};
+ghost use Rattle.serv_top.specs.Extracts.{lines_of_commands, AreTakenOn, HasRoomFor};
 ghost use Rattle.serv_top.specs.Imported.{FileSays};
 ghost use Rattle.serv_top.specs.Words.{month_in};
 ghost use Rattle.serv_top.specs.Machine.{Said, Says, Stand};
@@ -40,4 +44,14 @@ pub fn months_are_read()
 /// A file says one thing. It does nothing.
 pub fn files_say_one_thing()
     ensures { (bytes : List ℕ) (s t : List Said) → FileSays bytes s → FileSays bytes t → s ≡ t }
+{}
+
+/// The lines of a history's commands are read back as they stand: a stream of them has these lines and no other; and
+/// where they are acted on from no commands on, with room for all, each is accepted in its turn. So what `transfer` and
+/// `remain` write, `apply` takes on. It does nothing.
+pub fn histories_are_taken_on()
+    ensures ended { (h : List Accepted) → IsHistory h → ended_lines (lines_of_commands h) ≡ lines_of_history h }
+    ensures lines { (h : List Accepted) → IsHistory h → lines_of (lines_of_commands h) ≡ lines_of_history h }
+    ensures taken_on { (h : List Accepted) (s t : Stand) (written : List ℕ) → IsHistory h → s.history.commands ≡ []
+        → HasRoomFor s.history.store h → Answers (lines_of_history h) s t written → AreTakenOn h t written }
 {}

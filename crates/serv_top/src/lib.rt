@@ -18,7 +18,10 @@ mod top;
 mod words;
 mod writing;
 
-pub use laws::{files_say_one_thing, lines_have_one_answer, months_are_read, replies_are_whole};
+pub use laws::{
+    files_say_one_thing, histories_are_taken_on, lines_have_one_answer, months_are_read,
+    replies_are_whole,
+};
 pub use one_link::serve_one;
 pub use status::Status;
 pub use stream::INPUT_LIMIT;
