@@ -11,6 +11,7 @@ use arrayvec::ArrayVec;
 use svc_forms::{Field, MAX_FIELDS, Value, read_value};
 
 /// The value of a field that the first word of a text spells, and what is left after the word.
+#[inline(always)]
 fn first_value(field: Field, text: &[u8]) -> Option<(Value, Option<&[u8]>)>
     ensures kind { IfSome result (λ r. IsValueOf (kind_of_field field) r.0) }
     ensures read { IfSome result (λ r. words_of text.now ≡ text_of_value r.0 ∷ words_left r.1) }
@@ -23,6 +24,7 @@ fn first_value(field: Field, text: &[u8]) -> Option<(Value, Option<&[u8]>)>
 
 /// Reads the values of some fields that the words left of a line spell, all of them. Errs with the number
 /// of bytes from the first word that does not fit to the line's end; 0 where a word is missing.
+#[inline(always)]
 pub(crate) fn read_fields(
     fields: &[Field],
     words: Option<&[u8]>,

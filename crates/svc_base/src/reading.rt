@@ -198,6 +198,7 @@ pub fn read_month(text: &[u8]) -> Result<Month, DayFault>
 }
 
 /// The day that a text spells as `2024-02-01`, of a year from 1990 to 2099.
+#[inline(always)]
 pub fn read_day(text: &[u8]) -> Result<Day, DayFault>
     ensures read { IfOk result (λ d. text.now ≡ text_of_day d) }
     ensures range { IfOk result IsReadDay }

@@ -15,6 +15,7 @@ use crate::value::Value;
 use svc_types::{Command, Plan, Query, Terms};
 
 /// The command of a form whose fields have these values.
+#[inline(always)]
 #[tactic(auto, using(crate::proofs::ValueLemmas::stands, crate::proofs::ValueLemmas::one, crate::proofs::ValueLemmas::two, crate::proofs::ValueLemmas::three, crate::proofs::ValueLemmas::four, svc_base::proofs::CentsRules::cents))]
 pub fn command_of(form: Form, values: &[Value]) -> Command
     requires { AreValuesOf (fields_of form) values.now }

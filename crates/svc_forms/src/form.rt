@@ -190,6 +190,7 @@ impl Question {
 }
 
 /// The form of commands that a word names.
+#[inline(always)]
 pub fn form_named(word: &[u8]) -> Option<Form>
     ensures named { IfSome result (λ f. word.now ≡ word_of f) }
     ensures none { IfNone result ((f : forms.Form) → word.now ≢ word_of f) }

@@ -35,6 +35,7 @@ impl Default for Value {
 }
 
 /// The value of a kind that a text spells; each value has one text.
+#[inline(always)]
 pub fn read_value(kind: FieldKind, text: &[u8]) -> Option<Value>
     ensures kind { IfSome result (IsValueOf kind) }
     ensures read { IfSome result (λ v. text.now ≡ text_of_value v) }
