@@ -27,6 +27,7 @@ pub struct LineFault(pub u32);
 
 /// The request whose line this is: a key, a command's word and its fields, or `?`, a query's word and
 /// its fields, with single spaces between them. Each request has one line.
+#[inline(always)]
 pub fn read_line(line: &[u8]) -> Result<Request, LineFault>
     ensures well { IfOk result IsRequest }
     ensures read { IfOk result (λ r. line.now ≡ line_of r) }

@@ -15,6 +15,7 @@ use svc_types::{Books, Installment, Terms};
 
 /// Pays the installments due by a month, then late charges where none is overdue on the day, and
 /// marks a loan whose balance came to 0. It counts one step for each installment.
+#[inline(always)]
 pub(crate) fn settle<L: Ledger>(
     books: &mut Books,
     terms: &Terms,

@@ -73,6 +73,7 @@ impl LoanBooks for Checked {
         Ok(Checked { kept, ends, now })
     }
 
+    #[inline(always)]
     fn reserve(&mut self, today: Day) -> Result<(), OutOfMemory> {
         self.kept.reserve()?;
         make_room(

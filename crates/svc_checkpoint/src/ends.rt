@@ -22,6 +22,7 @@ pub(crate) fn place_of(kept: &LoanAccount, month: Month) -> usize
 }
 
 /// The books at a day, folded on from the end of the month before; in the boarded month from boarding.
+#[inline(always)]
 pub(crate) fn folded<L: Ledger>(
     kept: &LoanAccount,
     ends: &[Books],
@@ -49,6 +50,7 @@ pub(crate) fn folded<L: Ledger>(
 }
 
 /// Makes the end of each month from one on anew, and gives the books of the business day.
+#[inline(always)]
 pub(crate) fn refreshed<L: Ledger>(
     kept: &LoanAccount,
     ends: &mut Vec<Books>,
@@ -84,6 +86,7 @@ pub(crate) fn refreshed<L: Ledger>(
 }
 
 /// Moves books on to a later day, and adds the ends of the months from theirs to the one before that day.
+#[inline(always)]
 pub(crate) fn push_on<L: Ledger>(
     kept: &LoanAccount,
     ends: &mut Vec<Books>,

@@ -24,6 +24,7 @@ pub(crate) struct Position {
 }
 
 /// What custody holds for the loan with a number, and nothing where it is not there.
+#[inline(always)]
 pub(crate) fn position_of<B: LoanBooks>(state: &State<B>, id: u32) -> Position
     requires read { CanRead (world_of state.now.today state.now.loans state.now.seals) state.now.loans.loans }
     ensures value { result ≡ rule.position (world_of state.now.today state.now.loans state.now.seals)

@@ -68,6 +68,7 @@ impl Posted {
     }
 
     /// The command under a key, and the reply that was given.
+    #[inline(always)]
     pub fn known(&self, key: &Key) -> Option<(Command, Reply)>
         ensures { option_map (λ p. known_as p.0 p.1) result
             ≡ known_among self.now.history self.now.replies key.now }
@@ -83,6 +84,7 @@ impl Posted {
     }
 
     /// Makes room for one more command; fails for want of memory alone.
+    #[inline(always)]
     pub fn reserve(&mut self) -> Result<(), OutOfMemory>
         ensures history { self.new.history ≡ self.old.history }
         ensures replies { self.new.replies ≡ self.old.replies }
@@ -96,6 +98,7 @@ impl Posted {
 
     /// Adds a command under a key that no other has, and what its reply says beside its number, for which
     /// there is room.
+    #[inline(always)]
     pub fn push(&mut self, key: &Key, command: &Command, extra: Extra)
         requires key { number_of self.old.history key.now ≡ None }
         requires few { length self.old.history < most_commands }

@@ -77,6 +77,7 @@ impl<B: LoanBooks> Core<B> {
     /// Judges a command: it has a known key, a rule refuses it, or it is fresh. Nothing that the core stands
     /// for changes but what is prepared: after a fresh command it is that one, for which all memory is then
     /// spare; after any other answer it is none.
+    #[inline(always)]
     pub fn judge<L: Ledger>(
         &mut self,
         key: &Key,
@@ -104,6 +105,7 @@ impl<B: LoanBooks> Core<B> {
     }
 
     /// Accepts the prepared command: it is in the history from then on. It takes no memory.
+    #[inline(always)]
     pub fn accept<L: Ledger>(&mut self, key: &Key, command: &Command, steps: &mut Steps<L>) -> Reply
         requires { self.old.prepared ≡ Some (accepted key.now command.now) }
         ensures reply { result ≡ next_reply self.old.history command.now }

@@ -234,6 +234,7 @@ impl<B: LoanBooks> Loan<B> {
 
     /// Makes room for one more entry, reversal, change of type and closed month, and for a business day;
     /// fails for want of memory alone.
+    #[inline(always)]
     pub fn reserve(&mut self, today: Day) -> Result<(), OutOfMemory>
         ensures held { self.new.held ≡ self.old.held }
         ensures closed { self.new.closed ≡ self.old.closed }
