@@ -1,7 +1,7 @@
 -- What a row more does to a balance, and which rows are those of a command.
 use Rattle.std.proofs.Common.{◌≡◌, ℕ, zero, suc, ◌+◌, ◌-◌, ◌<◌, ◌≤◌, Bool, true, false, cond, eqb, ltb, leb, ℤ, pos, ◌+ℤ◌, ◌-ℤ◌, List, [], ◌∷◌, ◌++◌, map, length, get_or, take, drop, Option, Some, None, arith, refl, ap, sym, ◌∙◌, ⊎_elim, fold, append-nil}
 use Rattle.std.proofs.lemmas.Int.{ints}
-use Rattle.std.proofs.lemmas.List.{take_more, append_assoc, map-append, get_or-take, get_or-drop, length-take-le, length-drop}
+use Rattle.std.proofs.lemmas.List.{take_more, append_assoc, get_or-map, map-append, get_or-take, get_or-drop, length-take-le, length-drop}
 use Rattle.std.proofs.lemmas.List.Sums.{fold_push}
 use Rattle.std.proofs.lemmas.List.Elements.{filter-append, filter_map-append, All-head, All-tail}
 use Rattle.std.proofs.Math.Seq.{get_or-append_seam}
@@ -15,7 +15,7 @@ use Rattle.std.proofs.lemmas.List.Sorted.{IsNonDecreasingBy-push}
 use Rattle.custodial_book.specs.declared.row.Row.{Row}
 use Rattle.custodial_book.specs.Parts.{parts, paid_from, paid_to, is_account}
 use Rattle.custodial_book.specs.declared.row.Totals.{Totals}
-use Rattle.custodial_book.specs.Rows.{total_of, row_of, rows_of, cents_of, balance_of, moved, rows_of_command, IsBefore, ComesNext}
+use Rattle.custodial_book.specs.Rows.{total_of, change_of, AreTotals, IsChange, row_of, rows_of, cents_of, balance_of, moved, rows_of_command, IsBefore, ComesNext}
 use Rattle.std.specs.Ordering.{int_eq}
 use Rattle.std.proofs.lemmas.Bool.Decides.{Decides-int_eq}
 
@@ -124,6 +124,17 @@ same_at (x ∷ xs) (suc i) d e h = same_at xs i d e (omega arith)
 
 pub part_at : (i : ℕ) (d : Part) → i < length parts → get_or parts i (get_or parts i d) ≡ get_or parts i d
 part_at i d h = same_at parts i d (get_or parts i d) h
+
+-- ---- what each total changed by
+
+pub changed_at : (before after : Totals) (changes : List ℤ) (k : ℕ) (d : ℤ) (part : Part) → changes ≡ map (change_of before after) parts → k < 11 → get_or changes k d ≡ change_of before after (get_or parts k part)
+changed_at before after changes k d part is inside = ap (λ zs. get_or zs k d) is ∙ get_or-map (change_of before after) parts k part d inside
+
+pub change_bound : (before after : Totals) (part : Part) → AreTotals before → AreTotals after → IsChange (change_of before after part)
+change_bound before after part b a =
+    let low = b part in
+    let high = a part in
+    (omega (arith, ints), omega (arith, ints))
 
 -- ---- totals that did not change
 

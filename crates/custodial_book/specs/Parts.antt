@@ -1,5 +1,5 @@
 -- The parts of custodial cash: whose money each moves, and to whom.
-use Rattle.std.specs.Prelude.{Bool, true, false, List, [], ◌∷◌}
+use Rattle.std.specs.Prelude.{ℕ, Bool, true, false, List, [], ◌∷◌, slice_index_or}
 use Rattle.custodial_book.specs.declared.part.Account.{Account}
 use Rattle.custodial_book.specs.declared.part.Account.TheVariants.{T, P}
 use Rattle.custodial_book.specs.declared.part.Party.{Party}
@@ -12,6 +12,10 @@ abbrev pub parts : List Part
 parts =
     Received ∷ Returned ∷ Refunded ∷ Disbursed ∷ Collected ∷ Fee ∷ Late ∷ PiAdvance ∷ EscrowAdvance ∷
     Remitted ∷ Residual ∷ []
+
+-- the part at that place among them, from 0
+abbrev pub nth_part : ℕ → Part
+nth_part place = slice_index_or parts place Received
 
 -- who pays
 abbrev pub paid_from : Part → Party

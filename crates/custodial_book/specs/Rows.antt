@@ -24,6 +24,10 @@ total_of t EscrowAdvance = t.escrow_advance
 total_of t Remitted = t.remitted
 total_of t Residual = t.residual
 
+-- what a loan's total of a part changed by
+abbrev pub change_of : Totals → Totals → Part → ℤ
+change_of before after part = total_of after part -ℤ total_of before part
+
 -- the row of a part: what its total changed by; none where it did not change
 unfoldable pub row_of : ℕ → ℕ → Totals → Totals → Part → Option Row
 row_of number loan before after part =

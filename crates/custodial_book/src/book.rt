@@ -3,6 +3,8 @@
 ghost use Rattle.std.specs.Prelude.{IsTrue, ◌≡◌, ◌+◌, ◌/◌, ◌<◌, ◌≤◌, max, ◌+ℤ◌, ◌-ℤ◌, pos, neg_ℤ, map, [], ◌∷◌, ◌++◌, length, vec_len, vec_capacity, OnOk, OnErr, IsOk, IfSome};
 ghost use Rattle.std.specs.List.Sorted.{IsNonDecreasingBy};
 ghost use Rattle.custodial_book.specs.declared.part.Account.{Account as AnyAccount};
+ghost use Rattle.custodial_book.specs.declared.row.Totals.{Totals as AnyTotals};
+ghost use Rattle.custodial_book.specs.Parts.{parts, nth_part};
 ghost use Rattle.custodial_book.specs.Rows.{balance_of, balance_with, cash_of, row_of, rows_of, rows_of_command, AreTotals, IsBalance, IsChange, IsRunning, ComesNext, cents_by_part};
 ghost use Rattle.custodial_book.specs.Rows as rule;
 ghost use Rattle.custodial_book.specs.Kept.{IsBook};
@@ -170,8 +172,9 @@ fn add_changes(
     if are_same(before, after) {
         return;
     }
-    for part in Part::ALL {
-        if let Some(row) = change(number, loan, part, before, after) {
+    let changes = changes(before, after);
+    for k in 0..11 {
+        if let Some(row) = change(number, loan, k, changes[k]) {
             add_row(entries, t, p, row);
         }
     }
@@ -184,23 +187,55 @@ fn are_same(before: &Totals, after: &Totals) -> bool
     before == after
 }
 
-/// The row of that part, where its total changed.
-#[tactic(auto, using(std::proofs::lemmas::Int::ints), unfolding(crate::specs::Rows::row_of))]
-fn change(number: u32, loan: u32, part: Part, before: &Totals, after: &Totals) -> Option<Row>
+/// What each total changed by, in the order of the parts.
+fn changes(before: &Totals, after: &Totals) -> [Cents; 11]
     requires before { AreTotals before.now }
     requires after { AreTotals after.now }
-    ensures row { result ≡ row_of number loan before.now after.now part }
+    ensures value { result ≡ map (rule.change_of before.now after.now) parts }
+{
+    [
+        change_of(Part::Received, before, after),
+        change_of(Part::Returned, before, after),
+        change_of(Part::Refunded, before, after),
+        change_of(Part::Disbursed, before, after),
+        change_of(Part::Collected, before, after),
+        change_of(Part::Fee, before, after),
+        change_of(Part::Late, before, after),
+        change_of(Part::PiAdvance, before, after),
+        change_of(Part::EscrowAdvance, before, after),
+        change_of(Part::Remitted, before, after),
+        change_of(Part::Residual, before, after),
+    ]
+}
+
+/// What a total changed by.
+#[tactic(auto, using(std::proofs::lemmas::Int::ints))]
+fn change_of(part: Part, before: &Totals, after: &Totals) -> Cents
+    requires before { AreTotals before.now }
+    requires after { AreTotals after.now }
+    ensures value { result ≡ rule.change_of before.now after.now part }
+    ensures bound { IsChange result }
+{
+    after.of(part) - before.of(part)
+}
+
+/// The row of the part at a place, whose total changed by so much; none where it did not change.
+#[tactic(auto, unfolding(crate::specs::Rows::row_of))]
+fn change(number: u32, loan: u32, place: usize, cents: Cents) -> Option<Row>
+    requires place { place < 11 }
+    requires cents { IsChange cents }
+    ensures row { (before after : AnyTotals) → cents ≡ rule.change_of before after (nth_part place) →
+        result ≡ row_of number loan before after (nth_part place) }
     ensures number { IfSome result (λ row. row.number ≡ number) }
     ensures cents { IfSome result (λ row. IsChange row.cents) }
 {
-    let cents = after.of(part) - before.of(part);
     if cents == 0 {
         None
     } else {
         Some(Row {
             number,
             loan,
-            part,
+            part: Part::ALL[place],
             cents,
         })
     }

@@ -7,17 +7,17 @@ use Rattle.custodial_book.specs.Parts.{parts}
 use Rattle.custodial_book.specs.Rows.{balance_of, row_of}
 use Rattle.custodial_book.proofs.book.add_changes.Given as goal
 
-abbrev pub invariant-loop-part : goal.invariant-loop-part
-invariant-loop-part l = record {
-  items : l.entries.items ≡ l.fn.entries.items ++ filter_map (row_of l.number l.loan l.before l.after) (take l.part-index parts);
-  room : vec_len l.entries + 11 ≤ vec_capacity l.entries + l.part-index;
+abbrev pub invariant-loop-k : goal.invariant-loop-k
+invariant-loop-k l = record {
+  items : l.entries.items ≡ l.fn.entries.items ++ filter_map (row_of l.number l.loan l.before l.after) (take l.k parts);
+  room : vec_len l.entries + 11 ≤ vec_capacity l.entries + l.k;
   capacity : vec_capacity l.entries ≡ vec_capacity l.fn.entries;
   rising : IsNonDecreasingBy (λ (row : Row). row.number) l.entries.items;
   last : (d : Row) → 0 < length l.entries.items → (get_or l.entries.items (length l.entries.items - 1) d).number ≤ l.number;
   t_is : l.t ≡ balance_of T l.entries.items;
   p_is : l.p ≡ balance_of P l.entries.items;
-  t_low : neg_ℤ (pos (1_000_000_000_000_000_000 + 200_000_000_000_000_000 * l.part-index)) ≤ℤ l.t;
-  t_high : l.t ≤ℤ pos (1_000_000_000_000_000_000 + 200_000_000_000_000_000 * l.part-index);
-  p_low : neg_ℤ (pos (1_000_000_000_000_000_000 + 200_000_000_000_000_000 * l.part-index)) ≤ℤ l.p;
-  p_high : l.p ≤ℤ pos (1_000_000_000_000_000_000 + 200_000_000_000_000_000 * l.part-index);
+  t_low : neg_ℤ (pos (1_000_000_000_000_000_000 + 200_000_000_000_000_000 * l.k)) ≤ℤ l.t;
+  t_high : l.t ≤ℤ pos (1_000_000_000_000_000_000 + 200_000_000_000_000_000 * l.k);
+  p_low : neg_ℤ (pos (1_000_000_000_000_000_000 + 200_000_000_000_000_000 * l.k)) ≤ℤ l.p;
+  p_high : l.p ≤ℤ pos (1_000_000_000_000_000_000 + 200_000_000_000_000_000 * l.k);
 }
