@@ -6,11 +6,14 @@ use Rattle.svc_base.specs.Calendar.{IsReadDay}
 use Rattle.std.specs.List.{All}
 use Rattle.std.specs.Option.{option_map}
 use Rattle.std.proofs.lemmas.List.Elements.{All-head, All-tail}
+use Rattle.std.proofs.lemmas.Option.{slice_get_past}
 use Rattle.std.proofs.Math.Seq.{take-append_seam}
 use Rattle.serv_line.specs.LineFaults.{IsFirstMisfit}
 use Rattle.servicing_transfer.specs.declared.statement_line.StatementLine.{StatementLine}
 use Rattle.servicing_transfer.specs.StatementTexts.{t_of, p_of, heading_line, loan_line, total_line, last_line, statement_lines}
-use Rattle.servicing_transfer.specs.Stated.{IsStatedBalance, IsStatedNumber, IsStatedLine, rises, text_lines, BeginsWith, IsLoanAt, FitsAfter, first_loan, next_loan, total, last, nothing, Fits, heading, after, IsBadLine}
+use Rattle.servicing_transfer.specs.Stated.{IsStatedBalance, IsStatedNumber, IsStatedLine, rises, text_lines, BeginsWith, IsLoanAt, FitsAfter, first_loan, next_loan, total, last, nothing, Fits, heading, after, IsBadLine, IsStatement, IsConfirmFault}
+use Rattle.servicing_transfer.specs.declared.confirm_fault.ConfirmFault.{ConfirmFault}
+use Rattle.servicing_transfer.specs.declared.confirm_fault.ConfirmFault.TheVariants as fault
 use Rattle.servicing_transfer.specs.StatementReading.{AreLoans, last_loan, rises_from, IsTotalAt, IsBadAfter}
 use Rattle.servicing_transfer.proofs.LineWords.{same_line_text, same_count}
 
@@ -34,11 +37,11 @@ length_lines [] = refl
 length_lines (x ∷ xs) = ap suc (length_lines xs)
 
 -- as many first lines as there are loans
-firsts : (n : ℕ) (lines : List (List ℕ)) (stated : List StatementLine) (rest : List (List ℕ)) → lines ≡ map loan_line stated ++ rest → length stated ≡ n → take n lines ≡ map loan_line stated
+pub firsts : (n : ℕ) (lines : List (List ℕ)) (stated : List StatementLine) (rest : List (List ℕ)) → lines ≡ map loan_line stated ++ rest → length stated ≡ n → take n lines ≡ map loan_line stated
 firsts n lines stated rest cut e =
     ap (λ ls. take n ls) cut ∙ ap (λ k. take k (map loan_line stated ++ rest)) (sym e ∙ sym (length_lines stated)) ∙ take-append_seam (map loan_line stated) rest
 
-same_loans : (xs ys : List StatementLine) → All IsStatedLine xs → All IsStatedLine ys → map loan_line xs ≡ map loan_line ys → xs ≡ ys
+pub same_loans : (xs ys : List StatementLine) → All IsStatedLine xs → All IsStatedLine ys → map loan_line xs ≡ map loan_line ys → xs ≡ ys
 same_loans [] [] p q e = refl
 same_loans [] (y ∷ ys) p q e = absurd cc
 same_loans (x ∷ xs) [] p q e = absurd cc
@@ -178,18 +181,29 @@ bad_last n lines stated rest h none = record {
   here = no_last n lines (n + 1) refl (λ e. none (sym (next_is n lines stated rest h 0 (n + 1) (omega arith)) ∙ e));
 }
 
+-- all lines of a statement behind its first
+ended_fit : (n : ℕ) (lines : List (List ℕ)) (stated : List StatementLine) (rest : List (List ℕ)) → AreTotalled n lines stated (last_line ∷ rest) → (k : ℕ) → k < n + 2 → FitsAfter n lines k
+ended_fit n lines stated rest h k lt =
+    elim (nat_lt n k) as (λ v. nat_lt n k ≡ v → FitsAfter n lines k) [
+      | true ↦ λ e. let is : n + 1 ≡ k = grind (arith, nat_tests) in subst (FitsAfter n lines) is (last (next_is n lines stated (last_line ∷ rest) h 0 (n + 1) (omega arith)))
+      | false ↦ λ e. totalled_fit n lines stated (last_line ∷ rest) h k (grind (arith, nat_tests))
+    ] refl
+
 pub bad_end : (n : ℕ) (lines : List (List ℕ)) (stated : List StatementLine) (rest : List (List ℕ)) → AreTotalled n lines stated (last_line ∷ rest) → slice_get rest 0 ≢ None → IsFirstMisfit (FitsAfter n lines) (n + 2)
 bad_end n lines stated rest h none = record {
-  before = before;
+  before = ended_fit n lines stated rest h;
   here = no_nothing n lines (n + 2) refl (λ e. none (sym (next_is n lines stated (last_line ∷ rest) h 1 (n + 2) (omega arith)) ∙ e));
 }
-  where
-    before : (k : ℕ) → k < n + 2 → FitsAfter n lines k
-    before k lt =
-        elim (nat_lt n k) as (λ v. nat_lt n k ≡ v → FitsAfter n lines k) [
-          | true ↦ λ e. let is : n + 1 ≡ k = grind (arith, nat_tests) in subst (FitsAfter n lines) is (last (next_is n lines stated (last_line ∷ rest) h 0 (n + 1) (omega arith)))
-          | false ↦ λ e. totalled_fit n lines stated (last_line ∷ rest) h k (grind (arith, nat_tests))
-        ] refl
+
+-- and where nothing stands behind the last, every place
+whole_fit : (n : ℕ) (lines : List (List ℕ)) (stated : List StatementLine) → AreTotalled n lines stated (last_line ∷ []) → (k : ℕ) → FitsAfter n lines k
+whole_fit n lines stated h k =
+    elim (nat_lt k (n + 2)) as (λ v. nat_lt k (n + 2) ≡ v → FitsAfter n lines k) [
+      | true ↦ λ e. ended_fit n lines stated [] h k (grind (arith, nat_tests))
+      | false ↦ λ e.
+          let past : n + 2 ≤ k = grind (arith, nat_tests) in
+          nothing k (omega arith) (next_is n lines stated (last_line ∷ []) h (k - (n + 1)) k (omega arith) ∙ slice_get_past (last_line ∷ []) (k - (n + 1)) (omega arith))
+    ] refl
 
 -- ---- the lines behind the first, and the first
 
@@ -232,3 +246,19 @@ bad_first text none = record {
 pub all_lines : (lines rest : List (List ℕ)) (day n : ℕ) (stated : List StatementLine) → lines ≡ heading_line day n ∷ rest → rest ≡ map loan_line stated ++ total_line (t_of stated) (p_of stated) ∷ last_line ∷ [] → length stated ≡ n → lines ≡ statement_lines day stated
 unfolding statement_lines
 all_lines lines rest day n stated e f count = e ∙ ap (λ ls. heading_line day n ∷ ls) f ∙ ap (λ c. heading_line day c ∷ (map loan_line stated ++ total_line (t_of stated) (p_of stated) ∷ last_line ∷ [])) (sym count)
+
+-- ---- no line of a statement is bad
+
+all_fit : (text : List ℕ) (day : ℕ) (stated : List StatementLine) → IsStatement text day stated → (i : ℕ) → Fits (text_lines text) i
+unfolding statement_lines
+all_fit text day stated h zero = heading day (length stated) (begins (text_lines text) _ day (length stated) h.lines h.dated h.loans.count)
+all_fit text day stated h (suc i) =
+    subst (Fits (text_lines text)) (add-one i) (fits_behind (text_lines text) _ day (length stated) h.lines h.dated h.loans.count i (whole_fit (length stated) _ stated (record { cut = refl; count = refl; are = record { each = h.loans.each; rising = h.loans.rising }; t = h.loans.t; p = h.loans.p }) i))
+
+pub none_bad : (text : List ℕ) (day : ℕ) (stated : List StatementLine) → IsStatement text day stated → (line : ℕ) → IsBadLine text line → ⊥
+none_bad text day stated h line bad = bad.first.here (all_fit text day stated h bad.place)
+
+-- a text that is a statement is not confirmed for want of memory alone
+pub only_memory : (text : List ℕ) (f : ConfirmFault) → IsConfirmFault text f → (day : ℕ) (stated : List StatementLine) → IsStatement text day stated → f ≡ fault.OutOfMemory
+only_memory text (fault.BadLine line) bad day stated h = absurd (none_bad text day stated h line bad)
+only_memory text fault.OutOfMemory bad day stated h = refl

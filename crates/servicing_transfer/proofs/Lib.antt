@@ -13,6 +13,7 @@ pub mod ShownCash
 pub mod PassLemmas
 pub mod RowSums
 pub mod NumberLemmas
+pub mod OneStatement
 pub mod SumLemmas
 pub mod StatementLemmas
 pub mod LineTexts

@@ -63,6 +63,12 @@ text_of_differences day text today books =
     ended (codes "day " ++ word_of_same (day == today))
     ++ flat_map (line_about text books) (together (loan_numbers text) (loan_numbers books)) ++ end_line
 
+-- the text where both say the same, on the day of the books
+unfoldable pub text_of_no_difference : List StatementLine → List ℕ
+text_of_no_difference stated =
+    ended (codes "day same")
+    ++ flat_map (λ (s : StatementLine). ended (codes "same" ++ (32 ∷ text_of_number s.loan))) stated ++ end_line
+
 -- what is written where a text is confirmed: it is a statement, and these are its differences
 pub record IsConfirmation (w : World) (text written : List ℕ) : Type 0 where
   pub day : ℕ

@@ -1,11 +1,12 @@
 //! Confirming a statement: how it differs from the books.
 
-ghost use Rattle.std.specs.Prelude.{◌≡◌, ◌≤◌, ◌++◌, ◌∷◌, IfOk, IfErr, OnOk};
+ghost use Rattle.std.specs.Prelude.{◌≡◌, ◌≤◌, ◌++◌, ◌∷◌, ℕ, List, IfOk, IfErr, OnOk};
 ghost use Rattle.std.specs.List.{AllPairs};
 ghost use Rattle.svc_base.specs.Text.{text_of_number};
 ghost use Rattle.serv_line.specs.Replies.{ended};
 ghost use Rattle.svc_world.specs.World.{world};
-ghost use Rattle.servicing_transfer.specs.Stated.{IsConfirmFault, rises};
+ghost use Rattle.servicing_transfer.specs.declared.statement_line.StatementLine as lines;
+ghost use Rattle.servicing_transfer.specs.Stated.{IsConfirmFault, IsStatement, rises};
 ghost use Rattle.servicing_transfer.specs.Confirmations as rule;
 ghost use Rattle.servicing_transfer.specs.Confirmations.{IsConfirmation, text_of_differences};
 ghost use Rattle.servicing_transfer.specs.Differences as walk;
@@ -126,6 +127,8 @@ pub fn confirm<B: LoanBooks, L: Ledger>(
 ) -> Result<Vec<u8>, ConfirmFault>
     ensures text { IfOk result (λ v. IsConfirmation (world core.now.history) text.now v.items) }
     ensures fault { IfErr result (IsConfirmFault text.now) }
+    ensures accepted { (day : ℕ) (stated : List lines.StatementLine) → IsStatement text.now day stated →
+        IfErr result (λ why. why ≡ ConfirmFault.OutOfMemory) }
     ensures steps { steps.new ≤ steps.old }
 {
     core.history_holds();
