@@ -14,6 +14,8 @@ pub mod PassLemmas
 pub mod RowSums
 pub mod NumberLemmas
 pub mod OneStatement
+pub mod OwnStatement
+pub mod OwnText
 pub mod SumLemmas
 pub mod StatementLemmas
 pub mod LineTexts
