@@ -17,6 +17,7 @@ use serv_disk::{Disk, Sink, Source};
 use serv_engine::{Engine, EngineFault};
 use serv_journal::{JournalFault, init};
 use std::alloc::Global;
+use std::mem::forget;
 use std::sync::ledger::Ledger;
 use svc_base::Steps;
 use svc_checkpoint::Checked;
@@ -108,7 +109,12 @@ pub(crate) fn apply<S: Source, K: Sink, D: Disk, L: Ledger>(
     ensures disk_later { D.faults disk.old ≤ D.faults disk.new }
 {
     match open_journal(alloc, disk, steps) {
-        Ok(mut engine) => serve(alloc, 0, &mut engine, disk, src, snk, steps),
+        Ok(mut engine) => {
+            let status = serve(alloc, 0, &mut engine, disk, src, snk, steps);
+            // as `session` does
+            forget(engine);
+            status
+        }
         Err(status) => status,
     }
 }

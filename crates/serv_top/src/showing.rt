@@ -20,6 +20,7 @@ use serv_engine::Engine;
 use serv_machine::Machine;
 use serv_report::write_answer;
 use std::alloc::Global;
+use std::mem::forget;
 use std::sync::ledger::Ledger;
 use svc_base::Steps;
 use svc_checkpoint::Checked;
@@ -48,7 +49,11 @@ pub(crate) fn show<K: Sink, D: Disk, L: Ledger>(
     ensures disk_later { D.faults disk.old ≤ D.faults disk.new }
 {
     match open_journal(alloc, disk, steps) {
-        Ok(engine) => show_by::<D, Engine<Checked>, K, L>(alloc, &engine, query, snk, steps),
+        Ok(engine) => {
+            let status = show_by::<D, Engine<Checked>, K, L>(alloc, &engine, query, snk, steps);
+            forget(engine);
+            status
+        }
         Err(status) => status,
     }
 }

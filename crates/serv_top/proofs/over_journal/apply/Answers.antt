@@ -5,21 +5,21 @@ use Rattle.serv_top.proofs.over_journal.apply.Goals as goal
 
 pub returns-in-Ok-clause-applied : goal.returns-in-Ok-clause-applied
 returns-in-Ok-clause-applied g c =
-    inr (applied g.D.Disk.seen g.D.Disk.images g.D.Disk.moment g.D.Disk.images_since c.args.disk.now c.open_journal.new.disk c.serve.new.disk c.serve.result c.in-Ok.engine c.serve.new.machine
-    c.args.steps.now c.open_journal.new.steps c.serve.new.steps _ _ _ _ c.in-Ok.ensures.opened c.in-Ok.ensures.limit c.serve.ensures.ends)
+    inr (applied g.D.Disk.seen g.D.Disk.images g.D.Disk.moment g.D.Disk.images_since c.args.disk.now c.open_journal.new.disk c.serve-status.new.disk c.serve-status.result c.in-Ok.engine c.serve-status.new.machine
+    c.args.steps.now c.open_journal.new.steps c.serve-status.new.steps _ _ _ _ c.in-Ok.ensures.opened c.in-Ok.ensures.limit c.serve-status.ensures.ends)
 
 pub returns-in-Ok-clause-not_journal : goal.returns-in-Ok-clause-not_journal
-returns-in-Ok-clause-not_journal g c = (c.in-Ok.ensures.faultless c.serve.result).not_journal
+returns-in-Ok-clause-not_journal g c = (c.in-Ok.ensures.faultless c.serve-status.result).not_journal
 
 pub returns-in-Ok-clause-damaged : goal.returns-in-Ok-clause-damaged
-returns-in-Ok-clause-damaged g c = (c.in-Ok.ensures.faultless c.serve.result).damaged
+returns-in-Ok-clause-damaged g c = (c.in-Ok.ensures.faultless c.serve-status.result).damaged
 
 pub returns-in-Ok-clause-full : goal.returns-in-Ok-clause-full
-returns-in-Ok-clause-full g c = (c.in-Ok.ensures.faultless c.serve.result).full
+returns-in-Ok-clause-full g c = (c.in-Ok.ensures.faultless c.serve-status.result).full
 
 pub returns-in-Ok-clause-disk : goal.returns-in-Ok-clause-disk
 returns-in-Ok-clause-disk g c = λ is.
-    risen_from (g.D.Disk.faults c.args.disk.now) (g.D.Disk.faults c.open_journal.new.disk) (g.D.Disk.faults c.serve.new.disk) c.open_journal.ensures.disk_later c.serve.ensures.disk_later (c.serve.ensures.disk is)
+    risen_from (g.D.Disk.faults c.args.disk.now) (g.D.Disk.faults c.open_journal.new.disk) (g.D.Disk.faults c.serve-status.new.disk) c.open_journal.ensures.disk_later c.serve-status.ensures.disk_later (c.serve-status.ensures.disk is)
 
 pub returns-in-Err-clause-applied : goal.returns-in-Err-clause-applied
 returns-in-Err-clause-applied g c = inl (c.in-Err.ensures.unopened, refl, refl)

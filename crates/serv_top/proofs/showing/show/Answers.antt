@@ -10,12 +10,12 @@ returns-in-Ok-clause-shown g c =
       base = e.journal.size - lengths_of e.history;
       begun = c.open_journal.new.steps;
       opening = c.in-Ok.ensures.opened;
-      cost = c.show_by.ensures.steps;
-      shown = c.show_by.ensures.shows;
+      cost = c.show_by-status.ensures.steps;
+      shown = c.show_by-status.ensures.shows;
     })
 
 pub returns-in-Ok-clause-file : goal.returns-in-Ok-clause-file
-returns-in-Ok-clause-file g c = c.in-Ok.ensures.faultless c.show_by.result
+returns-in-Ok-clause-file g c = c.in-Ok.ensures.faultless c.show_by-status.result
 
 pub returns-in-Err-clause-shown : goal.returns-in-Err-clause-shown
 returns-in-Err-clause-shown g c = inl (c.in-Err.ensures.unopened, refl)
