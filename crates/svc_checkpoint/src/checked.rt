@@ -9,7 +9,7 @@ use std::alloc::Global;
 use std::marker::Model;
 use std::sync::ledger::Ledger;
 use svc_base::{Day, Month, OutOfMemory, Steps, make_room, month_of};
-use svc_replay::{BookFault, LoanAccount, LoanBooks, facts_between};
+use svc_replay::{BookFault, LoanAccount, LoanBooks, facts_between, fold_last};
 use svc_types::{Books, Entry, MonthFacts, Terms};
 
 /// By how many months at least the list of their ends grows.
@@ -85,7 +85,15 @@ impl LoanBooks for Checked {
     }
 
     fn post<L: Ledger>(&mut self, entry: Entry, steps: &mut Steps<L>) -> Result<(), BookFault> {
+        // the boarded day is that of the terms
+        self.kept.is_account();
+        let is_last = self.kept.is_quiet_after(entry.day);
         self.kept.post(&entry)?;
+        if is_last {
+            self.kept.is_account();
+            fold_last(&mut self.now, self.kept.terms(), &entry, steps);
+            return Ok(());
+        }
         self.now = refreshed(&self.kept, &mut self.ends, month_of(entry.day), steps);
         Ok(())
     }

@@ -7,3 +7,4 @@ pub mod PlainLemmas
 pub mod RemoveLemmas
 pub mod LateLemmas
 pub mod PlaceLemmas
+pub mod LastLemmas

@@ -1,11 +1,12 @@
 -- What an implementation of a loan's books keeps: its account, and for how much more it has room.
 use Rattle.std.specs.Prelude.{◌≡◌, ◌≢◌, ℕ, ◌+◌, ◌≤◌, ◌<◌, ◌==◌, Option, None, Some, List, length, get_or, map}
-use Rattle.std.specs.List.{find}
+use Rattle.std.specs.List.{All, find}
 use Rattle.svc_types.specs.declared.terms.Terms.{Terms}
 use Rattle.svc_types.specs.declared.books.Books.{Books}
 use Rattle.svc_types.specs.declared.account.Entry.{Entry}
 use Rattle.svc_types.specs.Terms.{IsSound}
 use Rattle.svc_spec.specs.Books.{AreBooks}
+use Rattle.svc_spec.specs.Events.{events_to}
 use Rattle.svc_spec.specs.Accounts.{Account, IsAccount, live_of, books_of, reverser_of}
 
 -- how many entries, reversals and months can be added without memory
@@ -69,3 +70,7 @@ pub record AreOfLoan (b : Books) : Type 0 where
   pub terms : Terms
   pub sound : IsSound terms
   pub books : AreBooks terms b
+
+-- nothing happens to a loan after a day, up to the business day
+abbrev pub IsQuietAfter : Account → ℕ → Type 0
+IsQuietAfter a d = All (λ e. e.day ≤ d) (events_to a.terms (live_of a) a.today)

@@ -1,6 +1,6 @@
 //! The account of a loan: its entries and reversals, and the live entries in order.
 
-ghost use Rattle.std.specs.Prelude.{◌≡◌, ◌+◌, ◌≤◌, ◌<◌, nat_lt, length, None, IfSome, IsErrOf, OnOk, OnErr};
+ghost use Rattle.std.specs.Prelude.{◌≡◌, ◌+◌, ◌≤◌, ◌<◌, nat_lt, length, true, None, IfSome, IsErrOf, OnOk, OnErr};
 ghost use Rattle.std.specs.Prelude.{IfErr};
 ghost use Rattle.std.specs.List.{AllPairs};
 ghost use Rattle.svc_base.specs.Calendar.{month_of as month_number, months_end};
@@ -8,11 +8,11 @@ ghost use Rattle.svc_spec.specs.Accounts as rule;
 ghost use Rattle.svc_spec.specs.Books.{AreBooks};
 ghost use Rattle.svc_spec.specs.Months.{cost_of_month, counted};
 ghost use Rattle.svc_replay.specs.Faults.{most_entries, IsPostFault, IsReverseFault};
-ghost use Rattle.svc_replay.specs.Kept.{IsLoweredBy, IsPlaceOf, nothing, one_entry, one_reversal};
+ghost use Rattle.svc_replay.specs.Kept.{IsLoweredBy, IsPlaceOf, IsQuietAfter, nothing, one_entry, one_reversal};
 
 use crate::entries::{Entries, Live, STEP};
 use crate::fault::BookFault;
-use crate::folding::refold;
+use crate::folding::{is_quiet, refold};
 use std::alloc::Global;
 use std::marker::Model;
 use std::sync::ledger::Ledger;
@@ -181,6 +181,16 @@ impl LoanAccount {
         ensures { result ≡ rule.live_of self.now.account }
     {
         self.entries.live()
+    }
+
+    /// Whether nothing is known to happen to the loan after a day, up to the business day: no month begins, no late
+    /// charge falls due and no entry takes effect.
+    pub fn is_quiet_after(&self, day: Day) -> bool
+        requires since { self.now.account.terms.boarded ≤ day }
+        requires until { day ≤ self.now.account.today }
+        ensures { result ≡ true → IsQuietAfter self.now.account day }
+    {
+        day == self.today || is_quiet(&self.terms, &self.entries.live(), day, self.today)
     }
 
     /// The entry with that number, reversed or not.

@@ -14,7 +14,7 @@ mod rows;
 pub use account::LoanAccount;
 pub use entries::Live;
 pub use fault::BookFault;
-pub use folding::{fold_on, refold};
+pub use folding::{fold_last, fold_on, refold};
 pub use laws::{agree, events_stand_in_order};
 pub use loan_books::LoanBooks;
 pub use plain::{Plain, facts_between};
