@@ -1,6 +1,6 @@
 -- Runs of reads through a window, and what the bytes that were read say of the file.
-use Rattle.std.proofs.Common.{◌≡◌, ℕ, ◌+◌, ◌*◌, ◌/◌, ◌%◌, ◌<◌, ◌≤◌, List, [], ◌∷◌, ◌++◌, Option, Some, None, MatchOption, ◌≢◌, append_assoc, length, take, drop, get_or, map, refl, sym, ap, subst, ◌∙◌, inl, inr, ⊎_elim, arith, set}
-use Rattle.std.proofs.lemmas.List.{take_at, take-take, take_all, length-take, get_or-map, length-map, take_more, take_more_set, get_or-drop, length-drop, drop_at, drop-drop}
+use Rattle.std.proofs.Common.{◌≡◌, ℕ, ◌+◌, ◌-◌, ◌*◌, ◌/◌, ◌%◌, ◌<◌, ◌≤◌, List, [], ◌∷◌, ◌++◌, Option, Some, None, MatchOption, ◌≢◌, append_assoc, length, take, drop, get_or, map, refl, sym, ap, subst, ◌∙◌, inl, inr, ⊎_elim, arith}
+use Rattle.std.proofs.lemmas.List.{take_at, take-take, drop-take, take_all, length-take, get_or-map, length-map, drop_at, drop-drop}
 use Rattle.std.proofs.lemmas.Bool.{cases_lt}
 use Rattle.std.specs.declared.vec.Vec.{Vec}
 use Rattle.std.specs.declared.alloc.Global.{Global}
@@ -101,13 +101,17 @@ pub four_found : (room rest : List ℕ) (n : ℕ) → length room ≡ 4 → room
     → four_bytes n ≡ get_or room 0 0 ∷ get_or room 1 0 ∷ get_or room 2 0 ∷ get_or room 3 0 ∷ [] → Starts (four_bytes n) rest
 four_found room rest n long is number = taken_starts (four_bytes n) rest 4 (sym (number ∙ (four_items room long ∙ is)))
 
--- a room with one byte more
-pub filled_more : (room file : List ℕ) (i place b : ℕ) → i < length room → place + i < length file → take i room ≡ take i (drop place file) → b ≡ get_or file (place + i) 0
-    → take (i + 1) (set room i b) ≡ take (i + 1) (drop place file)
-filled_more room file i place b within inside so_far byte =
-    let left : i < length (drop place file) = omega (arith, length-drop place file) in
-    take_more_set room i b within ∙ (ap (λ t. t ++ b ∷ []) so_far ∙ (ap (λ x. take i (drop place file) ++ x ∷ []) (byte ∙ sym (get_or-drop place file i 0))
-    ∙ sym (take_more (drop place file) i 0 left)))
+-- a part of what a window holds is that part of the file
+pub part_shown : (bytes file : List ℕ) (n at place : ℕ) → bytes ≡ take (length bytes) (drop at file) → at ≤ place → place + n ≤ at + length bytes → take n (drop (place - at) bytes) ≡ take n (drop place file)
+part_shown bytes file n at place is from to =
+    let k = place - at in
+    let m = length bytes - k in
+    let whole : length bytes ≡ k + m = omega arith in
+    let here : k + at ≡ place = omega arith in
+    ap (λ xs. take n (drop k xs)) (is ∙ ap (λ x. take x (drop at file)) whole)
+    ∙ ap (take n) (drop-take k m (drop at file))
+    ∙ take-take n m (drop k (drop at file)) (omega arith)
+    ∙ ap (take n) (drop-drop k at file ∙ ap (λ x. drop x file) (omega arith))
 
 view_at : (frames : List Frame) (seen : List (ℕ × List ℕ)) (i : ℕ) (frame : Frame) → map (λ (f : Frame). (f.place, f.line.items)) frames ≡ seen
     → i < length seen → frame ≡ get_or frames i frame → get_or seen i (frame.place, frame.line.items) ≡ (frame.place, frame.line.items)

@@ -1,6 +1,6 @@
 //! Reading a file through a window.
 
-ghost use Rattle.std.specs.Prelude.{◌≡◌, ℕ, ◌+◌, ◌-◌, ◌≤◌, ◌<◌, ◌↔◌, List, [], length, take, drop, slice_index, Some, IfOk, IfErr, OnOk, IsTrue};
+ghost use Rattle.std.specs.Prelude.{◌≡◌, ℕ, ◌+◌, ◌-◌, ◌≤◌, ◌<◌, ◌↔◌, List, [], length, min, take, drop, slice_index, Some, IfOk, IfErr, OnOk, IsTrue};
 ghost use Rattle.serv_disk.specs.Faults.{HasCause};
 ghost use Rattle.serv_journal.specs.Bytes.{Starts};
 ghost use Rattle.serv_journal.specs.Outcomes.{IsPassing};
@@ -55,11 +55,12 @@ impl Window {
         self.size
     }
 
-    /// Reads from this place on.
+    /// Reads from this place on: 4,096 bytes, or as many as there are.
     fn load<D: Disk>(&mut self, disk: &mut D, place: u64) -> Result<(), Failed>
         requires within { place < self.old.size }
         requires shows { ShowsTold (D.seen disk.old) self.old }
-        ensures holds { OnOk result ((self.new.at ≤ place) × (place < self.new.at + length self.new.bytes)) }
+        ensures at { OnOk result (self.new.at ≡ place) }
+        ensures count { OnOk result (length self.new.bytes ≡ min (self.old.size - place) 4096) }
         ensures reading { IsReading D.seen D.images D.moment D.images_since D.faults disk.old disk.new
             self.old self.new }
         ensures cause { HasCause (D.faults disk.old) (D.faults disk.new) result }
@@ -72,26 +73,41 @@ impl Window {
         Ok(())
     }
 
-    /// Whether the window has the byte at this place.
-    fn has(&self, place: u64) -> bool
-        ensures { IsTrue result ↔ ((self.now.at ≤ place) × (place < self.now.at + length self.now.bytes)) }
+    /// Whether the window has so many bytes from this place on.
+    fn has(&self, place: u64, count: usize) -> bool
+        ensures { IsTrue result → (self.now.at ≤ place)
+            × (place + count ≤ self.now.at + length self.now.bytes) }
     {
-        self.at <= place && place - self.at < self.filled as u64
+        let filled = self.filled as u64;
+        self.at <= place && place - self.at <= filled && count as u64 <= filled - (place - self.at)
     }
 
-    /// Moves the window, unless it has the byte at this place.
-    fn bring<D: Disk>(&mut self, disk: &mut D, place: u64) -> Result<(), Failed>
-        requires within { place < self.old.size }
+    /// Moves the window, unless it has so many bytes from this place on.
+    fn bring<D: Disk>(&mut self, disk: &mut D, place: u64, count: usize) -> Result<(), Failed>
+        requires within { place + count ≤ self.old.size }
+        requires some { 1 ≤ count }
+        requires few { count ≤ 4096 }
         requires shows { ShowsTold (D.seen disk.old) self.old }
-        ensures holds { OnOk result ((self.new.at ≤ place) × (place < self.new.at + length self.new.bytes)) }
+        ensures from { OnOk result (self.new.at ≤ place) }
+        ensures to { OnOk result (place + count ≤ self.new.at + length self.new.bytes) }
         ensures reading { IsReading D.seen D.images D.moment D.images_since D.faults disk.old disk.new
             self.old self.new }
         ensures cause { HasCause (D.faults disk.old) (D.faults disk.new) result }
     {
-        if self.has(place) {
+        if self.has(place, count) {
             return Ok(());
         }
         self.load(disk, place)
+    }
+
+    /// Copies bytes that the window has, from this place on.
+    fn copy_to(&self, place: u64, room: &mut [u8])
+        requires from { self.now.at ≤ place }
+        requires to { place + length room.old ≤ self.now.at + length self.now.bytes }
+        ensures { room.new ≡ take (length room.old) (drop (place - self.now.at) self.now.bytes) }
+    {
+        let start = (place - self.at) as usize;
+        room.copy_from_slice(&self.room[start..start + room.len()]);
     }
 
     /// The byte at a place that the window has.
@@ -112,12 +128,11 @@ impl Window {
             self.old self.new }
         ensures fault { IfErr result (IsPassing (D.faults disk.old) (D.faults disk.new)) }
     {
-        self.bring(disk, place)?;
+        self.bring(disk, place, 1)?;
         Ok(self.byte_here(place))
     }
 
     /// Fills the room with the bytes from this place on.
-    #[tactic(auto, using(crate::proofs::ReadingLemmas::reading_on, crate::proofs::ReadingLemmas::passing_from))]
     pub(crate) fn fill<D: Disk>(
         &mut self,
         disk: &mut D,
@@ -125,6 +140,8 @@ impl Window {
         room: &mut [u8],
     ) -> Result<(), JournalFault>
         requires within { place + length room.old ≤ self.old.size }
+        requires some { 1 ≤ length room.old }
+        requires few { length room.old ≤ 4096 }
         requires shows { ShowsTold (D.seen disk.old) self.old }
         ensures bytes { OnOk result ((s : List ℕ) → D.seen disk.old ≡ Some s
             → room.new ≡ take (length room.old) (drop place s)) }
@@ -132,10 +149,8 @@ impl Window {
             self.old self.new }
         ensures fault { IfErr result (IsPassing (D.faults disk.old) (D.faults disk.new)) }
     {
-        let _size = self.size();
-        for i in 0..room.len() {
-            room[i] = self.byte_at(disk, place + i as u64)?;
-        }
+        self.bring(disk, place, room.len())?;
+        self.copy_to(place, room);
         Ok(())
     }
 
@@ -149,6 +164,8 @@ impl Window {
         count: usize,
     ) -> Result<Vec<u8>, JournalFault>
         requires within { place + count ≤ self.old.size }
+        requires some { 1 ≤ count }
+        requires few { count ≤ 4096 }
         requires shows { ShowsTold (D.seen disk.old) self.old }
         ensures count { IfOk result (λ bytes. length bytes.items ≡ count) }
         ensures bytes { IfOk result (λ bytes. (s : List ℕ) → D.seen disk.old ≡ Some s
