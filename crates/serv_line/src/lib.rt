@@ -3,6 +3,7 @@
 
 mod fields;
 mod pushing;
+mod quick;
 mod reading;
 mod refusals;
 mod replies;

@@ -10,6 +10,7 @@ ghost use Rattle.serv_line.specs.Lines.{words_of, words_left, words_of_request, 
 ghost use Rattle.serv_line.specs.LineFaults.{Fits, IsLeftAt, IsFault};
 
 use crate::fields::read_fields;
+use crate::quick::quick_command;
 use crate::words::next_word;
 use arrayvec::ArrayVec;
 use svc_forms::{command_of, form_named, query_of, question_named};
@@ -70,6 +71,9 @@ fn read_command(words: Option<&[u8]>) -> Result<Command, usize>
     let Some(text) = words else {
         return Err(0);
     };
+    if let Some(command) = quick_command(text) {
+        return Ok(command);
+    }
     let (name, rest) = next_word(text);
     let Some(form) = form_named(name) else {
         return Err(text.len());
