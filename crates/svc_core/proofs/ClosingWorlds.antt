@@ -28,7 +28,7 @@ use Rattle.svc_world.specs.Judging.{report_for, closed_extra, extra_of}
 use Rattle.svc_world.specs.Worlds.{IsWorld}
 use Rattle.svc_world.proofs.QuietWorlds.{after_month}
 use Rattle.svc_world.proofs.ClosedWorlds.{closing, closing_may, close_keeps}
-use Rattle.svc_loan.specs.Kept.{KeptLoan, IsReady}
+use Rattle.svc_loan.specs.Kept.{KeptLoan, HasMonth}
 use Rattle.svc_loan.specs.Loans.{KeptLoans, MayCloseMonth, closed_by, held_in, closed_in, remitted_in}
 use Rattle.svc_core.specs.Cash.{IsKeptIn}
 use Rattle.svc_core.specs.Reported.{IsClosedFor, AreSent}
@@ -44,7 +44,7 @@ next_closed : (o : Option ℕ) (p boarded closed : ℕ) → IfSome o (λ last. p
 next_closed None p boarded closed next first is le = (let from = first refl in omega (arith, from, is, le))
 next_closed (Some last) p boarded closed next first is le = omega (arith, next, is, le)
 
-pub close_may : (n p today : ℕ) (loans : KeptLoans) (seals : State) → IsState n today loans seals → refusal_of n (world_of today loans seals) (command.Close p) ≡ None → All (IsReady today) loans.loans → All (MayCloseMonth p) loans.loans
+pub close_may : (n p today : ℕ) (loans : KeptLoans) (seals : State) → IsState n today loans seals → refusal_of n (world_of today loans seals) (command.Close p) ≡ None → All (HasMonth today) loans.loans → All (MayCloseMonth p) loans.loans
 close_may n p today loans seals h fresh ready =
     let w = world_of today loans seals in
     let c = (closing n p w fresh).0 in

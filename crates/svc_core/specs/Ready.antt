@@ -4,7 +4,7 @@ use Rattle.std.specs.List.{All}
 use Rattle.svc_types.specs.declared.terms.Terms.{Terms}
 use Rattle.period_adjust.specs.Sealed.{State}
 use Rattle.svc_world.specs.Held.{boarded}
-use Rattle.svc_loan.specs.Kept.{KeptLoan, IsReady}
+use Rattle.svc_loan.specs.Kept.{KeptLoan, IsReady, HasMonth}
 use Rattle.svc_loan.specs.Loans.{KeptLoans, OfLoan}
 use Rattle.svc_core.specs.declared.scope.Scope.{Scope}
 use Rattle.svc_core.specs.declared.scope.Scope.TheVariants.{One, New, Every}
@@ -32,7 +32,7 @@ pub record IsBoarding (id : ℕ) (t : Terms) (today : ℕ) (k : KeptLoan) : Type
 -- for a command on all loans, after which the business day is that one: room in each, for the rows of each, and
 -- for a report with a line of each
 pub record HasRoomForAll (today : ℕ) (loans : KeptLoans) (seals : State) (rows lines : ℕ) : Type 0 where
-  pub each : All (IsReady today) loans.loans
+  pub each : All (HasMonth today) loans.loans
   pub rows_room : 11 * length loans.loans ≤ rows
   pub lines_room : length loans.loans ≤ lines
   pub report_lines : length loans.loans ≤ seals.line_room

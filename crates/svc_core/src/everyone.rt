@@ -12,7 +12,7 @@ ghost use Rattle.period_adjust.specs.Totals as totals;
 ghost use Rattle.svc_world.specs.World.{after, today_after};
 ghost use Rattle.svc_world.specs.Refusals.{refusal_of};
 ghost use Rattle.svc_world.specs.Judging.{extra_of};
-ghost use Rattle.svc_loan.specs.Kept.{IsReady};
+ghost use Rattle.svc_loan.specs.Kept.{HasMonth};
 ghost use Rattle.svc_loan.specs.Loans.{held_in};
 ghost use Rattle.svc_core.specs.Cash.{IsKeptIn};
 ghost use Rattle.svc_core.specs.Costs as cost;
@@ -43,7 +43,7 @@ pub(crate) fn change_all<B: LoanBooks, L: Ledger>(
     requires scope { scope_of command.now ≡ Scope.Every }
     requires fresh { refusal_of count (world_of state.old.today state.old.loans state.old.seals)
         command.now ≡ None }
-    requires loans { All (IsReady (today_after state.old.today command.now)) state.old.loans.loans }
+    requires loans { All (HasMonth (today_after state.old.today command.now)) state.old.loans.loans }
     requires lines { length state.old.loans.loans ≤ vec_capacity lines.old }
     requires report_lines { length state.old.loans.loans ≤ state.old.seals.line_room }
     requires report { 1 ≤ state.old.seals.report_room }
@@ -79,7 +79,7 @@ fn change_day<B: LoanBooks, L: Ledger>(
     requires state { IsState count state.old.today state.old.loans state.old.seals }
     requires fresh { refusal_of count (world_of state.old.today state.old.loans state.old.seals)
         (command.Day day) ≡ None }
-    requires loans { All (IsReady day) state.old.loans.loans }
+    requires loans { All (HasMonth day) state.old.loans.loans }
     ensures world { world_of state.new.today state.new.loans state.new.seals
         ≡ after (count + 1) (world_of state.old.today state.old.loans state.old.seals) (command.Day day) }
     ensures kept { All (IsKeptIn (world_of state.new.today state.new.loans state.new.seals))
@@ -105,7 +105,7 @@ fn change_close<B: LoanBooks, L: Ledger>(
     requires month { IsReadMonth month }
     requires fresh { refusal_of count (world_of state.old.today state.old.loans state.old.seals)
         (command.Close month) ≡ None }
-    requires loans { All (IsReady state.old.today) state.old.loans.loans }
+    requires loans { All (HasMonth state.old.today) state.old.loans.loans }
     requires lines { length state.old.loans.loans ≤ vec_capacity lines.old }
     requires report_lines { length state.old.loans.loans ≤ state.old.seals.line_room }
     requires report { 1 ≤ state.old.seals.report_room }

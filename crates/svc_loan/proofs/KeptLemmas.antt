@@ -1,5 +1,5 @@
 -- Loans by rising number: where one is found, and what a change of one, or one loan more, leaves.
-use Rattle.std.proofs.Common.{◌≡◌, ◌≢◌, ℕ, zero, suc, ◌≤◌, ◌<◌, true, false, cond, List, [], ◌∷◌, map, length, get_or, arith, refl, sym, ap, ◌∙◌}
+use Rattle.std.proofs.Common.{◌≡◌, ◌≢◌, ℕ, zero, suc, ◌-◌, ◌≤◌, ◌<◌, true, false, cond, List, [], ◌∷◌, map, length, get_or, arith, refl, sym, ap, subst, ◌∙◌}
 use Rattle.std.proofs.Math.ListN.{set}
 use Rattle.std.proofs.Math.ListN.{get_or-map as get_mapped}
 use Rattle.std.proofs.Math.Seq.{map-set_same}
@@ -14,7 +14,7 @@ use Rattle.std.proofs.lemmas.List.Kept.{AllPairs-cons}
 use Rattle.svc_types.proofs.OrderLemmas.{pairs_head, pairs_tail}
 use Rattle.svc_spec.proofs.FindLemmas.{Rises, found_at, absent_at}
 use Rattle.svc_world.specs.Held.{Held, changed, with_loan}
-use Rattle.svc_loan.specs.Kept.{KeptLoan}
+use Rattle.svc_loan.specs.Kept.{KeptLoan, IsAhead, KeepsMonths}
 use Rattle.svc_loan.specs.Loans.{Rise, OfLoan, IsPlaceIn, find_kept, with_kept, held_in, closed_in, remitted_in, remitted_by}
 
 -- ---- what stands behind pointers
@@ -302,3 +302,40 @@ remitted_rises v xs id i x y cents rise place new =
 pub on_ok : {T E : Type 0} (r : Result T E) (P Q : Type 0) → (P → Q) → OnOk r P → OnOk r Q
 on_ok (Ok x) P Q f h = f h
 on_ok (Err e) P Q f h = h
+
+-- ---- room for business days and closed months
+
+pub still_ahead : (u n : ℕ) (k j : KeptLoan) → IsAhead u n k → KeepsMonths 0 k j → IsAhead u n j
+still_ahead u n k j h keeps = record { months = omega (arith, h.months, keeps.months); closing = omega (arith, h.closing, keeps.closing) }
+
+pub one_closed : (u n : ℕ) (k j : KeptLoan) → IsAhead u n k → KeepsMonths 1 k j → IsAhead u (n - 1) j
+one_closed u n k j h keeps = record { months = omega (arith, h.months, keeps.months); closing = omega (arith, h.closing, keeps.closing) }
+
+pub fewer_ahead : (u n : ℕ) (ks : List KeptLoan) → All (IsAhead u n) ks → All (IsAhead u (n - 1)) ks
+fewer_ahead u n ks h i d lt = let one = h i d lt in record { months = one.months; closing = omega (arith, one.closing) }
+
+pub none_ahead : (ks : List KeptLoan) → All (IsAhead 0 0) ks
+none_ahead ks i d lt = record { months = omega arith; closing = omega arith }
+
+-- what holds of all holds still where the one that is put at a place has it
+pub all_set : {X : Type 0} (v : X → KeptLoan) (P : KeptLoan → Type 0) (xs : List X) (i : ℕ) (y : X) → All P (map v xs) → P (v y) → All P (map v (set xs i y))
+all_set v P [] zero y h p = h
+all_set v P [] (suc i) y h p = h
+all_set v P (x ∷ xs) zero y h p = All-cons P (v y) (map v xs) p (All-tail P (v x) (map v xs) h)
+all_set v P (x ∷ xs) (suc i) y h p = All-cons P (v x) (map v (set xs i y)) (All-head P (v x) (map v xs) h) (all_set v P xs i y (All-tail P (v x) (map v xs) h) p)
+
+-- a loan that is changed behind its pointer keeps what all have room for
+pub ahead_at : {X : Type 0} (v : X → KeptLoan) (u n : ℕ) (xs : List X) (i : ℕ) (x y : X) (k : KeptLoan) → All (IsAhead u n) (map v xs) → i < length xs → k ≡ v (get_or xs i x) → KeepsMonths 0 k (v y) → All (IsAhead u n) (map v (set xs i y))
+ahead_at v u n xs i x y k all lt is keeps =
+    let here = all i (v x) (omega (arith, length-map xs v)) in
+    let old : IsAhead u n k = subst (IsAhead u n) (get_mapped v xs i x ∙ sym is) here in
+    all_set v (IsAhead u n) xs i y all (still_ahead u n k (v y) old keeps)
+
+pub ahead_behind : {X : Type 0} (v : X → KeptLoan) (u n : ℕ) (xs : List X) (id i : ℕ) (x y : X) (k : KeptLoan) → All (IsAhead u n) (map v xs) → IsPlaceIn id (map v xs) (Some i) → k ≡ v (get_or xs i x) → KeepsMonths 0 k (v y) → All (IsAhead u n) (map v (set xs i y))
+ahead_behind v u n xs id i x y k all place is keeps =
+    let within = place.0 in
+    ahead_at v u n xs i x y k all (omega (arith, length-map xs v)) is keeps
+
+-- and one of which a month is closed keeps room for one closed month less
+pub closed_at : {X : Type 0} (v : X → KeptLoan) (u n m : ℕ) (xs : List X) (i : ℕ) (y : X) (k : KeptLoan) → All (IsAhead u m) (map v xs) → m ≡ n - 1 → IsAhead u n k → KeepsMonths 1 k (v y) → All (IsAhead u m) (map v (set xs i y))
+closed_at v u n m xs i y k all is old keeps = all_set v (IsAhead u m) xs i y all (subst (λ x. IsAhead u x (v y)) (sym is) (one_closed u n k (v y) old keeps))

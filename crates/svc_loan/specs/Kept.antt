@@ -37,3 +37,22 @@ pub record IsReady (today : ℕ) (k : KeptLoan) : Type 0 where
   pub months : month_of today ≤ month_of k.held.account.today + k.room.books.months
   pub closing : 1 ≤ k.room.closings
   pub types : 1 ≤ k.room.types
+
+-- up to which month there is room for a business day
+abbrev pub months_ahead : KeptLoan → ℕ
+months_ahead k = month_of k.held.account.today + k.room.books.months
+
+-- a loan has room for a business day and for one more closed month
+pub record HasMonth (today : ℕ) (k : KeptLoan) : Type 0 where
+  pub months : month_of today ≤ month_of k.held.account.today + k.room.books.months
+  pub closing : 1 ≤ k.room.closings
+
+-- a loan has room for business days up to a month, and for so many closed months
+pub record IsAhead (until closings : ℕ) (k : KeptLoan) : Type 0 where
+  pub months : until ≤ months_ahead k
+  pub closing : closings ≤ k.room.closings
+
+-- the room of a loan for business days and closed months is lowered by no more than so many closed months
+pub record KeepsMonths (used : ℕ) (old new : KeptLoan) : Type 0 where
+  pub months : months_ahead old ≤ months_ahead new
+  pub closing : old.room.closings ≤ new.room.closings + used

@@ -1,10 +1,10 @@
 -- All loans that are kept, by rising number.
 use Rattle.std.specs.Prelude.{◌≡◌, ℕ, ◌+◌, ◌≤◌, ◌<◌, ◌==◌, nat_lt, nat_le, Bool, List, [], ◌∷◌, map, length, get_or, Option, Some, None, if◌then◌else◌, MatchOption, ℤ, ◌+ℤ◌}
-use Rattle.std.specs.List.{AllPairs, find}
+use Rattle.std.specs.List.{All, AllPairs, find}
 use Rattle.svc_base.specs.Calendar.{month_of}
 use Rattle.svc_spec.specs.Accounts.{Account, advanced_to}
 use Rattle.svc_world.specs.Held.{Held, boarded_month}
-use Rattle.svc_loan.specs.Kept.{KeptLoan}
+use Rattle.svc_loan.specs.Kept.{KeptLoan, IsAhead}
 
 -- loans, and for how many more there is room
 pub record KeptLoans : Type 0 where
@@ -24,6 +24,11 @@ remitted_in ks = map (λ (k : KeptLoan). k.remitted) ks
 -- the numbers of loans rise
 abbrev pub Rise : List KeptLoan → Type 0
 Rise ks = AllPairs (λ (j k : KeptLoan). j.held.id < k.held.id) ks
+
+-- the numbers of loans rise, and each has room for business days up to a month and for so many closed months
+pub record AreLoans (until closings : ℕ) (ks : List KeptLoan) : Type 0 where
+  pub rise : Rise ks
+  pub ahead : All (IsAhead until closings) ks
 
 abbrev pub is_numbered : ℕ → KeptLoan → Bool
 is_numbered id k = k.held.id == id

@@ -15,7 +15,7 @@ ghost use Rattle.svc_world.specs.Held as held;
 ghost use Rattle.svc_world.specs.LoanDues.{type_change, carry_of, due_of};
 ghost use Rattle.svc_world.specs.Custody.{due_sum};
 ghost use Rattle.svc_loan.specs.Closed as closed;
-ghost use Rattle.svc_loan.specs.Kept.{IsReady};
+ghost use Rattle.svc_loan.specs.Kept.{IsReady, IsAhead, KeepsMonths};
 ghost use Rattle.svc_loan.specs.Moved.{moved_of};
 
 use crate::closed::{ClosedMonths, close_next, last_carry, redo, total_due};
@@ -112,6 +112,7 @@ impl<B: LoanBooks> Loan<B> {
         ensures held { self.new.held ≡ held.with_entry entry.now self.old.held }
         ensures closed { self.new.closed ≡ self.old.closed }
         ensures remitted { self.new.remitted ≡ self.old.remitted }
+        ensures months { KeepsMonths 0 self.old self.new }
         ensures steps { steps.new ≤ steps.old
             + B.cost self.new.held.account (month_number entry.now.day)
             + closed.closed_cost B.month_cost self.new.held.account self.new.closed
@@ -134,6 +135,7 @@ impl<B: LoanBooks> Loan<B> {
         ensures held { self.new.held ≡ held.with_reversal entry.now.number by self.old.held }
         ensures closed { self.new.closed ≡ self.old.closed }
         ensures remitted { self.new.remitted ≡ self.old.remitted }
+        ensures months { KeepsMonths 0 self.old self.new }
         ensures steps { steps.new ≤ steps.old
             + B.cost self.new.held.account (month_number entry.now.day)
             + closed.closed_cost B.month_cost self.new.held.account self.new.closed
@@ -155,6 +157,7 @@ impl<B: LoanBooks> Loan<B> {
         ensures held { self.new.held ≡ held.on_day today self.old.held }
         ensures closed { self.new.closed ≡ self.old.closed }
         ensures remitted { self.new.remitted ≡ self.old.remitted }
+        ensures months { KeepsMonths 0 self.old self.new }
         ensures steps { steps.new ≤ steps.old
             + B.cost self.new.held.account (month_number self.old.held.account.today) }
     {
@@ -172,6 +175,7 @@ impl<B: LoanBooks> Loan<B> {
         ensures held { self.new.held ≡ held.with_type (type_change from kind) self.old.held }
         ensures closed { self.new.closed ≡ self.old.closed }
         ensures remitted { self.new.remitted ≡ self.old.remitted }
+        ensures months { KeepsMonths 0 self.old self.new }
         ensures steps { steps.new ≤ steps.old
             + closed.closed_cost B.month_cost self.new.held.account self.new.closed from }
     {
@@ -186,6 +190,7 @@ impl<B: LoanBooks> Loan<B> {
         ensures held { self.new.held ≡ held.with_bill line self.old.held }
         ensures closed { self.new.closed ≡ self.old.closed }
         ensures remitted { self.new.remitted ≡ self.old.remitted }
+        ensures months { KeepsMonths 0 self.old self.new }
     {
         match self.lines.set(line) {
             Ok(()) => {}
@@ -199,6 +204,7 @@ impl<B: LoanBooks> Loan<B> {
         ensures held { self.new.held ≡ held.without_bill id self.old.held }
         ensures closed { self.new.closed ≡ self.old.closed }
         ensures remitted { self.new.remitted ≡ self.old.remitted }
+        ensures months { KeepsMonths 0 self.old self.new }
     {
         match self.lines.drop_line(id) {
             Ok(()) => {}
@@ -214,6 +220,7 @@ impl<B: LoanBooks> Loan<B> {
         ensures held { self.new.held ≡ self.old.held }
         ensures closed { self.new.closed ≡ self.old.closed + 1 }
         ensures remitted { self.new.remitted ≡ self.old.remitted }
+        ensures months { KeepsMonths 1 self.old self.new }
         ensures steps { steps.new ≤ steps.old + B.month_cost self.old.held.account
             (held.boarded_month self.old.held + self.old.closed) }
     {
@@ -228,6 +235,7 @@ impl<B: LoanBooks> Loan<B> {
         ensures held { self.new.held ≡ self.old.held }
         ensures closed { self.new.closed ≡ self.old.closed }
         ensures remitted { self.new.remitted ≡ self.old.remitted +ℤ cents }
+        ensures months { KeepsMonths 0 self.old self.new }
     {
         self.remitted += cents;
     }
@@ -239,12 +247,27 @@ impl<B: LoanBooks> Loan<B> {
         ensures held { self.new.held ≡ self.old.held }
         ensures closed { self.new.closed ≡ self.old.closed }
         ensures remitted { self.new.remitted ≡ self.old.remitted }
+        ensures months { KeepsMonths 0 self.old self.new }
         ensures ready { OnOk result (IsReady today self.new) }
     {
         self.books.reserve(today)?;
         self.types.reserve()?;
         make_room(&mut self.months.dues, 1, STEP)?;
         make_room(&mut self.months.carries, 1, STEP)?;
+        Ok(())
+    }
+
+    /// Makes room for business days up to one and for so many closed months; fails for want of memory alone.
+    pub fn reserve_months(&mut self, today: Day, closings: usize) -> Result<(), OutOfMemory>
+        ensures held { self.new.held ≡ self.old.held }
+        ensures closed { self.new.closed ≡ self.old.closed }
+        ensures remitted { self.new.remitted ≡ self.old.remitted }
+        ensures months { KeepsMonths 0 self.old self.new }
+        ensures ahead { OnOk result (IsAhead (month_number today) closings self.new) }
+    {
+        self.books.reserve(today)?;
+        make_room(&mut self.months.dues, closings, STEP)?;
+        make_room(&mut self.months.carries, closings, STEP)?;
         Ok(())
     }
 

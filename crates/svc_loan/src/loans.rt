@@ -12,7 +12,7 @@ ghost use Rattle.svc_world.specs.Held as held;
 ghost use Rattle.svc_world.specs.LoanDues.{type_change};
 ghost use Rattle.svc_loan.specs.Closed as closed;
 ghost use Rattle.svc_loan.specs.Loans.{Rise, IsPlaceIn, OfLoan, find_kept, with_kept, held_in, closed_in, remitted_in};
-ghost use Rattle.svc_loan.specs.Kept.{IsReady};
+ghost use Rattle.svc_loan.specs.Kept.{IsReady, HasMonth, IsAhead, KeepsMonths};
 ghost use Rattle.svc_loan.specs.Loans.{remitted_by, MayCloseMonth, closed_by, advance_cost, close_cost};
 
 use crate::loan::Loan;
@@ -20,21 +20,31 @@ use escrow_lines::Line;
 use std::alloc::Global;
 use std::marker::Model;
 use std::sync::ledger::Ledger;
-use svc_base::{Cents, Day, Month, OutOfMemory, Steps, month_of};
+use svc_base::{Cents, Day, Month, OutOfMemory, Steps, first_day, month_of};
 use svc_replay::LoanBooks;
 use svc_types::{Entry, RemitType};
 
+/// For how many months at once room is made in all loans.
+const AHEAD: u32 = 4;
+
+/// The months of the calendar.
+const MONTHS: u32 = 25_692;
+
 /// All loans by rising number. A loan is found where room was made last, or just behind it, and else by binary search;
-/// it is put in by moving pointers.
+/// it is put in by moving pointers. Room for business days and closed months is made in all loans for some months at once.
 #[derive(Drop)]
 pub struct Loans<B: LoanBooks> {
     loans: Vec<Box<Loan<B>>>,
     last: usize,
+    /// Each loan has room for business days up to this month.
+    until: u32,
+    /// For so many closed months each loan has room.
+    closings: usize,
 }
 
 impl<B: LoanBooks> Model for Loans<B> {
     ghost use Rattle.std.specs.Prelude.{◌-◌, map, vec_len, vec_capacity};
-    ghost use Rattle.svc_loan.specs.Loans.{KeptLoans, Rise};
+    ghost use Rattle.svc_loan.specs.Loans.{KeptLoans, AreLoans};
 
     ghost Value = { KeptLoans };
 
@@ -43,7 +53,7 @@ impl<B: LoanBooks> Model for Loans<B> {
       room = vec_capacity l.loans - vec_len l.loans;
     } };
 
-    ghost invariant = { λ l. Rise (map (λ b. b.value) l.loans.items) };
+    ghost invariant = { λ l. AreLoans l.until l.closings (map (λ b. b.value) l.loans.items) };
 }
 
 impl<B: LoanBooks> Loans<B> {
@@ -54,6 +64,8 @@ impl<B: LoanBooks> Loans<B> {
         Loans {
             loans: Vec::new(alloc),
             last: 0,
+            until: 0,
+            closings: 0,
         }
     }
 
@@ -112,20 +124,52 @@ impl<B: LoanBooks> Loans<B> {
         loan.reserve(today)
     }
 
-    /// Makes room in all loans for one more entry, reversal, change of type and closed month, and for a
-    /// business day; fails for want of memory alone.
+    /// Makes room in all loans for a business day and for one more closed month; fails for want of memory alone.
     pub fn reserve_all(&mut self, today: Day) -> Result<(), OutOfMemory>
         ensures held { held_in self.new.loans ≡ held_in self.old.loans }
         ensures closed { closed_in self.new.loans ≡ closed_in self.old.loans }
         ensures remitted { remitted_in self.new.loans ≡ remitted_in self.old.loans }
         ensures loan_room { self.new.room ≡ self.old.room }
-        ensures ready { OnOk result (All (IsReady today) self.new.loans) }
+        ensures ready { OnOk result (All (HasMonth today) self.new.loans) }
+    {
+        if self.is_ahead(today) {
+            return Ok(());
+        }
+        let later = some_months_after(today);
+        self.reserve_each(later)?;
+        self.are_ahead(later);
+        Ok(())
+    }
+
+    /// Whether all loans are known to have room for a business day and for one more closed month.
+    fn is_ahead(&self, today: Day) -> bool
+        ensures { IsTrue result → All (HasMonth today) self.now.loans }
+    {
+        month_of(today).number() <= self.until && 1 <= self.closings
+    }
+
+    /// Makes room in all loans for business days up to one, and for some closed months.
+    fn reserve_each(&mut self, later: Day) -> Result<(), OutOfMemory>
+        ensures held { held_in self.new.loans ≡ held_in self.old.loans }
+        ensures closed { closed_in self.new.loans ≡ closed_in self.old.loans }
+        ensures remitted { remitted_in self.new.loans ≡ remitted_in self.old.loans }
+        ensures loan_room { self.new.room ≡ self.old.room }
+        ensures ready { OnOk result (All (IsAhead (month_number later) AHEAD) self.new.loans) }
     {
         for i in 0..self.loans.len() {
             let loan = &mut self.loans[i];
-            loan.reserve(today)?;
+            loan.reserve_months(later, AHEAD as usize)?;
         }
         Ok(())
+    }
+
+    /// Keeps in mind for how much all loans have room.
+    fn are_ahead(&mut self, later: Day)
+        requires { All (IsAhead (month_number later) AHEAD) self.old.loans }
+        ensures { self.new ≡ self.old }
+    {
+        self.until = month_of(later).number();
+        self.closings = AHEAD as usize;
     }
 
     /// Adds what a report sends for a loan, in cents, to what was remitted for it.
@@ -152,6 +196,9 @@ impl<B: LoanBooks> Loans<B> {
         ensures held { held_in self.new.loans ≡ held.with_loan loan.value.held (held_in self.old.loans) }
     {
         let place = place_for(&self.loans, loan.id());
+        // nothing is known of the room of the new one
+        self.until = 0;
+        self.closings = 0;
         match self.loans.insert(place, loan) {
             Ok(()) => {}
             Err(_) => unreachable!(),
@@ -270,11 +317,23 @@ impl<B: LoanBooks> Loans<B> {
         ensures loan_room { self.new.room ≡ self.old.room }
         ensures steps { steps.new ≤ steps.old + sum_by (close_cost B.month_cost month) self.old.loans }
     {
+        self.closings = self.closings.saturating_sub(1);
         for i in 0..self.loans.len() {
             let loan = &mut self.loans[i];
             close_one(loan, month, steps);
         }
     }
+}
+
+/// The first day of the month that is some months after a day's, where the calendar has it.
+fn some_months_after(day: Day) -> Day
+    ensures { month_number day ≤ month_number result }
+{
+    let month = month_of(day);
+    if month.number() + AHEAD < MONTHS {
+        return first_day(month.plus(AHEAD));
+    }
+    day
 }
 
 /// Closes a month of a loan, where it was boarded by it.
@@ -283,6 +342,7 @@ fn close_one<B: LoanBooks, L: Ledger>(loan: &mut Loan<B>, month: Month, steps: &
     ensures held { loan.new.held ≡ loan.old.held }
     ensures closed { loan.new.closed ≡ closed_by month loan.old }
     ensures remitted { loan.new.remitted ≡ loan.old.remitted }
+    ensures months { KeepsMonths 1 loan.old loan.new }
     ensures steps { steps.new ≤ steps.old + close_cost B.month_cost month loan.old }
 {
     if month_of(loan.terms().boarded).number() <= month.number() {

@@ -1,10 +1,11 @@
 //! Calls of books for which room was made: none of them fails.
 
-ghost use Rattle.std.specs.Prelude.{◌≡◌, ◌+◌, ◌≤◌, ◌<◌, length, None, Some};
+ghost use Rattle.std.specs.Prelude.{◌≡◌, ◌+◌, ◌-◌, ◌≤◌, ◌<◌, length, None, Some};
 ghost use Rattle.svc_base.specs.Calendar.{month_of as month_number};
 ghost use Rattle.svc_spec.specs.Accounts as rule;
 ghost use Rattle.svc_spec.specs.Books.{IsAct};
 ghost use Rattle.svc_replay.specs.Faults.{most_entries};
+ghost use Rattle.svc_replay.specs.Kept.{IsLoweredBy, one_entry, one_reversal, some_months};
 
 use std::sync::ledger::Ledger;
 use svc_base::{Day, Steps};
@@ -21,6 +22,7 @@ pub(crate) fn post_reserved<B: LoanBooks, L: Ledger>(
     requires few { length (B.account books.old).entries < most_entries }
     requires room { 1 ≤ (B.room books.old).entries }
     ensures account { B.account books.new ≡ rule.posted entry.now (B.account books.old) }
+    ensures room { IsLoweredBy one_entry (B.room books.old) (B.room books.new) }
     ensures steps { steps.new ≤ steps.old + B.cost (B.account books.new) (month_number entry.now.day) }
 {
     match books.post(*entry, steps) {
@@ -42,6 +44,7 @@ pub(crate) fn reverse_reserved<B: LoanBooks, L: Ledger>(
     requires room { 1 ≤ (B.room books.old).reversals }
     ensures account { B.account books.new
         ≡ rule.reversed_in entry.now.number by (B.account books.old) }
+    ensures room { IsLoweredBy one_reversal (B.room books.old) (B.room books.new) }
     ensures act { IsAct entry.now.act }
     ensures since { (B.account books.old).terms.boarded ≤ entry.now.day }
     ensures steps { steps.new ≤ steps.old + B.cost (B.account books.new) (month_number entry.now.day) }
@@ -62,6 +65,8 @@ pub(crate) fn advance_reserved<B: LoanBooks, L: Ledger>(
     requires later { (B.account books.old).today ≤ today }
     requires room { month_number today ≤ month_number (B.account books.old).today + (B.room books.old).months }
     ensures account { B.account books.new ≡ rule.advanced_to today (B.account books.old) }
+    ensures room { IsLoweredBy (some_months (month_number today - month_number (B.account books.old).today))
+        (B.room books.old) (B.room books.new) }
     ensures steps { steps.new ≤ steps.old
         + B.cost (B.account books.new) (month_number (B.account books.old).today) }
 {

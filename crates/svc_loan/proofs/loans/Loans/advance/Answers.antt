@@ -5,6 +5,7 @@ use Rattle.svc_base.specs.Calendar.{month_of as month_number}
 use Rattle.svc_world.specs.Held.{on_day}
 use Rattle.svc_loan.specs.Kept.{KeptLoan}
 use Rattle.svc_loan.specs.Loans.{KeptLoans, advance_cost, held_in}
+use Rattle.svc_loan.proofs.KeptLemmas.{ahead_at}
 use Rattle.svc_loan.proofs.EachLemmas.{AllDone, one_done, all_done, done_rises, asked_next, next_old, held_mapped, sum_more}
 use Rattle.svc_loan.proofs.loans.Loans.advance.Given.{Over}
 use Rattle.svc_loan.proofs.loans.Loans.advance.Goals as goal
@@ -53,6 +54,7 @@ loop-i-preserved g c =
           (e.held ∙ ap (λ (k : KeptLoan). on_day c.args.today k.held) old)
           (e.closed ∙ ap (λ (k : KeptLoan). k.closed) old)
           (e.remitted ∙ ap (λ (k : KeptLoan). k.remitted) old);
+      ahead = ahead_at v c.loop-i.self-inside.until c.loop-i.self-inside.closings news i x (with_value x c.advance.new.self) c.deref_mut.result.now inv.ahead (let same = inv.done.count in omega arith) old e.months;
       end = inv.end;
       count = search;
       capacity = search;
@@ -65,7 +67,10 @@ all g c =
     all_done (λ (b : Box KeptLoan Global). b.value) (λ (k : KeptLoan). on_day c.args.today k.held) (λ (k : KeptLoan). k.closed) c.self.inside.loans.items c.loop-i.self-inside.loans.items c.loop-i.i (let t = c.loop-i-test.false in let e = inv.end in omega arith) inv.done
 
 pub invariant_of-self : goal.invariant_of-self
-invariant_of-self g c = done_rises (λ (k : KeptLoan). on_day c.args.today k.held) (λ (k : KeptLoan). k.closed) _ _ (all g c) (λ k. refl) c.self.invariant
+invariant_of-self g c = record {
+  rise = done_rises (λ (k : KeptLoan). on_day c.args.today k.held) (λ (k : KeptLoan). k.closed) _ _ (all g c) (λ k. refl) c.self.invariant.rise;
+  ahead = c.loop-i.invariant.ahead;
+}
 
 pub returns-clause-held : goal.returns-clause-held
 returns-clause-held g c = (all g c).held ∙ held_mapped (on_day c.args.today) _ ∙ ap (λ (s : KeptLoans). map (on_day c.args.today) (held_in s.loans)) c.self.view_is

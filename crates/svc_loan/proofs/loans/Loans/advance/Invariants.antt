@@ -1,7 +1,7 @@
 use Rattle.std.proofs.Common.{◌≡◌, ◌+◌, ◌≤◌, Box, Global, map, take, length, vec_len, vec_capacity}
-use Rattle.std.specs.List.{sum_by}
+use Rattle.std.specs.List.{All, sum_by}
 use Rattle.svc_world.specs.Held.{on_day}
-use Rattle.svc_loan.specs.Kept.{KeptLoan}
+use Rattle.svc_loan.specs.Kept.{KeptLoan, IsAhead}
 use Rattle.svc_loan.specs.Loans.{advance_cost}
 use Rattle.svc_loan.proofs.EachLemmas.{Done}
 use Rattle.svc_loan.proofs.loans.Loans.advance.Given as goal
@@ -9,6 +9,7 @@ use Rattle.svc_loan.proofs.loans.Loans.advance.Given as goal
 abbrev pub invariant-loop-i : goal.invariant-loop-i
 invariant-loop-i g l = record {
   done : Done (λ (b : Box KeptLoan Global). b.value) (λ (k : KeptLoan). on_day l.today k.held) (λ (k : KeptLoan). k.closed) l.initial.self-inside.loans.items l.self-inside.loans.items l.i;
+  ahead : All (IsAhead l.self-inside.until l.self-inside.closings) (map (λ (b : Box KeptLoan Global). b.value) l.self-inside.loans.items);
   end : l.i-end ≡ length l.initial.self-inside.loans.items;
   count : vec_len l.self-inside.loans ≡ vec_len l.initial.self-inside.loans;
   capacity : vec_capacity l.self-inside.loans ≡ vec_capacity l.initial.self-inside.loans;

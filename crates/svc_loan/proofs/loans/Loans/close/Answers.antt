@@ -1,8 +1,9 @@
 use Rattle.std.proofs.Common.{◌≡◌, ◌<◌, Box, Global, map, length, get_or, refl, arith, sym, ap, subst, ◌∙◌}
 use Rattle.std.specs.Box.{with_value}
 use Rattle.std.specs.List.{All}
-use Rattle.svc_loan.specs.Kept.{KeptLoan}
+use Rattle.svc_loan.specs.Kept.{KeptLoan, IsAhead}
 use Rattle.svc_loan.specs.Loans.{KeptLoans, MayCloseMonth, closed_by, close_cost, held_in}
+use Rattle.svc_loan.proofs.KeptLemmas.{closed_at}
 use Rattle.svc_loan.proofs.EachLemmas.{AllDone, one_done, all_done, done_rises, asked_next, next_old, sum_more}
 use Rattle.svc_loan.proofs.loans.Loans.close.Given.{Over}
 use Rattle.svc_loan.proofs.loans.Loans.close.Goals as goal
@@ -38,6 +39,9 @@ loop-i-preserved g c =
           (e.held ∙ ap (λ (k : KeptLoan). k.held) old)
           (e.closed ∙ ap (closed_by c.args.month) old)
           (e.remitted ∙ ap (λ (k : KeptLoan). k.remitted) old);
+      same_until = inv.same_until;
+      same_closings = inv.same_closings;
+      ahead = closed_at v c.self.inside.until c.self.inside.closings c.saturating_sub-self-inside.result news i (with_value x c.close_one.new.loan) c.deref_mut.result.now inv.ahead c.saturating_sub-self-inside.ensures (subst (IsAhead c.self.inside.until c.self.inside.closings) (sym old) (asked_next v (IsAhead c.self.inside.until c.self.inside.closings) olds news i x c.self.invariant.ahead lt inv.done.rest)) e.months;
       end = inv.end;
       count = search;
       capacity = search;
@@ -50,7 +54,10 @@ all g c =
     all_done (λ (b : Box KeptLoan Global). b.value) (λ (k : KeptLoan). k.held) (closed_by c.args.month) c.self.inside.loans.items c.loop-i.self-inside.loans.items c.loop-i.i (let t = c.loop-i-test.false in let e = inv.end in omega arith) inv.done
 
 pub invariant_of-self : goal.invariant_of-self
-invariant_of-self g c = done_rises (λ (k : KeptLoan). k.held) (closed_by c.args.month) _ _ (all g c) (λ k. refl) c.self.invariant
+invariant_of-self g c = record {
+  rise = done_rises (λ (k : KeptLoan). k.held) (closed_by c.args.month) _ _ (all g c) (λ k. refl) c.self.invariant.rise;
+  ahead = rw (c.loop-i.invariant.same_until, c.loop-i.invariant.same_closings) c.loop-i.invariant.ahead;
+}
 
 pub returns-clause-held : goal.returns-clause-held
 returns-clause-held g c = (all g c).held ∙ ap (λ (s : KeptLoans). held_in s.loans) c.self.view_is

@@ -5,7 +5,7 @@ use Rattle.std.proofs.Math.ListN.{set}
 use Rattle.svc_world.specs.Held.{changed}
 use Rattle.svc_loan.specs.Kept.{KeptLoan}
 use Rattle.svc_loan.specs.Loans.{KeptLoans, IsPlaceIn, find_kept, held_in, closed_in, remitted_in}
-use Rattle.svc_loan.proofs.KeptLemmas.{Changed, of_found, at_place, change_behind}
+use Rattle.svc_loan.proofs.KeptLemmas.{ahead_behind, Changed, of_found, at_place, change_behind}
 use Rattle.std.specs.Prelude.{true}
 use Rattle.std.specs.List.{list_any}
 use Rattle.escrow_lines.specs.BillLists.{has_id}
@@ -36,7 +36,7 @@ whole g c =
     let place : IsPlaceIn c.args.id (map (λ (b : Box KeptLoan Global). b.value) xs) (Some i) = subst (λ ys. IsPlaceIn c.args.id (map (λ (b : Box KeptLoan Global). b.value) ys) (Some i)) c.deref.ensures.value c.place_there-place.ensures in
     let old : c.deref_mut.result.now ≡ (get_or xs i x).value = c.deref_mut.ensures.value ∙ ap (λ (b : Box KeptLoan Global). b.value) c.index_mut-loan.ensures.value in
     let e = c.drop_line.ensures in
-    change_behind (λ (b : Box KeptLoan Global). b.value) xs c.args.id i x (with_value x c.drop_line.new.self) (without_bill c.args.line) c.self.invariant place (record {
+    change_behind (λ (b : Box KeptLoan Global). b.value) xs c.args.id i x (with_value x c.drop_line.new.self) (without_bill c.args.line) c.self.invariant.rise place (record {
       number = refl;
       held = e.held ∙ ap (λ (k : KeptLoan). (without_bill c.args.line) k.held) old;
       closed = e.closed ∙ ap (λ (k : KeptLoan). k.closed) old;
@@ -44,7 +44,16 @@ whole g c =
     })
 
 pub invariant_of-self : goal.invariant_of-self
-invariant_of-self g c = (whole g c).rise
+invariant_of-self g c =
+    let xs = c.self.inside.loans.items in
+    let i = c.place_there-place.result in
+    let x = c.index_mut-loan.result.now in
+    let place : IsPlaceIn c.args.id (map (λ (b : Box KeptLoan Global). b.value) xs) (Some i) = subst (λ ys. IsPlaceIn c.args.id (map (λ (b : Box KeptLoan Global). b.value) ys) (Some i)) c.deref.ensures.value c.place_there-place.ensures in
+    let old : c.deref_mut.result.now ≡ (get_or xs i x).value = c.deref_mut.ensures.value ∙ ap (λ (b : Box KeptLoan Global). b.value) c.index_mut-loan.ensures.value in
+    record {
+      rise = (whole g c).rise;
+      ahead = ahead_behind (λ (b : Box KeptLoan Global). b.value) c.self.inside.until c.self.inside.closings xs c.args.id i x (with_value x c.drop_line.new.self) c.deref_mut.result.now c.self.invariant.ahead place old c.drop_line.ensures.months;
+    }
 
 pub returns-clause-held : goal.returns-clause-held
 returns-clause-held g c = (whole g c).held ∙ ap (λ (s : KeptLoans). changed c.args.id (without_bill c.args.line) (held_in s.loans)) c.self.view_is

@@ -4,7 +4,7 @@ use Rattle.std.specs.List.Sorted.{IsPartitionPoint}
 use Rattle.svc_world.specs.Held.{with_loan}
 use Rattle.svc_loan.specs.Kept.{KeptLoan}
 use Rattle.svc_loan.specs.Loans.{KeptLoans, Rise, find_kept, with_kept, held_in}
-use Rattle.svc_loan.proofs.KeptLemmas.{placed_kept, with_rises, with_held}
+use Rattle.svc_loan.proofs.KeptLemmas.{none_ahead, placed_kept, with_rises, with_held}
 use Rattle.svc_loan.proofs.loans.Loans.insert.Given.{Over}
 use Rattle.svc_loan.proofs.loans.Loans.insert.Goals as goal
 
@@ -25,7 +25,10 @@ placed g c =
     ap (map (λ (b : Box KeptLoan Global). b.value)) c.in-Ok.ensures.items ∙ placed_kept (λ (b : Box KeptLoan Global). b.value) xs i x le point (none g c)
 
 pub invariant_of-self : goal.invariant_of-self
-invariant_of-self g c = subst Rise (sym (placed g c)) (with_rises c.args.loan.value (map (λ (b : Box KeptLoan Global). b.value) c.self.inside.loans.items) c.self.invariant (none g c))
+invariant_of-self g c = record {
+  rise = subst Rise (sym (placed g c)) (with_rises c.args.loan.value (map (λ (b : Box KeptLoan Global). b.value) c.self.inside.loans.items) c.self.invariant.rise (none g c));
+  ahead = none_ahead (map (λ (b : Box KeptLoan Global). b.value) c.insert.new.self.items);
+}
 
 pub returns-clause-loans : goal.returns-clause-loans
 returns-clause-loans g c = placed g c ∙ ap (λ (s : KeptLoans). with_kept c.args.loan.value s.loans) c.self.view_is

@@ -5,7 +5,7 @@ use Rattle.std.specs.Box.{with_value}
 use Rattle.std.proofs.Math.ListN.{set}
 use Rattle.svc_loan.specs.Kept.{KeptLoan}
 use Rattle.svc_loan.specs.Loans.{KeptLoans, IsPlaceIn, find_kept, held_in, closed_in, remitted_by}
-use Rattle.svc_loan.proofs.KeptLemmas.{Stays, of_found, at_place, stay_behind, remitted_rises}
+use Rattle.svc_loan.proofs.KeptLemmas.{ahead_behind, Stays, of_found, at_place, stay_behind, remitted_rises}
 use Rattle.svc_loan.proofs.loans.Loans.remit.Given.{Over}
 use Rattle.svc_loan.proofs.loans.Loans.remit.Goals as goal
 
@@ -34,10 +34,19 @@ whole g c =
     let place : IsPlaceIn c.args.id (map (λ (b : Box KeptLoan Global). b.value) xs) (Some i) = subst (λ ys. IsPlaceIn c.args.id (map (λ (b : Box KeptLoan Global). b.value) ys) (Some i)) c.deref.ensures.value c.place_there-place.ensures in
     let old : c.deref_mut.result.now ≡ (get_or xs i x).value = c.deref_mut.ensures.value ∙ ap (λ (b : Box KeptLoan Global). b.value) c.index_mut-loan.ensures.value in
     let e = c.remit.ensures in
-    stay_behind (λ (b : Box KeptLoan Global). b.value) xs c.args.id i x (with_value x c.remit.new.self) c.self.invariant place (e.held ∙ ap (λ (k : KeptLoan). k.held) old) (e.closed ∙ ap (λ (k : KeptLoan). k.closed) old)
+    stay_behind (λ (b : Box KeptLoan Global). b.value) xs c.args.id i x (with_value x c.remit.new.self) c.self.invariant.rise place (e.held ∙ ap (λ (k : KeptLoan). k.held) old) (e.closed ∙ ap (λ (k : KeptLoan). k.closed) old)
 
 pub invariant_of-self : goal.invariant_of-self
-invariant_of-self g c = (whole g c).rise
+invariant_of-self g c =
+    let xs = c.self.inside.loans.items in
+    let i = c.place_there-place.result in
+    let x = c.index_mut-loan.result.now in
+    let place : IsPlaceIn c.args.id (map (λ (b : Box KeptLoan Global). b.value) xs) (Some i) = subst (λ ys. IsPlaceIn c.args.id (map (λ (b : Box KeptLoan Global). b.value) ys) (Some i)) c.deref.ensures.value c.place_there-place.ensures in
+    let old : c.deref_mut.result.now ≡ (get_or xs i x).value = c.deref_mut.ensures.value ∙ ap (λ (b : Box KeptLoan Global). b.value) c.index_mut-loan.ensures.value in
+    record {
+      rise = (whole g c).rise;
+      ahead = ahead_behind (λ (b : Box KeptLoan Global). b.value) c.self.inside.until c.self.inside.closings xs c.args.id i x (with_value x c.remit.new.self) c.deref_mut.result.now c.self.invariant.ahead place old c.remit.ensures.months;
+    }
 
 pub returns-clause-held : goal.returns-clause-held
 returns-clause-held g c = (whole g c).held ∙ ap (λ (s : KeptLoans). held_in s.loans) c.self.view_is
@@ -54,4 +63,4 @@ returns-clause-remitted g c =
     let old : c.deref_mut.result.now ≡ (get_or xs i x).value = c.deref_mut.ensures.value ∙ ap (λ (b : Box KeptLoan Global). b.value) c.index_mut-loan.ensures.value in
     let fits : FitsSigned w64 c.args.cents = c.ranges.cents in
     let new = simp to_z-of_z at c.remit.ensures.remitted in
-    remitted_rises (λ (b : Box KeptLoan Global). b.value) xs c.args.id i x (with_value x c.remit.new.self) c.args.cents c.self.invariant place (new ∙ ap (λ (k : KeptLoan). k.remitted +ℤ c.args.cents) old) ∙ ap (λ (s : KeptLoans). map (remitted_by c.args.id c.args.cents) s.loans) c.self.view_is
+    remitted_rises (λ (b : Box KeptLoan Global). b.value) xs c.args.id i x (with_value x c.remit.new.self) c.args.cents c.self.invariant.rise place (new ∙ ap (λ (k : KeptLoan). k.remitted +ℤ c.args.cents) old) ∙ ap (λ (s : KeptLoans). map (remitted_by c.args.id c.args.cents) s.loans) c.self.view_is

@@ -4,7 +4,7 @@ use Rattle.std.specs.Box.{with_value}
 use Rattle.std.proofs.Math.ListN.{set}
 use Rattle.svc_loan.specs.Kept.{KeptLoan, IsReady}
 use Rattle.svc_loan.specs.Loans.{KeptLoans, OfLoan, IsPlaceIn, held_in, closed_in, remitted_in}
-use Rattle.svc_loan.proofs.KeptLemmas.{Stays, on_ok, found_of, stay_behind, remitted_stays}
+use Rattle.svc_loan.proofs.KeptLemmas.{ahead_behind, Stays, on_ok, found_of, stay_behind, remitted_stays}
 use Rattle.svc_loan.proofs.loans.Loans.reserve_for.Given.{Over}
 use Rattle.svc_loan.proofs.loans.Loans.reserve_for.Goals as goal
 
@@ -16,10 +16,19 @@ whole g c =
     let place : IsPlaceIn c.args.id (map (λ (b : Box KeptLoan Global). b.value) xs) (Some i) = subst (λ ys. IsPlaceIn c.args.id (map (λ (b : Box KeptLoan Global). b.value) ys) (Some i)) c.deref.ensures.value c.place_there-place.ensures in
     let old : c.deref_mut.result.now ≡ (get_or xs i x).value = c.deref_mut.ensures.value ∙ ap (λ (b : Box KeptLoan Global). b.value) c.index_mut-loan.ensures.value in
     let e = c.reserve.ensures in
-    stay_behind (λ (b : Box KeptLoan Global). b.value) xs c.args.id i x (with_value x c.reserve.new.self) c.self.invariant place (e.held ∙ ap (λ (k : KeptLoan). k.held) old) (e.closed ∙ ap (λ (k : KeptLoan). k.closed) old)
+    stay_behind (λ (b : Box KeptLoan Global). b.value) xs c.args.id i x (with_value x c.reserve.new.self) c.self.invariant.rise place (e.held ∙ ap (λ (k : KeptLoan). k.held) old) (e.closed ∙ ap (λ (k : KeptLoan). k.closed) old)
 
 pub invariant_of-self : goal.invariant_of-self
-invariant_of-self g c = (whole g c).rise
+invariant_of-self g c =
+    let xs = c.self.inside.loans.items in
+    let i = c.place_there-place.result in
+    let x = c.index_mut-loan.result.now in
+    let place : IsPlaceIn c.args.id (map (λ (b : Box KeptLoan Global). b.value) xs) (Some i) = subst (λ ys. IsPlaceIn c.args.id (map (λ (b : Box KeptLoan Global). b.value) ys) (Some i)) c.deref.ensures.value c.place_there-place.ensures in
+    let old : c.deref_mut.result.now ≡ (get_or xs i x).value = c.deref_mut.ensures.value ∙ ap (λ (b : Box KeptLoan Global). b.value) c.index_mut-loan.ensures.value in
+    record {
+      rise = (whole g c).rise;
+      ahead = ahead_behind (λ (b : Box KeptLoan Global). b.value) c.self.inside.until c.self.inside.closings xs c.args.id i x (with_value x c.reserve.new.self) c.deref_mut.result.now c.self.invariant.ahead place old c.reserve.ensures.months;
+    }
 
 pub returns-clause-held : goal.returns-clause-held
 returns-clause-held g c = (whole g c).held ∙ ap (λ (s : KeptLoans). held_in s.loans) c.self.view_is
