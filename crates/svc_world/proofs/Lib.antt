@@ -24,3 +24,4 @@ pub mod ClosedWorlds
 pub mod HistoryLemmas
 pub mod LawLemmas
 pub mod OpeningLemmas
+pub mod StayLemmas

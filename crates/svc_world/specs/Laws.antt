@@ -4,7 +4,8 @@ use Rattle.std.specs.List.{All}
 use Rattle.svc_base.specs.Sums.{total_by}
 use Rattle.svc_types.specs.declared.requests.Command.{Command}
 use Rattle.svc_types.specs.declared.requests.Command.TheVariants as command
-use Rattle.svc_spec.specs.Books.{total}
+use Rattle.svc_spec.specs.Books.{AreBooks, total}
+use Rattle.svc_spec.specs.Accounts.{books_of}
 use Rattle.svc_spec.specs.Totals.{received, returned, refunded, disbursed}
 use Rattle.period_adjust.specs.declared.adjustment.Adjustment.{Adjustment}
 use Rattle.period_adjust.specs.Sealed.{Sealed}
@@ -40,6 +41,10 @@ pub record AreLawful (h : List Accepted) : Type 0 where
 pub record ReportsGrow (before later : World) : Type 0 where
   pub more : List Sealed
   pub grown : later.seals.reports ≡ before.seals.reports ++ more
+
+-- at every day the books of a loan are books of its terms
+abbrev pub HasSoundBooks : Held → Type 0
+HasSoundBooks l = (d : ℕ) → AreBooks l.account.terms (books_of l.account d)
 
 -- a command that can have adjustments: payments, bills and reversals. An analysis is none of them
 abbrev pub CanAdjust : Command → Type 0

@@ -1,6 +1,6 @@
 -- Loans that were worked out by hand: 200,000.00 at 6%, of which 0.25% is the servicing fee, with a level
 -- payment of 1,199.10 over 30 years; and what is looked at after some commands.
-use Rattle.std.specs.Prelude.{ℕ, ◌+◌, ◌-◌, ◌*◌, List, [], ◌∷◌, ◌++◌, map, length, ℤ, pos, Option}
+use Rattle.std.specs.Prelude.{ℕ, ◌+◌, List, [], ◌∷◌, ◌++◌, map, length, ℤ, pos, Option}
 use Rattle.std.specs.Option.{option_map}
 use Rattle.svc_types.specs.declared.terms.Terms.{Terms}
 use Rattle.svc_types.specs.declared.terms.RemitType.{RemitType}

@@ -1,11 +1,12 @@
 //! The laws of the books over every history of accepted commands, as theorems: the functions have no code.
 
-ghost use Rattle.std.specs.Prelude.{◌≡◌, ℕ, List};
+ghost use Rattle.std.specs.Prelude.{◌≡◌, ◌++◌, ℕ, List};
+ghost use Rattle.std.specs.List.{All};
 ghost use Rattle.svc_types.specs.declared.requests.Command.{Command};
-ghost use Rattle.svc_world.specs.World.{Accepted, first_world};
+ghost use Rattle.svc_world.specs.World.{Accepted, first_world, world};
 ghost use Rattle.svc_world.specs.Worlds.{AreWorlds};
 ghost use Rattle.svc_world.specs.Judging.{IsHistory, Fresh, judged};
-ghost use Rattle.svc_world.specs.Laws.{AreLawful, IsLawfulStep};
+ghost use Rattle.svc_world.specs.Laws.{AreLawful, HasSoundBooks, IsLawfulStep, ReportsGrow};
 
 /// What is held after each command of a history is sound: loans by rising number with accounts within
 /// their limits, closed months in a row, and reports that add up to the dues.
@@ -23,4 +24,16 @@ pub fn histories_are_lawful()
 /// payment, a deposit, a disbursement or a reversal.
 pub fn steps_are_lawful()
     ensures step { (h : List Accepted) (key : List ℕ) (c : Command) → IsHistory h → judged h key c ≡ Fresh → IsLawfulStep h c }
+{}
+
+/// Reports that were sent stay as they are, whatever is accepted after them: the reports of a history begin with those of
+/// each part of it that came first.
+pub fn reports_stay()
+    ensures stay { (h more : List Accepted) → ReportsGrow (world h) (world (h ++ more)) }
+{}
+
+/// After every history, at every day, the books of each loan are books of its terms: its balance lies from 0 to the
+/// principal, and suspense and the late charges that are owed are not below 0.
+pub fn books_are_sound()
+    ensures sound { (h : List Accepted) → IsHistory h → All HasSoundBooks (world h).loans }
 {}

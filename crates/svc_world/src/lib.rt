@@ -10,7 +10,9 @@ mod worked;
 
 pub use answer::Answer;
 pub use custody::Custody;
-pub use laws::{histories_are_lawful, steps_are_lawful, worlds_are_sound};
+pub use laws::{
+    books_are_sound, histories_are_lawful, reports_stay, steps_are_lawful, worlds_are_sound,
+};
 pub use row_list::RowList;
 pub use worked::{
     worked_analysis, worked_closings, worked_curtailment, worked_designations,
