@@ -25,3 +25,4 @@ pub mod HistoryLemmas
 pub mod LawLemmas
 pub mod OpeningLemmas
 pub mod StayLemmas
+pub mod KindLemmas

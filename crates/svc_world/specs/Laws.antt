@@ -1,7 +1,9 @@
 -- The laws of the books, over every history of accepted commands.
-use Rattle.std.specs.Prelude.{◌≡◌, ◌≢◌, ℕ, ◌+◌, List, [], ◌++◌, length, ⊤, ◌+ℤ◌, ◌-ℤ◌}
+use Rattle.std.specs.Prelude.{◌≡◌, ◌≢◌, ◌⊎◌, ℕ, ◌+◌, ◌<◌, List, [], ◌++◌, length, ⊤, ◌+ℤ◌, ◌-ℤ◌}
 use Rattle.std.specs.List.{All}
 use Rattle.svc_base.specs.Sums.{total_by}
+use Rattle.svc_types.specs.declared.terms.Terms.{Terms}
+use Rattle.svc_types.specs.declared.requests.TypeChange.{TypeChange}
 use Rattle.svc_types.specs.declared.requests.Command.{Command}
 use Rattle.svc_types.specs.declared.requests.Command.TheVariants as command
 use Rattle.svc_spec.specs.Books.{AreBooks, total}
@@ -12,6 +14,7 @@ use Rattle.period_adjust.specs.Sealed.{Sealed}
 use Rattle.custodial_book.specs.declared.part.Account.TheVariants.{T, P}
 use Rattle.custodial_book.specs.Rows.{balance_of}
 use Rattle.svc_world.specs.Held.{Held, books_now}
+use Rattle.svc_world.specs.LoanDues.{kind_in, Counts}
 use Rattle.svc_world.specs.Reports.{months_of, changes_of}
 use Rattle.svc_world.specs.World.{World, Accepted, loans_after, after, world}
 use Rattle.svc_world.specs.Worlds.{AddUp}
@@ -45,6 +48,20 @@ pub record ReportsGrow (before later : World) : Type 0 where
 -- at every day the books of a loan are books of its terms
 abbrev pub HasSoundBooks : Held → Type 0
 HasSoundBooks l = (d : ℕ) → AreBooks l.account.terms (books_of l.account d)
+
+-- no change of a loan's remittance type begins by a month, and its type in it is that of the terms
+pub record IsUnchanged (t : Terms) (types : List TypeChange) (month : ℕ) : Type 0 where
+  pub kind : kind_in t types month ≡ t.kind
+  pub none : All (λ (c : TypeChange). month < c.from) types
+
+-- or one of them counts, and its type is that one's
+pub record IsChanged (t : Terms) (types : List TypeChange) (month : ℕ) : Type 0 where
+  pub change : TypeChange
+  pub counts : Counts types month change
+  pub kind : kind_in t types month ≡ change.kind
+
+abbrev pub IsKindIn : Terms → List TypeChange → ℕ → Type 0
+IsKindIn t types month = IsUnchanged t types month ⊎ IsChanged t types month
 
 -- a command that can have adjustments: payments, bills and reversals. An analysis is none of them
 abbrev pub CanAdjust : Command → Type 0

@@ -1,6 +1,7 @@
 -- What is due of a loan for a month, by the remittance type that the month has
 -- (Fannie Mae Servicing Guide, remittance types).
-use Rattle.std.specs.Prelude.{ℕ, zero, suc, ◌+◌, ◌-◌, nat_le, ◌&&◌, if◌then◌else◌, List, [], ◌∷◌, fold}
+use Rattle.std.specs.Prelude.{◌≡◌, ℕ, zero, suc, ◌+◌, ◌-◌, ◌≤◌, ◌<◌, nat_le, ◌&&◌, if◌then◌else◌, List, [], ◌∷◌, ◌++◌, fold}
+use Rattle.std.specs.List.{All}
 use Rattle.svc_base.specs.Calendar.{month_of}
 use Rattle.svc_types.specs.declared.terms.Terms.{Terms}
 use Rattle.svc_types.specs.declared.terms.RemitType.{RemitType}
@@ -23,6 +24,17 @@ counting month best c = if nat_le c.from month && nat_le best.from c.from then c
 -- the type of a month: that of the change that counts, else the type at boarding
 abbrev pub kind_in : Terms → List TypeChange → ℕ → RemitType
 kind_in t types month = (fold (counting month) (type_change 0 t.kind) types).kind
+
+-- of some changes one counts in a month: it begins by the month, none before it begins later by then, and each after it
+-- begins earlier or after the month; so the one that begins last counts, and of those that begin in one month the one
+-- that was accepted last
+pub record Counts (types : List TypeChange) (month : ℕ) (c : TypeChange) : Type 0 where
+  pub front : List TypeChange
+  pub back : List TypeChange
+  pub is : types ≡ front ++ c ∷ back
+  pub begins : c.from ≤ month
+  pub before : All (λ (x : TypeChange). x.from ≤ month → x.from ≤ c.from) front
+  pub after : All (λ (x : TypeChange). x.from ≤ month → x.from < c.from) back
 
 -- what a month did to a loan, and how it is remitted
 abbrev pub month_of_loan : Account → List TypeChange → ℕ → LoanMonth

@@ -1,12 +1,16 @@
 //! The laws of the books over every history of accepted commands, as theorems: the functions have no code.
 
-ghost use Rattle.std.specs.Prelude.{◌≡◌, ◌++◌, ℕ, List};
+ghost use Rattle.std.specs.Prelude.{◌≡◌, ◌++◌, ◌≤ℤ◌, pos, ℕ, ℤ, List, length};
 ghost use Rattle.std.specs.List.{All};
+ghost use Rattle.svc_types.specs.declared.terms.Terms.{Terms};
+ghost use Rattle.svc_types.specs.declared.requests.TypeChange.{TypeChange};
 ghost use Rattle.svc_types.specs.declared.requests.Command.{Command};
+ghost use Rattle.escrow_analysis.specs.AggregateAnalysis.{IsLeastOpening};
+ghost use Rattle.svc_world.specs.Analysing.{least_opening};
 ghost use Rattle.svc_world.specs.World.{Accepted, first_world, world};
 ghost use Rattle.svc_world.specs.Worlds.{AreWorlds};
 ghost use Rattle.svc_world.specs.Judging.{IsHistory, Fresh, judged};
-ghost use Rattle.svc_world.specs.Laws.{AreLawful, HasSoundBooks, IsLawfulStep, ReportsGrow};
+ghost use Rattle.svc_world.specs.Laws.{AreLawful, HasSoundBooks, IsKindIn, IsLawfulStep, ReportsGrow};
 
 /// What is held after each command of a history is sound: loans by rising number with accounts within
 /// their limits, closed months in a row, and reports that add up to the dues.
@@ -36,4 +40,17 @@ pub fn reports_stay()
 /// principal, and suspense and the late charges that are owed are not below 0.
 pub fn books_are_sound()
     ensures sound { (h : List Accepted) → IsHistory h → All HasSoundBooks (world h).loans }
+{}
+
+/// The opening balance of a year of twelve months, none of which pays out less than nothing, is the least with which each
+/// of them ends at the cushion or above (12 CFR 1024.17(d)(2)(i)).
+pub fn openings_are_least()
+    ensures least { (year : List ℤ) (n : ℕ) → length year ≡ 12 → All (λ c. pos 0 ≤ℤ c) year
+        → IsLeastOpening year n (least_opening year n) }
+{}
+
+/// Of the changes of a loan's remittance type that begin by a month the one that begins last counts in it, of those that
+/// begin in one month the one that was accepted last; where none begins by then it is the type of the terms.
+pub fn last_change_counts()
+    ensures kind { (t : Terms) (types : List TypeChange) (month : ℕ) → IsKindIn t types month }
 {}

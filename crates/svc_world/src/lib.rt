@@ -11,7 +11,8 @@ mod worked;
 pub use answer::Answer;
 pub use custody::Custody;
 pub use laws::{
-    books_are_sound, histories_are_lawful, reports_stay, steps_are_lawful, worlds_are_sound,
+    books_are_sound, histories_are_lawful, last_change_counts, openings_are_least, reports_stay,
+    steps_are_lawful, worlds_are_sound,
 };
 pub use row_list::RowList;
 pub use worked::{
