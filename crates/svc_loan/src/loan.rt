@@ -1,7 +1,7 @@
 //! One loan: its books, escrow lines and remittance types, and what is due for its closed months.
 
 ghost use Rattle.std.specs.Prelude.{◌≡◌, ◌+◌, ◌-◌, ◌≤◌, ◌<◌, [], ◌∷◌, length, map, true, Some, None};
-ghost use Rattle.std.specs.Prelude.{OnOk, OnErr, IfOk, is_some, pos, neg_ℤ, ◌+ℤ◌, ◌-ℤ◌, ◌≤ℤ◌};
+ghost use Rattle.std.specs.Prelude.{OnOk, OnErr, IfOk, IsOk, is_some, pos, neg_ℤ, ◌+ℤ◌, ◌-ℤ◌, ◌≤ℤ◌};
 ghost use Rattle.std.specs.List.{list_any, range_with_len};
 ghost use Rattle.svc_base.specs.Calendar.{month_of as month_number};
 ghost use Rattle.svc_base.specs.Sums.{total_by};
@@ -249,6 +249,7 @@ impl<B: LoanBooks> Loan<B> {
         ensures remitted { self.new.remitted ≡ self.old.remitted }
         ensures months { KeepsMonths 0 self.old self.new }
         ensures ready { OnOk result (IsReady today self.new) }
+        ensures succeeds { IsReady today self.old → IsOk result }
     {
         self.books.reserve(today)?;
         self.types.reserve()?;

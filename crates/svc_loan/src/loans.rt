@@ -1,6 +1,6 @@
 //! All loans, by rising number.
 
-ghost use Rattle.std.specs.Prelude.{IsTrue, ◌≡◌, ◌+◌, ◌≤◌, ◌<◌, [], length, map, nat_lt, true, false, is_some, slice_index_or, None, Some, OnOk, pos, neg_ℤ, ◌+ℤ◌, ◌≤ℤ◌};
+ghost use Rattle.std.specs.Prelude.{IsTrue, ◌≡◌, ◌+◌, ◌≤◌, ◌<◌, [], length, map, nat_lt, true, false, is_some, slice_index_or, None, Some, IsOk, OnOk, pos, neg_ℤ, ◌+ℤ◌, ◌≤ℤ◌};
 ghost use Rattle.std.specs.List.{All, list_any, sum_by};
 ghost use Rattle.std.specs.Option.{option_map};
 ghost use Rattle.std.specs.List.Sorted.{IsPartitionPoint};
@@ -117,6 +117,7 @@ impl<B: LoanBooks> Loans<B> {
         ensures remitted { remitted_in self.new.loans ≡ remitted_in self.old.loans }
         ensures loan_room { self.new.room ≡ self.old.room }
         ensures ready { OnOk result (OfLoan id self.new.loans (IsReady today)) }
+        ensures succeeds { OfLoan id self.old.loans (IsReady today) → IsOk result }
     {
         let place = place_there(&self.loans, id, self.last);
         self.last = place;

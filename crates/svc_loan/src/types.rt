@@ -1,6 +1,6 @@
 //! The changes of remittance type of a loan.
 
-ghost use Rattle.std.specs.Prelude.{◌≡◌, ◌≤◌, ◌∷◌, ◌++◌, ◌==◌, [], length, OnOk};
+ghost use Rattle.std.specs.Prelude.{◌≡◌, ◌≤◌, ◌∷◌, ◌++◌, ◌==◌, [], length, IsOk, OnOk};
 ghost use Rattle.svc_world.specs.LoanDues as rule;
 
 use std::alloc::Global;
@@ -42,6 +42,7 @@ impl Types {
         ensures changes { self.new.changes ≡ self.old.changes }
         ensures room { OnOk result (1 ≤ self.new.room) }
         ensures kept_room { self.old.room ≤ self.new.room }
+        ensures succeeds { 1 ≤ self.old.room → IsOk result }
     {
         make_room(&mut self.changes, 1, 0)?;
         Ok(())

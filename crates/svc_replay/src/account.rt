@@ -1,6 +1,6 @@
 //! The account of a loan: its entries and reversals, and the live entries in order.
 
-ghost use Rattle.std.specs.Prelude.{◌≡◌, ◌+◌, ◌≤◌, ◌<◌, nat_lt, length, true, None, IfSome, IsErrOf, OnOk, OnErr};
+ghost use Rattle.std.specs.Prelude.{◌≡◌, ◌+◌, ◌≤◌, ◌<◌, nat_lt, length, true, None, IfSome, IsErrOf, IsOk, OnOk, OnErr};
 ghost use Rattle.std.specs.Prelude.{IfErr};
 ghost use Rattle.std.specs.List.{AllPairs};
 ghost use Rattle.svc_base.specs.Calendar.{month_of as month_number, months_end};
@@ -86,6 +86,7 @@ impl LoanAccount {
         ensures reversal { OnOk result (1 ≤ self.new.room.reversals) }
         ensures months { months_end ≤ self.new.room.months }
         ensures room { IsLoweredBy nothing self.old.room self.new.room }
+        ensures succeeds { 1 ≤ self.old.room.entries → 1 ≤ self.old.room.reversals → IsOk result }
     {
         self.entries.reserve()?;
         make_room(&mut self.reversers, 1, STEP)?;

@@ -1,6 +1,6 @@
 //! The entries of a loan, and the live ones among them.
 
-ghost use Rattle.std.specs.Prelude.{◌≡◌, ◌+◌, ◌-◌, ◌≤◌, ◌<◌, ◌∷◌, ◌++◌, [], nat_le, true, false, get_or, length, take, drop, OnOk, OnErr};
+ghost use Rattle.std.specs.Prelude.{◌≡◌, ◌+◌, ◌-◌, ◌≤◌, ◌<◌, ◌∷◌, ◌++◌, [], nat_le, true, false, get_or, length, take, drop, IsOk, OnOk, OnErr};
 ghost use Rattle.std.specs.Prelude.{◌==◌, not};
 ghost use Rattle.std.specs.List.{All, AllPairs, Contains, filter, insert, remove};
 ghost use Rattle.svc_types.specs.Live.{is_before, placed};
@@ -60,6 +60,7 @@ impl Entries {
         ensures live { self.new.live ≡ self.old.live }
         ensures ready { OnOk result (1 ≤ self.new.room) }
         ensures room { self.old.room ≤ self.new.room }
+        ensures succeeds { 1 ≤ self.old.room → IsOk result }
     {
         make_room(&mut self.all, 1, STEP)?;
         make_room(&mut self.live, 1, PLACES)?;

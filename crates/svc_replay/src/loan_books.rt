@@ -1,7 +1,7 @@
 //! What keeps the books of one loan, however it is kept.
 
 ghost use Rattle.std.specs.Prelude.{◌≡◌, ℕ, ◌+◌, ◌-◌, ◌≤◌, ◌<◌, ◌-ℤ◌, length};
-ghost use Rattle.std.specs.Prelude.{None, IfSome, IsErrOf, MatchOption, OnOk, OnErr, IfOk, IfErr};
+ghost use Rattle.std.specs.Prelude.{None, IfSome, IsErrOf, IsOk, MatchOption, OnOk, OnErr, IfOk, IfErr};
 ghost use Rattle.svc_base.specs.Calendar.{month_of};
 ghost use Rattle.svc_spec.specs.Accounts.{Account, IsAccount, MayBegin, MayPost, begun, posted, reversed_in};
 ghost use Rattle.svc_spec.specs.Accounts.{advanced_to, books_of, entry_of, reverser_of};
@@ -42,14 +42,17 @@ pub trait LoanBooks: Sized + Drop {
         ensures ok { IfOk result (λ books. account books ≡ begun terms today) }
         ensures steps { steps.new ≤ steps.old + cost (begun terms today) (month_of terms.boarded) };
 
-    /// Makes room for one more entry, one more reversal and the months up to a day.
+    /// Makes room for one more entry, one more reversal and the months up to a day. Memory is wanted only where the room
+    /// is not there.
     fn reserve(&mut self, today: Day) -> Result<(), OutOfMemory>
         ensures kept { account self.new ≡ account self.old }
         ensures entry { OnOk result (1 ≤ (room self.new).entries) }
         ensures reversal { OnOk result (1 ≤ (room self.new).reversals) }
         ensures months { OnOk result
             (month_of today ≤ month_of (account self.new).today + (room self.new).months) }
-        ensures room { IsLoweredBy nothing (room self.old) (room self.new) };
+        ensures room { IsLoweredBy nothing (room self.old) (room self.new) }
+        ensures succeeds { 1 ≤ (room self.old).entries → 1 ≤ (room self.old).reversals
+            → month_of today ≤ month_of (account self.old).today + (room self.old).months → IsOk result };
 
     /// Adds an entry, whose number is above all so far. It is Full at 4,096 entries, reversed ones
     /// counted; memory is wanted only where no room for an entry is left.

@@ -1,10 +1,10 @@
-use Rattle.std.proofs.Common.{◌≡◌, Box, Global, map, get_or, ap, subst, ◌∙◌}
+use Rattle.std.proofs.Common.{◌≡◌, Box, Global, map, get_or, sym, ap, subst, ◌∙◌}
 use Rattle.std.specs.Prelude.{Some}
 use Rattle.std.specs.Box.{with_value}
 use Rattle.std.proofs.Math.ListN.{set}
 use Rattle.svc_loan.specs.Kept.{KeptLoan, IsReady}
-use Rattle.svc_loan.specs.Loans.{KeptLoans, OfLoan, IsPlaceIn, held_in, closed_in, remitted_in}
-use Rattle.svc_loan.proofs.KeptLemmas.{ahead_behind, Stays, on_ok, found_of, stay_behind, remitted_stays}
+use Rattle.svc_loan.specs.Loans.{KeptLoans, OfLoan, find_kept, IsPlaceIn, held_in, closed_in, remitted_in}
+use Rattle.svc_loan.proofs.KeptLemmas.{ahead_behind, at_place, of_found, Stays, on_ok, found_of, stay_behind, remitted_stays}
 use Rattle.svc_loan.proofs.loans.Loans.reserve_for.Given.{Over}
 use Rattle.svc_loan.proofs.loans.Loans.reserve_for.Goals as goal
 
@@ -46,3 +46,17 @@ returns-clause-remitted g c =
 
 pub returns-clause-ready : goal.returns-clause-ready
 returns-clause-ready g c = on_ok c.reserve.result (IsReady c.args.today c.reserve.new.self) (OfLoan c.args.id _ (IsReady c.args.today)) (λ ready. found_of (IsReady c.args.today) c.args.id _ c.reserve.new.self ready (whole g c).found) c.reserve.ensures.ready
+
+pub returns-clause-succeeds : goal.returns-clause-succeeds
+returns-clause-succeeds g c = λ ready.
+    let v : Box KeptLoan Global → KeptLoan = λ b. b.value in
+    let xs = c.self.inside.loans.items in
+    let i = c.place_there-place.result in
+    let x = c.index_mut-loan.result.now in
+    let place : IsPlaceIn c.args.id (map v xs) (Some i) = subst (λ ys. IsPlaceIn c.args.id (map v ys) (Some i)) c.deref.ensures.value c.place_there-place.ensures in
+    let lent : find_kept c.args.id c.args.self.now.loans ≡ Some c.deref_mut.result.now =
+    ap (λ (s : KeptLoans). find_kept c.args.id s.loans) (sym c.self.view_is)
+    ∙ at_place v xs c.args.id i x place
+    ∙ ap (λ (b : Box KeptLoan Global). Some b.value) (sym c.index_mut-loan.ensures.value)
+    ∙ ap Some (sym c.deref_mut.ensures.value) in
+    c.reserve.ensures.succeeds (of_found (IsReady c.args.today) c.args.id c.args.self.now.loans c.deref_mut.result.now ready lent)
