@@ -40,10 +40,10 @@ abbrev pub IsVerdict : Judgement → Verdict → Type 0
 IsVerdict j (verdict.Repeat reply) = j ≡ Kept reply
 IsVerdict j verdict.Fresh = j ≡ Fresh
 
--- a fault: the refusal, or want of memory, which is free
+-- a fault: the refusal, or want of memory, which comes of a fresh command alone
 abbrev pub IsFault : Judgement → CoreFault → Type 0
 IsFault j (fault.Refused why) = j ≡ Refused why
-IsFault j fault.OutOfMemory = ⊤
+IsFault j fault.OutOfMemory = j ≡ Fresh
 
 -- a fault of a query: the refusal, or want of memory
 abbrev pub IsQueryFault : Option Refusal → CoreFault → Type 0

@@ -141,6 +141,9 @@ impl<B: LoanBooks> Core<B> {
             → IsLawfulStep self.old.history command.now }
         ensures steps { steps.new ≤ steps.old
             + core.submitting_cost B.cost B.month_cost self.old.history key.now command.now }
+        // After a refusal or want of memory nothing was accepted, and the bound is that of the judgement alone.
+        ensures refused_steps { OnErr result (steps.new ≤ steps.old
+            + core.judging_cost B.cost self.old.history key.now command.now) }
         ensures bound { ((a : Account) (m : ℕ) → B.cost a m ≡ cost_of_month a m)
             → ((a : Account) (m : ℕ) → B.month_cost a m ≡ 0)
             → steps.new ≤ steps.old + step_bound self.old.history key.now command.now }

@@ -66,3 +66,15 @@ returns-clause-prepared g c =
       place = c.in_ok-reserve.ensures.room;
       ready = subst (λ d. IsReadyFor (scope_of c.args.command.now) d (today_after d c.args.command.now) c.prepare.new.state.loans c.prepare.new.state.seals c.prepare.new.cash.book.spare (vec_capacity c.prepare.new.scratch.dues) c.prepare.new.cash.positions.room (vec_capacity c.prepare.new.scratch.lines) (option_map (λ b. b.value) c.prepare.new.boarding)) (sym c.in_ok-prepare.ensures.today) c.in_ok-prepare.ensures.ready;
     }
+
+pub returns-in_err-reserve-clause-fault : goal.returns-in_err-reserve-clause-fault
+returns-in_err-reserve-clause-fault g c =
+    let none : c.refuse.result ≡ None = search rules in
+    let fresh = judged_here c.args.parts.now.posted c.count-count.result c.args.parts.now.state.today c.args.parts.now.state.loans c.args.parts.now.state.seals c.args.parts.now.cash.book.rows c.args.parts.now.cash.custody c.args.parts.now.cash.positions.items c.args.key.now c.args.command.now None c.requires.parts c.count-count.ensures c.requires.unknown (sym none ∙ c.refuse.ensures.cause) in
+    search (rules, fresh)
+
+pub returns-in_err-prepare-clause-fault : goal.returns-in_err-prepare-clause-fault
+returns-in_err-prepare-clause-fault g c =
+    let none : c.refuse.result ≡ None = search rules in
+    let fresh = judged_here c.args.parts.now.posted c.count-count.result c.args.parts.now.state.today c.args.parts.now.state.loans c.args.parts.now.state.seals c.args.parts.now.cash.book.rows c.args.parts.now.cash.custody c.args.parts.now.cash.positions.items c.args.key.now c.args.command.now None c.requires.parts c.count-count.ensures c.requires.unknown (sym none ∙ c.refuse.ensures.cause) in
+    search (rules, fresh)
