@@ -10,7 +10,7 @@ import os
 import random
 import sys
 
-from harness import case, run, run_all, same
+from harness import case, named, run, run_all, same
 import further
 import histories
 import reckon
@@ -45,7 +45,8 @@ def usage(room):
     for it in (["transfer", "2", "1"], ["remain", "2", "1"], ["transfer", "1"], ["transfer"], ["remain", "01", "2"],
                ["transfer", "0", "4294967296"], ["transfer", "-1", "2"], ["reconcile", "0", "4"], ["reconcile", "5", "4"],
                ["reconcile", "1"], ["statement", "1"], ["confirm", "x"], ["pmi", "x"], ["pmi-drop"], ["pmi_drops"]):
-        same((2, b"", b"status 2 Usage\n"), run("j", *it, cwd=room), it)
+        status, out, log = run("j", *it, cwd=room)
+        same((2, b"", b"status 2 Usage"), (status, out, named(log)), it)
     same([], os.listdir(room), "files")
 
 

@@ -79,6 +79,11 @@ def start(*words, **how):
     return STARTED[-1]
 
 
+def named(log):
+    """The first line of a log up to the status's name, without what failed and why."""
+    return b" ".join(log.split(b"\n")[0].split(b" ")[:3])
+
+
 def same(wanted, got, what=""):
     """Fails where two values differ, and says where."""
     if wanted == got:

@@ -19,7 +19,7 @@ import sys
 import threading
 import time
 
-from harness import TOP, Skipped, case, read, run, run_all, same, start, write
+from harness import TOP, Skipped, case, named, read, run, run_all, same, start, write
 import histories
 import reckon
 
@@ -53,13 +53,17 @@ def words(room):
                ["j", "report", "2024-1"], ["j", "report", "2100-01"], ["j", "drill", "0", "7"],
                ["j", "drill", "501", "7"], ["j", "drill", "01", "7"], ["j", "drill", "1", "1000000"],
                ["--help"], ["j", "--version"], ["j", "Apply"], ["j", "apply "]):
-        same((2, b"", b"status 2 Usage\n"), run(*it, given=MONTH, cwd=room), it)
+        status, out, log = run(*it, given=MONTH, cwd=room)
+        same((2, b"", b"status 2 Usage"), (status, out, named(log)), it)
+        if b"\njaqhendulu " not in log or b"\n  apply " not in log:
+            raise AssertionError(f"no table of words: {log!r}")
     same([], os.listdir(room), "files")
 
 
 @case("words: one that is not UTF-8 is status 2")
 def words_of_bytes(room):
-    same((2, b"", b"status 2 Usage\n"), run(os.path.join(room, "j").encode() + b"\xff", b"init"))
+    status, out, log = run(os.path.join(room, "j").encode() + b"\xff", b"init")
+    same((2, b"", b"status 2 Usage"), (status, out, named(log)))
 
 
 @case("journal: a name that is not there, empty, a folder, another file")
@@ -67,7 +71,8 @@ def no_journal(room):
     path = os.path.join(room, "j")
     same((6, b"", b"status 6 NotJournal\n"), run(path, "apply", given=MONTH))
     same(b"", read(path))
-    same((5, b"", b"status 5 DiskFault\n"), run(room, "apply", given=MONTH), "a folder")
+    cause = f"status 5 DiskFault {room}: Is a directory (os error 21)\n".encode()
+    same((5, b"", cause), run(room, "apply", given=MONTH), "a folder")
     write(b"PK\3\4 some other file", path)
     same((6, b"", b"status 6 NotJournal\n"), run(path, "custodial"))
     same((7, b"", b"status 7 AlreadyThere\n"), run(path, "init"))
@@ -145,7 +150,7 @@ def full_output(room):
     path = init(room)
     with open("/dev/full", "wb") as full:
         status, _, log = run(path, "apply", given=MONTH, stdout=full)
-    same((4, b"status 4 WriteFault\n"), (status, log))
+    same((4, b"status 4 WriteFault standard output: No space left on device (os error 28)\n"), (status, log))
     same((0, MONTH_TEXT, b""), run(path, "apply", given=MONTH))
 
 
@@ -175,7 +180,7 @@ def closed_text(room):
     for words_of in (("custodial",), ("report", "2024-02"), ("trial", "2024-02")):
         with open("/dev/full", "wb") as full:
             status, _, log = run(path, *words_of, stdout=full)
-        same((4, b"status 4 WriteFault\n"), (status, log), words_of)
+        same((4, b"status 4 WriteFault"), (status, named(log)), words_of)
 
 
 @case("input: a folder instead of a file is status 3, and nothing is acted on")
@@ -183,8 +188,9 @@ def bad_input(room):
     path = init(room)
     folder = os.open(room, os.O_RDONLY)
     try:
-        same((3, b"", b"status 3 ReadFault\n"), run(path, "apply", stdin=folder))
-        same((3, b"", b"status 3 ReadFault\n"), run(path, "import", stdin=folder))
+        cause = b"status 3 ReadFault standard input: Is a directory (os error 21)\n"
+        same((3, b"", cause), run(path, "apply", stdin=folder))
+        same((3, b"", cause), run(path, "import", stdin=folder))
     finally:
         os.close(folder)
     same(9, len(read(path)))
@@ -394,7 +400,7 @@ def fill(room, path, **how):
     """Applies all lines where they do not fit. Gives what they are and the replies before the disk was full."""
     applied = Applied(room, len(ALL_LINES))
     status, out, log = run(path, "apply", given=applied.lines, **how)
-    same((5, b"status 5 DiskFault\n"), (status, log))
+    same((5, b"status 5 DiskFault"), (status, named(log)))
     return applied, out
 
 

@@ -17,7 +17,7 @@ import sys
 import threading
 import time
 
-from harness import TOP, case, read, run, run_all, same, start, write
+from harness import TOP, case, named, read, run, run_all, same, start, write
 import bodies
 import reckon
 import replay
@@ -52,7 +52,9 @@ class Served:
     def ends(self, summary, status=0, log=b""):
         """Sees that the program ends with a summary."""
         out, said = self.it.communicate(timeout=120)
-        same((status, summary, log), (self.it.returncode, out, said))
+        listens, _, said = said.partition(b"\n")
+        same(f"listening on 127.0.0.1:{self.port}".encode(), listens)
+        same((status, summary, log), (self.it.returncode, out, named(said)))
 
     def commands(self):
         return reckon.lines_of_journal(read(self.path))
@@ -361,7 +363,7 @@ def full_disk(room):
     body = b'{"key":"k2","do":"day","day":"2024-02-02"}'
     same((500, b""), bodies.ask(link, "POST", "/v1/commands", body))
     link.close()
-    it.ends(b"", 5, b"status 5 DiskFault\n")
+    it.ends(b"", 5, b"status 5 DiskFault")
     it = Served(room, 1)
     link = it.link()
     same((200, b'{"code":0,"number":2,"text":"ok 2"}'), bodies.ask(link, "POST", "/v1/commands", body))
@@ -376,9 +378,11 @@ def ports(room):
     with socket.socket() as taken:
         taken.bind(("127.0.0.1", 0))
         taken.listen()
-        same((9, b"", b"status 9 NetFault\n"), run(path, "serve", str(taken.getsockname()[1]), "1"))
+        status, out, log = run(path, "serve", str(taken.getsockname()[1]), "1")
+        same((9, b"", b"status 9 NetFault"), (status, out, named(log)))
     for words in (("0", "1"), ("65536", "1"), ("08080", "1"), ("8080", "0"), ("8080", "1000001"), ("8080",)):
-        same((2, b"", b"status 2 Usage\n"), run(path, "serve", *words), words)
+        status, out, log = run(path, "serve", *words)
+        same((2, b"", b"status 2 Usage"), (status, out, named(log)), words)
     write(b"", path)
     same((6, b"", b"status 6 NotJournal\n"), run(path, "serve", "8080", "1"))
 

@@ -4,18 +4,22 @@
 
 ghost use Rattle.std.specs.Prelude.{◌≡◌, ◌<◌};
 
-use serv_disk::{FileDisk, ReadSource, TcpDoors, WriteSink};
+mod usage;
+
+use serv_disk::{FileDisk, Hold, ReadSource, TcpDoors, WriteSink};
 use serv_top::{Status, port_in};
 use std::alloc::{AllocError, Global};
 use std::env;
-use std::fs::Files;
-use std::io::{self, ErrorKind};
+use std::fs::{File, Files};
+use std::io::{self, Eprint, ErrorKind};
 use std::marker::Brand;
 use std::net::Net;
+use std::os::fd::AsRawFd;
 use std::process::ExitCode;
 use std::rt::Env;
 use std::sync::ledger::{Blank, Ledger};
 use svc_base::Steps;
+use usage::{VERSION, WORDS};
 
 /// The words of the command line, without the program's name. A word that is not UTF-8 is no word
 /// that the program knows.
@@ -39,37 +43,62 @@ fn texts_of(alloc: Global, words: &[String]) -> Result<Vec<&str>, AllocError> {
     Ok(texts)
 }
 
-/// Makes the objects and runs what the words ask for. The first word is the path of the journal's file, and links
-/// come to the port of the words `serve`.
-fn start<R: Env + Input + Print + AllocGlobal, F: Files + Drop, N: Net + Drop, L: Ledger>(
-    rt: &R,
-    files: F,
-    net: N,
-    blank: Blank,
-) -> Status
+/// The exit status of a run that another process kept from the journal.
+const IN_USE: u8 = 14;
+
+/// Says on standard error how a run ended, where it did not end well, with what failed and what the system named as the
+/// cause; and gives the exit status.
+fn told(rt: &impl Eprint, status: Status, what: &str, cause: Option<io::Error>) -> u8 {
+    if status == Status::Done {
+        return 0;
+    }
+    let _ = match cause {
+        Some(error) if status == Status::DiskFault && error.kind() == ErrorKind::WouldBlock => {
+            let _ = eprintln!(rt; "status {IN_USE} InUse {what}");
+            return IN_USE;
+        }
+        Some(error) => eprintln!(rt; "status {status} {what}: {error}"),
+        None => eprintln!(rt; "status {status}"),
+    };
+    if status == Status::Usage {
+        let _ = eprintln!(rt; "{VERSION}\n{WORDS}");
+    }
+    status.number()
+}
+
+/// Makes the objects and runs what the words ask for, says how that ended, and gives the exit status. The first word is
+/// the path of the journal's file, and links come to the port of the words `serve`.
+fn start<
+    R: Env + Input + Print + Eprint + AllocGlobal,
+    F: Files + Drop,
+    N: Net + Eprint + Drop,
+    L: Ledger,
+>(rt: &R, files: F, net: N, blank: Blank) -> u8
+where
+    F::File: Hold,
     requires name { blank.name ≡ L.name }
     requires parts { blank.parts ≡ L.parts }
     requires some { 0 < L.parts }
 {
     let words = match words_of(rt) {
         Ok(words) => words,
-        Err(status) => return status,
+        Err(status) => return told(rt, status, "", None),
     };
     let Ok(texts) = texts_of(rt.alloc(), &words) else {
-        return Status::OutOfMemory;
+        return told(rt, Status::OutOfMemory, "", None);
     };
     let path = match words.first() {
         Some(word) => word.as_str(),
         None => "",
     };
     let Ok(mut disk) = FileDisk::new(rt.alloc(), files, path) else {
-        return Status::OutOfMemory;
+        return told(rt, Status::OutOfMemory, "", None);
     };
     let mut src = ReadSource::new(rt.reader());
     let mut snk = WriteSink::new(io::writer(rt));
     let mut doors = TcpDoors::new(net, port_in(&texts));
     let mut steps = Steps::<L>::new(blank);
-    serv_top::run(
+    let status = serv_top::run(
         rt.alloc(),
         &texts,
         &mut src,
@@ -77,26 +106,42 @@ fn start<R: Env + Input + Print + AllocGlobal, F: Files + Drop, N: Net + Drop, L
         &mut disk,
         &mut doors,
         &mut steps,
-    )
+    );
+    match status {
+        Status::ReadFault => told(rt, status, "standard input", src.cause()),
+        Status::WriteFault => told(rt, status, "standard output", snk.cause()),
+        Status::NetFault => told(rt, status, "127.0.0.1", doors.cause()),
+        _ => told(rt, status, path, disk.cause()),
+    }
+}
+
+/// A folder under one of the descriptors 0, 1 and 2, where one of them is free: the least free one is taken. Reading from
+/// it fails, and so does writing to it.
+fn stand_in(rt: &HostRuntime) -> io::Result<Option<File>> {
+    let folder = File::open(rt, "/")?;
+    if folder.as_raw_fd() <= 2 {
+        return Ok(Some(folder));
+    }
+    Ok(None)
+}
+
+/// Runs with the descriptors of standard input, output and error taken, so that no file which the run opens is one of
+/// them: a program that is started without them would write its replies into the journal.
+fn run(rt: &HostRuntime) -> io::Result<u8> {
+    let _first = stand_in(rt)?;
+    let _second = stand_in(rt)?;
+    let _third = stand_in(rt)?;
+    let files = rt.clone()?;
+    let net = rt.clone()?;
+    Ok(start::<HostRuntime, HostRuntime, HostRuntime, Brand>(rt, files, net, Blank::new(1)))
 }
 
 fn main(rt: HostRuntime) -> ExitCode {
-    let status = match rt.clone() {
-        Ok(files) => match rt.clone() {
-            Ok(net) => {
-                start::<HostRuntime, HostRuntime, HostRuntime, Brand>(
-                    &rt,
-                    files,
-                    net,
-                    Blank::new(1),
-                )
-            }
-            Err(_) => Status::OutOfMemory,
-        },
-        Err(_) => Status::OutOfMemory,
-    };
-    if status != Status::Done {
-        let _ = eprintln!(rt; "status {status}");
-    }
-    ExitCode::from(status.number())
+    ExitCode::from(match run(&rt) {
+        Ok(status) => status,
+        Err(error) if error.kind() == ErrorKind::OutOfMemory => {
+            told(&rt, Status::OutOfMemory, "", None)
+        }
+        Err(error) => told(&rt, Status::DiskFault, "/", Some(error)),
+    })
 }

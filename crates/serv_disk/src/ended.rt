@@ -17,3 +17,17 @@ pub(crate) fn ended<T: Drop>(done: io::Result<T>, faults: &mut u64) -> Result<T,
         }
     }
 }
+
+/// The same, and keeps the cause in mind.
+pub(crate) fn noted<T: Drop>(
+    done: io::Result<T>,
+    faults: &mut u64,
+    cause: &mut Option<io::Error>,
+) -> Result<T, Failed>
+    ensures { HasCause faults.old faults.new result }
+{
+    if let Err(error) = &done {
+        *cause = Some(*error);
+    }
+    ended(done, faults)
+}

@@ -1,28 +1,47 @@
 //! A file of the machine as a disk.
 
-ghost use Rattle.std.specs.Prelude.{◌≡◌, ℕ, None, IfOk};
+ghost use Rattle.std.specs.Prelude.{◌≡◌, ℕ, ◌+◌, ◌≤◌, None, IfOk};
 
 use crate::disk::Disk;
-use crate::ended::ended;
+use crate::ended::noted;
 use crate::failed::Failed;
 use std::alloc::Global;
-use std::fs::{Files, OpenFile, OpenOptions};
+use std::fs::{File, Files, OpenFile, OpenOptions};
 use std::io::{self, ErrorKind, Read, Seek, SeekFrom, Write};
 use svc_base::OutOfMemory;
 
-/// A file at a path. It is opened at the first call, and made empty where none is. It tells nothing of
-/// what the file holds. Trusted, and not proved: that reads give what was written, that no other
-/// program writes the file, that a write which fails leaves every byte outside of its range, and that
-/// `sync_all`, the system's own sync of data and size, returns Ok only once both are kept.
+/// A file that one process at a time can hold for itself.
+pub trait Hold {
+    /// Takes an exclusive lock on the file, without waiting: its error is `WouldBlock` where another process holds one.
+    /// The lock goes with the file, and so with the process.
+    fn hold(&self) -> io::Result<()>;
+}
+
+impl Hold for File {
+    fn hold(&self) -> io::Result<()> {
+        self.try_lock()?;
+        Ok(())
+    }
+}
+
+/// A file at a path. It is opened and locked at the first call, and made empty where none is; the folder of one that was
+/// made is synced then. It tells nothing of what the file holds. Trusted, and not proved: that reads give what was
+/// written, that no program writes the file which does not ask for its lock, that a write which fails leaves every byte
+/// outside of its range, that bytes written again as they are stay what they are, and that `sync_all`, the system's own
+/// sync of data and size, returns Ok only once both are kept which were written since the sync before it.
 #[derive(Drop)]
 pub struct FileDisk<R: Files + Drop> {
     runtime: R,
     path: String,
     file: Option<R::File>,
     faults: u64,
+    cause: Option<io::Error>,
 }
 
-impl<R: Files + Drop> FileDisk<R> {
+impl<R: Files + Drop> FileDisk<R>
+where
+    R::File: Hold,
+{
     /// The file at this path, which is not opened yet.
     pub fn new(alloc: Global, runtime: R, path: &str) -> Result<FileDisk<R>, OutOfMemory>
         ensures { IfOk result (λ disk. ⟦<FileDisk<R> as Disk>⟧.faults disk ≡ 0) }
@@ -33,26 +52,60 @@ impl<R: Files + Drop> FileDisk<R> {
             path,
             file: None,
             faults: 0,
+            cause: None,
         })
+    }
+
+    /// What the system named as the cause of the last call that failed.
+    pub fn cause(&self) -> Option<io::Error> {
+        self.cause
     }
 }
 
-/// The file, opened where it is not.
+/// The file, opened and held where it is not.
 fn opened<'a, R: Files>(
     runtime: &R,
     path: &str,
     file: &'a mut Option<R::File>,
-) -> io::Result<&'a mut R::File> {
+) -> io::Result<&'a mut R::File>
+where
+    R::File: Hold,
+{
     if file.is_none() {
-        *file = Some(
-            OpenOptions::new()
+        let found = found_or_made(runtime, path)?;
+        found.hold()?;
+        *file = Some(found);
+    }
+    file.as_mut().ok_or(io::Error::from(ErrorKind::NotFound))
+}
+
+/// The file at a path. Where there is none it is made, and its folder synced, so that its name stays after a crash.
+fn found_or_made<R: Files>(runtime: &R, path: &str) -> io::Result<R::File> {
+    match OpenOptions::new()
+        .read(true)
+        .write(true)
+        .open(runtime, path)
+    {
+        Err(error) if error.kind() == ErrorKind::NotFound => {
+            let made = OpenOptions::new()
                 .read(true)
                 .write(true)
                 .create(true)
-                .open(runtime, path)?,
-        );
+                .open(runtime, path)?;
+            File::open(runtime, folder_of(path))?.sync_all()?;
+            Ok(made)
+        }
+        found => found,
     }
-    file.as_mut().ok_or(io::Error::from(ErrorKind::NotFound))
+}
+
+/// The folder in which the file at a path lies.
+fn folder_of(path: &str) -> &str {
+    match path.rsplit_once('/') {
+        Some(("", _)) => "/",
+        Some((folder, _)) => folder,
+        None => ".",
+    }
 }
 
 /// Reads as many bytes as there is room for, from this place on.
@@ -68,7 +121,24 @@ fn write_from<F: Write + Seek>(file: &mut F, at: u64, bytes: &[u8]) -> io::Resul
     file.flush()
 }
 
-impl<R: Files + Drop> Disk for FileDisk<R> {
+/// The most bytes that are written again at once.
+const MOST_AGAIN: usize = 520;
+
+/// Reads the bytes from one place to another, and writes them again.
+fn write_again<F: Read + Write + Seek>(file: &mut F, from: u64, to: u64) -> io::Result<()>
+    requires order { from ≤ to }
+    requires few { to ≤ from + 520 }
+{
+    let mut room = [0; MOST_AGAIN];
+    let piece = &mut room[..(to - from) as usize];
+    read_from(file, from, piece)?;
+    write_from(file, from, piece)
+}
+
+impl<R: Files + Drop> Disk for FileDisk<R>
+where
+    R::File: Hold,
+{
     ghost use Rattle.serv_disk.specs.DiskLaws.{untold};
 
     ghost seen = { λ _. None };
@@ -86,7 +156,7 @@ impl<R: Files + Drop> Disk for FileDisk<R> {
             Ok(file) => file.metadata().map(|about| about.len()),
             Err(error) => Err(error),
         };
-        ended(done, &mut self.faults)
+        noted(done, &mut self.faults, &mut self.cause)
     }
 
     fn read(&mut self, at: u64, buf: &mut [u8]) -> Result<(), Failed> {
@@ -94,7 +164,7 @@ impl<R: Files + Drop> Disk for FileDisk<R> {
             Ok(file) => read_from(file, at, buf),
             Err(error) => Err(error),
         };
-        ended(done, &mut self.faults)
+        noted(done, &mut self.faults, &mut self.cause)
     }
 
     fn write_at(&mut self, at: u64, bytes: &[u8]) -> Result<(), Failed> {
@@ -102,7 +172,7 @@ impl<R: Files + Drop> Disk for FileDisk<R> {
             Ok(file) => write_from(file, at, bytes),
             Err(error) => Err(error),
         };
-        ended(done, &mut self.faults)
+        noted(done, &mut self.faults, &mut self.cause)
     }
 
     fn cut(&mut self, len: u64) -> Result<(), Failed> {
@@ -110,7 +180,15 @@ impl<R: Files + Drop> Disk for FileDisk<R> {
             Ok(file) => file.set_len(len),
             Err(error) => Err(error),
         };
-        ended(done, &mut self.faults)
+        noted(done, &mut self.faults, &mut self.cause)
+    }
+
+    fn renew(&mut self, from: u64, to: u64) -> Result<(), Failed> {
+        let done = match opened(&self.runtime, self.path.as_str(), &mut self.file) {
+            Ok(file) => write_again(file, from, to),
+            Err(error) => Err(error),
+        };
+        noted(done, &mut self.faults, &mut self.cause)
     }
 
     fn sync(&mut self) -> Result<(), Failed> {
@@ -118,7 +196,7 @@ impl<R: Files + Drop> Disk for FileDisk<R> {
             Ok(file) => file.sync_all(),
             Err(error) => Err(error),
         };
-        ended(done, &mut self.faults)
+        noted(done, &mut self.faults, &mut self.cause)
     }
 
     ghost counts_now = { λ d t c le image. image };

@@ -22,7 +22,7 @@ mod torn;
 pub use disk::Disk;
 pub use doors::Doors;
 pub use failed::Failed;
-pub use file_disk::FileDisk;
+pub use file_disk::{FileDisk, Hold};
 pub use link::Link;
 pub use mem_disk::MemDisk;
 pub use mem_doors::{CalmDoors, MemDoors};

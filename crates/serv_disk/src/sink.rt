@@ -6,7 +6,7 @@ ghost use Rattle.serv_disk.specs.Faults.{HasCause, AppendsPart};
 ghost use Rattle.serv_disk.specs.Sides.{Side, no_side};
 
 use crate::failed::{Failed, is_among};
-use std::io::Write;
+use std::io::{self, ErrorKind, Write};
 use std::marker::Model;
 use svc_base::OutOfMemory;
 
@@ -166,6 +166,7 @@ impl Sink for CalmSink {
 pub struct WriteSink<W: Write + Drop> {
     writer: W,
     faults: u64,
+    cause: Option<io::Error>,
 }
 
 impl<W: Write + Drop> WriteSink<W> {
@@ -173,7 +174,16 @@ impl<W: Write + Drop> WriteSink<W> {
     pub fn new(writer: W) -> WriteSink<W>
         ensures faults { ⟦<WriteSink<W> as Sink>⟧.faults result ≡ 0 }
     {
-        WriteSink { writer, faults: 0 }
+        WriteSink {
+            writer,
+            faults: 0,
+            cause: None,
+        }
+    }
+
+    /// What the system named as the cause of the last call that failed.
+    pub fn cause(&self) -> Option<io::Error> {
+        self.cause
     }
 }
 
@@ -185,13 +195,14 @@ impl<W: Write + Drop> Sink for WriteSink<W> {
     ghost beside = { λ _. no_side };
 
     fn write(&mut self, piece: &[u8]) -> Result<usize, Failed> {
-        match self.writer.write(piece) {
-            Ok(n) if n > 0 || piece.is_empty() => Ok(n),
-            _ => {
-                self.faults = self.faults.saturating_add(1);
-                Err(Failed)
-            }
-        }
+        let cause = match self.writer.write(piece) {
+            Ok(n) if n > 0 || piece.is_empty() => return Ok(n),
+            Ok(_) => io::Error::from(ErrorKind::WriteZero),
+            Err(error) => error,
+        };
+        self.faults = self.faults.saturating_add(1);
+        self.cause = Some(cause);
+        Err(Failed)
     }
 }
 

@@ -7,7 +7,7 @@ ghost use Rattle.serv_disk.specs.Sides.{Side, no_side};
 
 use crate::failed::{Failed, is_among};
 use std::alloc::Global;
-use std::io::Read;
+use std::io::{self, Read};
 use std::marker::Model;
 
 /// Bytes that are read in order.
@@ -152,6 +152,7 @@ impl Source for MemSource {
 pub struct ReadSource<R: Read + Drop> {
     reader: R,
     faults: u64,
+    cause: Option<io::Error>,
 }
 
 impl<R: Read + Drop> ReadSource<R> {
@@ -159,7 +160,16 @@ impl<R: Read + Drop> ReadSource<R> {
     pub fn new(reader: R) -> ReadSource<R>
         ensures faults { ⟦<ReadSource<R> as Source>⟧.faults result ≡ 0 }
     {
-        ReadSource { reader, faults: 0 }
+        ReadSource {
+            reader,
+            faults: 0,
+            cause: None,
+        }
+    }
+
+    /// What the system named as the cause of the last call that failed.
+    pub fn cause(&self) -> Option<io::Error> {
+        self.cause
     }
 }
 
@@ -173,8 +183,9 @@ impl<R: Read + Drop> Source for ReadSource<R> {
     fn read(&mut self, buf: &mut [u8]) -> Result<usize, Failed> {
         match self.reader.read(buf) {
             Ok(n) => Ok(n),
-            Err(_) => {
+            Err(error) => {
                 self.faults = self.faults.saturating_add(1);
+                self.cause = Some(error);
                 Err(Failed)
             }
         }

@@ -4,12 +4,12 @@ ghost use Rattle.std.specs.Prelude.{◌≡◌, ℕ, ◌<◌, ◌≤◌, List, Op
 ghost use Rattle.serv_disk.specs.Faults.{HasCause};
 
 use crate::doors::Doors;
-use crate::ended::ended;
+use crate::ended::noted;
 use crate::failed::Failed;
 use crate::link::Link;
 use crate::sink::Sink;
 use crate::source::Source;
-use std::io::{self, ErrorKind, Read, Write};
+use std::io::{self, Eprint, ErrorKind, Read, Write};
 use std::net::{Ipv4Addr, Net, OpenListener, SocketAddr, TcpListener};
 
 /// A connection of the machine. It tells nothing of what comes or was written, and is closed when it is
@@ -82,16 +82,17 @@ impl<R: Net> Link for TcpLink<R> {
 /// Connections that come to a port of 127.0.0.1. They tell nothing of which come. `back` closes the
 /// connection.
 #[derive(Drop)]
-pub struct TcpDoors<R: Net + Drop> {
+pub struct TcpDoors<R: Net + Eprint + Drop> {
     runtime: R,
     port: u16,
     listener: Option<R::Listener>,
     out: u64,
     faults: u64,
+    cause: Option<io::Error>,
 }
 
-/// The listener, made where there is none.
-fn listening<'a, R: Net>(
+/// The listener, made where there is none. That it listens, and where, is said on standard error.
+fn listening<'a, R: Net + Eprint>(
     runtime: &R,
     port: u16,
     listener: &'a mut Option<R::Listener>,
@@ -99,13 +100,14 @@ fn listening<'a, R: Net>(
     if listener.is_none() {
         let addr = SocketAddr::from((Ipv4Addr::LOCALHOST, port));
         *listener = Some(TcpListener::bind(runtime, addr)?);
+        let _ = eprintln!(runtime; "listening on 127.0.0.1:{port}");
     }
     listener
         .as_mut()
         .ok_or(io::Error::from(ErrorKind::NotConnected))
 }
 
-impl<R: Net + Drop> TcpDoors<R> {
+impl<R: Net + Eprint + Drop> TcpDoors<R> {
     /// Doors at this port, at which nothing listens yet.
     pub fn new(runtime: R, port: u16) -> TcpDoors<R>
         ensures out { ⟦<TcpDoors<R> as Doors>⟧.out result ≡ 0 }
@@ -117,7 +119,13 @@ impl<R: Net + Drop> TcpDoors<R> {
             listener: None,
             out: 0,
             faults: 0,
+            cause: None,
         }
+    }
+
+    /// What the system named as the cause of the last call that failed.
+    pub fn cause(&self) -> Option<io::Error> {
+        self.cause
     }
 
     /// Listens from here on. Without this call the first `next` does.
@@ -129,11 +137,11 @@ impl<R: Net + Drop> TcpDoors<R> {
             Ok(_) => Ok(()),
             Err(error) => Err(error),
         };
-        ended(done, &mut self.faults)
+        noted(done, &mut self.faults, &mut self.cause)
     }
 }
 
-impl<R: Net + Drop> Doors for TcpDoors<R> {
+impl<R: Net + Eprint + Drop> Doors for TcpDoors<R> {
     type Conn = TcpLink<R>;
 
     ghost coming = { λ _. None };
@@ -149,7 +157,7 @@ impl<R: Net + Drop> Doors for TcpDoors<R> {
             Ok(listener) => listener.accept(),
             Err(error) => Err(error),
         };
-        let (stream, _) = ended(done, &mut self.faults)?;
+        let (stream, _) = noted(done, &mut self.faults, &mut self.cause)?;
         self.out = 1;
         Ok(Some(TcpLink::new(stream)))
     }

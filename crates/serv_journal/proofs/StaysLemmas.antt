@@ -29,3 +29,8 @@ module _ {D : Type 0} (seen : D → Option (List ℕ)) (images : D → List ℕ 
   -- a run that leaves the disk as it was, and one that does not
   pub stays_then : (old mid new : D) (P : List ℕ → Type 0) → Stays seen images moment images_since old mid → Each (images old) P → LeavesOnly moment images_since mid new P → LeavesOnly moment images_since old new P
   stays_then old mid new P first each second = joined moment images_since old mid new P (weaker moment images_since old mid (images old) P first.moments each) second
+
+  -- one call
+  pub stays_once : (old new : D) → ((c : List ℕ) → images_since old (moment old) c → images old c) → seen new ≡ seen old → Each (images new) (images old)
+      → Elapses (moment old) (moment new) (images_since old) (images_since new) (images new) → Stays seen images moment images_since old new
+  stays_once old new here told crash time = stays_call old old new (stays_here old here) told crash time

@@ -16,17 +16,6 @@ pub(crate) fn length_of<D: Disk>(disk: &mut D) -> Result<u64, Failed>
     disk.len()
 }
 
-/// Makes what reads give the only thing that a crash leaves, and gives the length of the file.
-pub(crate) fn settle<D: Disk>(disk: &mut D) -> Result<u64, Failed>
-    ensures number { IfOk result (λ n. (s : List ℕ) → D.seen disk.old ≡ Some s → n ≡ length s) }
-    ensures only { OnOk result (Only (D.seen disk.new) (D.images disk.new)) }
-    ensures stays { Stays D.seen D.images D.moment D.images_since disk.old disk.new }
-    ensures cause { HasCause (D.faults disk.old) (D.faults disk.new) result }
-{
-    disk.sync()?;
-    disk.len()
-}
-
 /// Makes what reads give the only thing that a crash leaves.
 pub(crate) fn sync_all<D: Disk>(disk: &mut D) -> Result<(), Failed>
     ensures only { OnOk result (Only (D.seen disk.new) (D.images disk.new)) }

@@ -2,6 +2,7 @@
 
 ghost use Rattle.std.specs.Prelude.{◌≡◌, ◌⊎◌, ℕ, ◌+◌, ◌<◌, ◌≤◌, ◌^◌, List, length, Some, false, IfOk, IfErr, OnOk, IsErrOf};
 ghost use Rattle.serv_disk.specs.Disks.{Each, Only, LeavesOnly};
+ghost use Rattle.serv_disk.specs.Faults.{HasCause};
 ghost use Rattle.serv_journal.specs.Format.{IsLine, AreLines};
 ghost use Rattle.serv_journal.specs.Disks.{IsGood, IsDurableFor};
 ghost use Rattle.serv_journal.specs.Reading.{lines_in, IsOpened, IsDamaged, IsNoJournal};
@@ -9,17 +10,63 @@ ghost use Rattle.serv_journal.specs.Outcomes.{IsOnlyFault, IsOpenFault, Reaches}
 ghost use Rattle.serv_journal.specs.Stays.{Stays};
 ghost use Rattle.serv_journal.specs.Finds.{IsFound, HasForm, IsFindFault};
 
-use crate::calls::settle;
+use crate::calls::{length_of, sync_all};
 use crate::faults::JournalFault;
 use crate::finds::{Found, find};
 use crate::frames::Frames;
 use crate::journal::Journal;
 use crate::window::Window;
 use crate::writes::close_byte;
-use serv_disk::Disk;
+use serv_disk::{Disk, Failed};
 use std::alloc::Global;
 
-/// Syncs, and reads the records of the part that is in force.
+/// The most bytes that are written again at once: a record of 512 bytes with its head and both commit bytes.
+const MOST_AGAIN: u64 = 520;
+
+/// The bytes of an upgrade's mark: a commit byte and a header.
+const MARK: u64 = 9;
+
+/// Writes so many bytes before a place again, 520 at most.
+#[tactic(auto, using(crate::proofs::StaysLemmas::stays_once))]
+fn renew_to<D: Disk>(disk: &mut D, to: u64, count: u64) -> Result<(), Failed>
+    requires { Reaches (D.seen disk.old) to }
+    ensures stays { Stays D.seen D.images D.moment D.images_since disk.old disk.new }
+    ensures cause { HasCause (D.faults disk.old) (D.faults disk.new) result }
+{
+    let from = to - count.min(MOST_AGAIN).min(to);
+    disk.renew(from, to)
+}
+
+/// Writes the last record with the commit bytes around it again, and the nine bytes before the first one, where an
+/// upgrade leaves its mark. A sync that failed in an earlier run may have left them in the system's memory alone, and the
+/// next one is to answer for them.
+fn renew<D: Disk>(disk: &mut D, found: &Found) -> Result<(), Failed>
+    requires reaches { Reaches (D.seen disk.old) (found.now.place + 1) }
+    requires small { found.now.place + 1 < 2 ^ 64 }
+    ensures stays { Stays D.seen D.images D.moment D.images_since disk.old disk.new }
+    ensures cause { HasCause (D.faults disk.old) (D.faults disk.new) result }
+{
+    let end = found.place + 1;
+    let first = place_or(&found.frames, 0, found.place);
+    renew_to(disk, first.min(end), MARK)?;
+    let last = found.frames.len().saturating_sub(1);
+    renew_to(
+        disk,
+        end,
+        end.saturating_sub(place_or(&found.frames, last, found.place)),
+    )
+}
+
+/// The place of a record, or another one where there is no such record.
+fn place_or(frames: &Frames, i: usize, other: u64) -> u64 {
+    if i < frames.len() {
+        frames.place(i)
+    } else {
+        other
+    }
+}
+
+/// Reads the records of the part that is in force, and syncs what it has read.
 fn read_all<D: Disk>(alloc: Global, disk: &mut D) -> Result<Found, JournalFault>
     ensures found { IfOk result (λ r. (s : List ℕ) → D.seen disk.old ≡ Some s
         → IsFound r.version r.frames r.place r.commit s) }
@@ -31,9 +78,12 @@ fn read_all<D: Disk>(alloc: Global, disk: &mut D) -> Result<Found, JournalFault>
     ensures faults { D.faults disk.old ≤ D.faults disk.new }
     ensures fault { IfErr result (IsFindFault (D.seen disk.old) (D.faults disk.old) (D.faults disk.new)) }
 {
-    let size = settle(disk)?;
+    let size = length_of(disk)?;
     let mut window = Window::new(size);
-    find(alloc, &mut window, disk)
+    let found = find(alloc, &mut window, disk)?;
+    renew(disk, &found)?;
+    sync_all(disk)?;
+    Ok(found)
 }
 
 impl Journal {

@@ -1,0 +1,230 @@
+#!/usr/bin/env python3
+"""Tests on real processes of what lies around the journal: descriptors, the lock on its file, causes, and its syncs.
+
+    edges.py [WORD..]    all cases, or those whose names have the words
+
+Standard library alone, and `strace` where it is installed; `JAQHENDULU` names another program than the one that `rt`
+built. Prints a line a case and `N passed, M failed` at its end.
+"""
+import os
+import re
+import shutil
+import signal
+import subprocess
+import sys
+import time
+
+from harness import TOP, Skipped, case, named, read, run, run_all, same, start, write
+import program
+import reckon
+import replay
+
+MONTH = read(TOP, "examples", "month", "month.lines")
+IMPORTED = b"key,do,loan,day,amount,line\nz1,pay,1,2024-01-01,1199.10,\n"
+READS = ("apply", "session", "import", "confirm", "pmi", "pmi-drops", "reconcile 1 2")
+WRITES = ("report 2023-12", "trial 2023-12", "custodial", "transfer 1 2", "remain 1 2", "statement", "drill 1 7")
+
+
+def month(room, name="books.journal"):
+    """The path of a journal of the month of three loans."""
+    path = os.path.join(room, name)
+    same((0, b"", b""), run(path, "init"), "init")
+    same(0, run(path, "apply", given=MONTH)[0], "the month")
+    return path
+
+
+def without(*closed):
+    """What a process does before it becomes the program, to be started without these descriptors."""
+    def close():
+        for number in closed:
+            os.close(number)
+    return close
+
+
+# Descriptors
+
+@case("descriptors: without standard input every word that reads ends with 3, and the journal stays as it was")
+def no_input(room):
+    path = month(room)
+    before = read(path)
+    for words in READS:
+        status, out, log = run(path, *words.split(), preexec_fn=without(0))
+        same((3, b"", b"status 3 ReadFault"), (status, out, named(log)), words)
+        same(before, read(path), words)
+
+
+@case("descriptors: without standard output every word that writes ends with 4, and the journal is never written into")
+def no_output(room):
+    path = month(room)
+    before = read(path)
+    for words in WRITES:
+        status, out, log = run(path, *words.split(), preexec_fn=without(1))
+        same((4, b"", b"status 4 WriteFault"), (status, out, named(log)), words)
+        same(before, read(path), words)
+    for words, given in (("apply", b"z1 pay 1 2024-02-01 1.00\n"), ("import", IMPORTED)):
+        write(before, path)
+        same((4, b""), run(path, words, given=given, preexec_fn=without(1))[:2], words)
+        kept = reckon.lines_of_journal(read(path))
+        if kept[:-1] != reckon.lines_of_journal(before):
+            raise AssertionError(f"{words} wrote into the journal")
+        same(0, run(path, "custodial")[0], words)
+
+
+@case("descriptors: without standard error a run is as ever; without all three the journal stays as it was")
+def no_error(room):
+    path = month(room)
+    before, wanted = read(path), run(path, "custodial")[1]
+    same((0, wanted), run(path, "custodial", preexec_fn=without(2))[:2])
+    same(2, run(path, "frob", preexec_fn=without(2))[0])
+    for words in (*READS, *WRITES, "init"):
+        status = run(path, *words.split(), preexec_fn=without(0, 1, 2))[0]
+        if status not in (3, 4, 7):
+            raise AssertionError(f"{words} ended with {status}")
+        same(before, read(path), words)
+
+
+@case("descriptors: serve without standard output serves, ends with 4, and the journal opens")
+def no_summary(room):
+    path, port = month(room), replay.free_port()
+    before = read(path)
+    it = start(path, "serve", str(port), "1", preexec_fn=without(0, 1))
+    link = replay.connect(port)
+    link.sendall(b"GET /v1/custodial HTTP/1.1\r\nConnection: close\r\n\r\n")
+    if not link.recv(65536).startswith(b"HTTP/1.1 200"):
+        raise AssertionError("no answer")
+    link.close()
+    same(4, it.wait(timeout=60))
+    same(before, read(path))
+
+
+# The lock
+
+def serving(path):
+    """A program that serves one connection over a journal, and its port, once it listens."""
+    port = replay.free_port()
+    it = start(path, "serve", str(port), "1")
+    same(f"listening on 127.0.0.1:{port}\n".encode(), it.stderr.readline())
+    return it, port
+
+
+@case("lock: beside serve every other word that opens the journal ends with 14 and touches nothing")
+def beside_serve(room):
+    path = month(room)
+    before = read(path)
+    it, _ = serving(path)
+    for words in ("apply", "import", "init", "report 2023-12", "custodial", "statement", "serve 8080 1", "confirm"):
+        said = f"status 14 InUse {path}\n".encode()
+        same((14, b"", said), run(path, *words.split(), given=b"x day 2030-01-01\n"), words)
+    same(before, read(path))
+    for words in ("session", "drill 1 7"):
+        same(0, run(path, *words.split())[0], words)
+    it.send_signal(signal.SIGKILL)
+    it.wait(timeout=60)
+    same(0, run(path, "custodial")[0], "after kill -9")
+
+
+@case("lock: two apply at once: one ends with 14, and the file has what the other answered")
+def two_at_once(room):
+    path = month(room)
+    first = start(path, "apply")
+    first.stdin.write(b"a0 deposit 1 2024-02-01 0.01\n")
+    first.stdin.flush()
+    same(b"ok 15\n", first.stdout.readline())
+    given = b"".join(b"b%d deposit 1 2024-02-01 0.01\n" % n for n in range(100))
+    same((14, b""), run(path, "apply", given=given)[:2])
+    out = first.communicate(b"".join(b"a%d deposit 1 2024-02-01 0.01\n" % n for n in range(1, 100)))[0]
+    same((0, 99), (first.returncode, out.count(b"ok ")))
+    same(14 + 100, len(reckon.lines_of_journal(read(path))))
+
+
+# Causes
+
+@case("causes: a folder that is not there, a port that is taken, a file that may not be written")
+def causes(room):
+    missing = os.path.join(room, "nowhere", "j")
+    said = f"status 5 DiskFault {missing}: No such file or directory (os error 2)\n".encode()
+    same((5, b"", said), run(missing, "init"))
+    path = month(room)
+    it, port = serving(path)
+    other = month(room, "other.journal")
+    said = b"status 9 NetFault 127.0.0.1: Address already in use (os error 98)\n"
+    same((9, b"", said), run(other, "serve", str(port), "1"))
+    it.kill()
+    it.wait()
+    if os.geteuid():
+        raise Skipped("the last part wants root, which becomes another user")
+    os.chmod(room, 0o711)
+    os.chmod(other, 0o600)
+    said = f"status 5 DiskFault {other}: Permission denied (os error 13)\n".encode()
+    copy = os.path.join(room, "program")
+    shutil.copyfile(program.find(), copy)
+    os.chmod(copy, 0o755)
+    ran = subprocess.run([copy, other, "custodial"], capture_output=True, user=65534, group=65534, check=False)
+    same((5, b"", said), (ran.returncode, ran.stdout, ran.stderr))
+
+
+# Syncs
+
+def traced(path, given, *more):
+    """The calls on the journal's file of an `apply` under strace, and the status, output and log."""
+    if not shutil.which("strace"):
+        raise Skipped("strace is not installed")
+    words = ["strace", "-y", "-e", "trace=openat,read,write,fsync,ftruncate", *more, program.find(), path, "apply"]
+    ran = subprocess.run(words, input=given, capture_output=True, check=False, timeout=120)
+    log = ran.stderr.decode()
+    if "ptrace" in log and "Operation not permitted" in log:
+        raise Skipped("strace is not allowed here")
+    calls = re.findall(r"^(read|write|fsync|ftruncate)\(\d+<" + re.escape(path) + r">(?:, .*, (\d+))?\) += (\S+)", log,
+                       re.MULTILINE)
+    return calls, (ran.returncode, ran.stdout, log)
+
+
+@case("syncs: an opening writes the last record again before its first sync; an append is record, sync, gate, sync")
+def order_of_syncs(room):
+    path = month(room)
+    size = os.path.getsize(path)
+    calls, (status, out, _) = traced(path, b"z1 deposit 1 2024-02-01 0.01\n")
+    same((0, b"ok 15\n"), (status, out))
+    kinds = [(call, int(given or 0)) for call, given, _ in calls if call != "read"]
+    record = 7 + len(b"z1 deposit 1 2024-02-01 0.01")
+    lines = reckon.lines_of_journal(read(path))
+    again = 8 + len(lines[-2])
+    same([("write", 8), ("write", again), ("fsync", 0), ("write", record), ("fsync", 0), ("write", 1), ("fsync", 0)],
+         kinds)
+    same(size + record, os.path.getsize(path))
+
+
+@case("syncs: one that fails ends with 5; what was answered is there, and at most the command that was being appended")
+def failed_syncs(room):
+    path = month(room)
+    before = read(path)
+    given = b"z1 deposit 1 2024-02-01 0.01\nz2 deposit 1 2024-02-01 0.01\n"
+    kept = reckon.lines_of_journal(before)
+    for when in range(1, 6):
+        write(before, path)
+        _, (status, out, log) = traced(path, given, "-e", f"inject=fsync:error=EIO:when={when}")
+        same(5, status, f"sync {when}")
+        if "Input/output error" not in log.splitlines()[-2] + log.splitlines()[-1] + log:
+            raise AssertionError(f"no cause: {log[-300:]}")
+        same(out.count(b"\n"), max(0, (when - 2) // 2), f"replies at sync {when}")
+        same((0, b""), run(path, "custodial")[::2], f"opening after sync {when}")
+        lines = reckon.lines_of_journal(read(path))
+        if lines[:len(kept)] != kept or not 0 <= len(lines) - len(kept) - out.count(b"\n") <= 1:
+            raise AssertionError(f"sync {when}: {len(lines)} commands, {out!r}")
+        same((0, b"ok 15\nok 16\n", b""), run(path, "apply", given=given), f"again after sync {when}")
+
+
+@case("the folder of a file that is made is synced")
+def folder_synced(room):
+    if not shutil.which("strace"):
+        raise Skipped("strace is not installed")
+    path = os.path.join(room, "new.journal")
+    words = ["strace", "-y", "-e", "trace=fsync", program.find(), path, "init"]
+    ran = subprocess.run(words, capture_output=True, check=False, timeout=60)
+    synced = re.findall(r"fsync\(\d+<(.*?)>\)", ran.stderr.decode())
+    same([room, path], synced[:2])
+    time.sleep(0)
+
+
+if __name__ == "__main__":
+    sys.exit(run_all(sys.argv[1:]))
