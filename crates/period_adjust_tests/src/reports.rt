@@ -238,12 +238,14 @@ fn months_are_closed_in_order_once_they_ended(rt: HostRuntime) {
     assert_eq!(rt; first_close(rt.alloc(), 0, first_day(month(1))), Ok(()));
 }
 
-/// Remits months one after the other, once 2023-12 to 2024-03 are closed: the last answer, and which
-/// month was remitted last.
-fn last_remit(
+/// Whether the last of some months that are remitted one after the other, once 2023-12 to 2024-03 are
+/// closed, is answered so, and leaves that month as the last remitted.
+fn is_answered(
     alloc: Global,
     months: &[Month],
-) -> Result<(Result<(), RemitFault>, Option<Month>), SealFault> {
+    wanted: Result<(), RemitFault>,
+    remitted: Option<Month>,
+) -> Result<bool, SealFault> {
     let february = due(2, 95_833, 19_910, 19_980_090);
     let march = due(3, 95_737, 20_010, 19_960_080);
     let mut seals = worked_reports(alloc, &february, &march)?;
@@ -251,10 +253,7 @@ fn last_remit(
     for month in months {
         answer = seals.remit(*month);
     }
-    if seals.closed() != Some(month(3)) {
-        return Err(SealFault::WrongPeriod(month(3)));
-    }
-    Ok((answer, seals.remitted()))
+    Ok(seals.closed() == Some(month(3)) && answer == wanted && seals.remitted() == remitted)
 }
 
 #[test]
@@ -262,17 +261,16 @@ fn months_are_remitted_in_order_once_closed(rt: HostRuntime) -> Result<(), Fail>
     let none = Seals::new(rt.alloc()).remit(month(0));
     assert_eq!(rt; none, Err(RemitFault::NotClosed(None)));
 
+    let alloc = rt.alloc();
     let last = Some(month(3));
-    let beyond = last_remit(rt.alloc(), &[month(4)])?;
-    assert_eq!(rt; beyond, (Err(RemitFault::NotClosed(last)), None));
-    let not_first = last_remit(rt.alloc(), &[month(1)])?;
-    assert_eq!(rt; not_first, (Err(RemitFault::WrongRemit(month(0))), None));
+    let beyond = Err(RemitFault::NotClosed(last));
+    assert!(rt; is_answered(alloc, &[month(4)], beyond, None)?);
+    let not_first = Err(RemitFault::WrongRemit(month(0)));
+    assert!(rt; is_answered(alloc, &[month(1)], not_first, None)?);
     let all = [month(0), month(1), month(2), month(3)];
-    assert_eq!(rt; last_remit(rt.alloc(), &all)?, (Ok(()), last));
-    let again = [month(0), month(1), month(2), month(3), month(3)];
-    assert_eq!(rt;
-        last_remit(rt.alloc(), &again)?,
-        (Err(RemitFault::WrongRemit(month(4))), last)
-    );
+    assert!(rt; is_answered(alloc, &all, Ok(()), last)?);
+    let twice = [month(0), month(1), month(2), month(3), month(3)];
+    let again = Err(RemitFault::WrongRemit(month(4)));
+    assert!(rt; is_answered(alloc, &twice, again, last)?);
     Ok(())
 }
