@@ -3,6 +3,7 @@
 use std::test::Fail;
 use svc_base::{
     Day, Month, add_days, add_months, days360, first_day, last_day, month_of, read_day, read_month,
+    write_day, write_month,
 };
 
 /// The day that many days after the one that a text spells.
@@ -27,17 +28,20 @@ fn days_are_added_over_the_ends_of_months(rt: HostRuntime) {
         ("2024-01-31", 365, "2025-01-30"),
     ];
     for (from, n, want) in rows {
-        assert_eq!(rt;
-            later(from.as_bytes(), n),
-            read_day(want.as_bytes()).ok(),
-            "{n} after {from}"
-        );
+        assert_eq!(rt; later(from.as_bytes(), n), read_day(want.as_bytes()).ok());
     }
 }
 
+/// The days of a year of 360 between the days that two texts spell.
+fn days_between(from: &str, to: &str) -> Option<u32> {
+    let from = read_day(from.as_bytes()).ok()?;
+    let to = read_day(to.as_bytes()).ok()?;
+    Some(days360(from, to))
+}
+
 #[test]
-fn a_year_of_360_has_months_of_30_days(rt: HostRuntime) -> Result<(), Fail> {
-    let rows = [
+fn a_year_of_360_has_months_of_30_days(rt: HostRuntime) {
+    for (from, to, want) in [
         ("2024-02-01", "2024-03-01", 30),
         ("2024-01-31", "2024-02-01", 1),
         ("2024-01-30", "2024-02-01", 1),
@@ -47,31 +51,33 @@ fn a_year_of_360_has_months_of_30_days(rt: HostRuntime) -> Result<(), Fail> {
         ("2023-12-15", "2024-12-15", 360),
         ("2024-03-01", "2024-02-01", 0),
         ("2024-02-01", "2024-02-01", 0),
-    ];
-    for (from, to, want) in rows {
-        let days = days360(read_day(from.as_bytes())?, read_day(to.as_bytes())?);
-        assert_eq!(rt; days, want, "from {from} to {to}");
+    ] {
+        assert_eq!(rt; days_between(from, to), Some(want));
     }
-    Ok(())
+}
+
+/// The first and the last day of the month that a text spells, and the month of its last day.
+fn ends(month: &[u8]) -> Option<([u8; 10], [u8; 10], [u8; 7])> {
+    let month = read_month(month).ok()?;
+    let (first, last) = (first_day(month), last_day(month));
+    Some((
+        write_day(first),
+        write_day(last),
+        write_month(month_of(last)),
+    ))
 }
 
 #[test]
-fn months_have_their_first_and_last_days(rt: HostRuntime) -> Result<(), Fail> {
-    let rows = [
-        ("2024-02", "2024-02-01", "2024-02-29"),
-        ("2023-02", "2023-02-01", "2023-02-28"),
-        ("2000-02", "2000-02-01", "2000-02-29"),
-        ("2024-04", "2024-04-01", "2024-04-30"),
-        ("2024-12", "2024-12-01", "2024-12-31"),
-    ];
-    for (month, first, last) in rows {
-        let month = read_month(month.as_bytes())?;
-        assert_eq!(rt; Ok(first_day(month)), read_day(first.as_bytes()));
-        assert_eq!(rt; Ok(last_day(month)), read_day(last.as_bytes()));
-        assert_eq!(rt; month_of(last_day(month)), month);
-        assert!(rt; first_day(month) < last_day(month));
+fn months_have_their_first_and_last_days(rt: HostRuntime) {
+    for (month, first, last) in [
+        (b"2024-02", b"2024-02-01", b"2024-02-29"),
+        (b"2023-02", b"2023-02-01", b"2023-02-28"),
+        (b"2000-02", b"2000-02-01", b"2000-02-29"),
+        (b"2024-04", b"2024-04-01", b"2024-04-30"),
+        (b"2024-12", b"2024-12-01", b"2024-12-31"),
+    ] {
+        assert_eq!(rt; ends(month.as_slice()), Some((*first, *last, *month)));
     }
-    Ok(())
 }
 
 #[test]

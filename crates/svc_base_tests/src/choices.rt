@@ -6,41 +6,50 @@ use svc_types::{
 };
 
 #[test]
-fn choices_have_one_spelling(rt: HostRuntime) {
-    let types = [
+fn types_have_one_spelling(rt: HostRuntime) {
+    for (text, want) in [
         ("AA", Some(RemitType::AA)),
         ("SA", Some(RemitType::SA)),
         ("SS", Some(RemitType::SS)),
         ("AS", None),
         ("aa", None),
         ("", None),
-    ];
-    for (text, want) in types {
-        assert_eq!(rt; read_type(text.as_bytes()), want, "at {text}");
+    ] {
+        assert_eq!(rt; read_type(text.as_bytes()), want);
     }
-    let kinds = [
+}
+
+#[test]
+fn kinds_have_one_spelling(rt: HostRuntime) {
+    for (text, want) in [
         ("tax", Some(LineKind::Tax)),
         ("hazard", Some(LineKind::Hazard)),
         ("flood", Some(LineKind::Flood)),
         ("other", Some(LineKind::Other)),
         ("Tax", None),
         ("others", None),
-    ];
-    for (text, want) in kinds {
-        assert_eq!(rt; read_kind(text.as_bytes()), want, "at {text}");
+    ] {
+        assert_eq!(rt; read_kind(text.as_bytes()), want);
     }
-    let surpluses = [
+}
+
+#[test]
+fn choices_for_a_surplus_have_one_spelling(rt: HostRuntime) {
+    for (text, want) in [
         ("-", Some(SurplusPlan::Unsaid)),
         ("refund", Some(SurplusPlan::Refund)),
         ("credit", Some(SurplusPlan::Credit)),
         ("retain", Some(SurplusPlan::Retain)),
         ("leave", None),
         ("", None),
-    ];
-    for (text, want) in surpluses {
-        assert_eq!(rt; read_surplus(text.as_bytes()), want, "at {text}");
+    ] {
+        assert_eq!(rt; read_surplus(text.as_bytes()), want);
     }
-    let parts = [
+}
+
+#[test]
+fn choices_for_a_part_have_one_spelling(rt: HostRuntime) {
+    for (text, want) in [
         ("-", Some(PartPlan::Unsaid)),
         ("leave", Some(PartPlan::Leave)),
         ("within30", Some(PartPlan::Within30)),
@@ -51,9 +60,8 @@ fn choices_have_one_spelling(rt: HostRuntime) {
         ("spread:4294967296", None),
         ("spread", None),
         ("within31", None),
-    ];
-    for (text, want) in parts {
-        assert_eq!(rt; read_part(text.as_bytes()), want, "at {text}");
+    ] {
+        assert_eq!(rt; read_part(text.as_bytes()), want);
     }
 }
 

@@ -90,7 +90,7 @@ fn each_term_has_its_range(rt: HostRuntime) -> Result<(), Fail> {
             term,
             ..terms
         };
-        assert_eq!(rt; row.check(), want, "at {row:?}");
+        assert_eq!(rt; row.check(), want);
     }
     Ok(())
 }
@@ -135,7 +135,7 @@ fn each_date_and_charge_has_its_range(rt: HostRuntime) -> Result<(), Fail> {
             rate,
             ..terms
         };
-        assert_eq!(rt; row.check(), want, "at {row:?}");
+        assert_eq!(rt; row.check(), want);
     }
     Ok(())
 }

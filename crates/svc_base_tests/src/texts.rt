@@ -1,10 +1,11 @@
 //! Texts and money, by rows that were worked by hand.
 
+use std::alloc::{AllocError, Global};
 use std::test::Fail;
 use svc_base::{
-    Cents, DayFault, day_interest, make_room, month_interest, push_signed, read_amount,
-    read_civil_month, read_day, read_digits, read_month, read_number, share_bp, split_pair,
-    write_day, write_month,
+    Cents, DayFault, OutOfMemory, day_interest, make_room, month_interest, push_signed,
+    read_amount, read_civil_month, read_day, read_digits, read_month, read_number, share_bp,
+    split_pair, write_day, write_month,
 };
 
 #[test]
@@ -28,7 +29,7 @@ fn numbers_have_one_spelling(rt: HostRuntime) {
         ("\u{661}", None),
     ];
     for (text, want) in rows {
-        assert_eq!(rt; read_number(text.as_bytes()), want, "at {text}");
+        assert_eq!(rt; read_number(text.as_bytes()), want);
     }
 }
 
@@ -44,7 +45,7 @@ fn digits_are_read_up_to_64_bits(rt: HostRuntime) {
         ("1:", None),
     ];
     for (text, want) in rows {
-        assert_eq!(rt; read_digits(text.as_bytes()), want, "at {text}");
+        assert_eq!(rt; read_digits(text.as_bytes()), want);
     }
 }
 
@@ -59,7 +60,7 @@ fn two_digits_stand_behind_a_mark(rt: HostRuntime) {
         ("34", None),
     ];
     for (text, want) in rows {
-        assert_eq!(rt; split_pair(text.as_bytes(), b'.'), want, "at {text}");
+        assert_eq!(rt; split_pair(text.as_bytes(), b'.'), want);
     }
 }
 
@@ -74,7 +75,7 @@ fn months_of_any_year_are_read(rt: HostRuntime) {
         ("24-01", None),
     ];
     for (text, want) in rows {
-        assert_eq!(rt; read_civil_month(text.as_bytes()), want, "at {text}");
+        assert_eq!(rt; read_civil_month(text.as_bytes()), want);
     }
 }
 
@@ -101,12 +102,17 @@ fn amounts_have_one_spelling(rt: HostRuntime) {
         ("1.0a", None),
     ];
     for (text, want) in rows {
-        assert_eq!(rt; read_amount(text.as_bytes()), want, "at {text}");
+        assert_eq!(rt; read_amount(text.as_bytes()), want);
     }
 }
 
+/// The day that a text spells, written again.
+fn written_day(text: &[u8]) -> Option<[u8; 10]> {
+    Some(write_day(read_day(text).ok()?))
+}
+
 #[test]
-fn days_are_civil_dates_of_the_years_that_are_read(rt: HostRuntime) -> Result<(), Fail> {
+fn days_are_read_and_written(rt: HostRuntime) {
     for text in [
         b"2024-02-29",
         b"1990-01-01",
@@ -114,9 +120,12 @@ fn days_are_civil_dates_of_the_years_that_are_read(rt: HostRuntime) -> Result<()
         b"2000-02-29",
         b"2023-04-30",
     ] {
-        let day = read_day(text.as_slice())?;
-        assert_eq!(rt; write_day(day), *text);
+        assert_eq!(rt; written_day(text.as_slice()), Some(*text));
     }
+}
+
+#[test]
+fn days_are_civil_dates_of_the_years_that_are_read(rt: HostRuntime) {
     let rows = [
         ("2023-02-29", DayFault::NotADate),
         ("2100-02-29", DayFault::NotADate),
@@ -136,17 +145,24 @@ fn days_are_civil_dates_of_the_years_that_are_read(rt: HostRuntime) -> Result<()
         ("9999-12-31", DayFault::YearOutside),
     ];
     for (text, want) in rows {
-        assert_eq!(rt; read_day(text.as_bytes()), Err(want), "at {text}");
+        assert_eq!(rt; read_day(text.as_bytes()), Err(want));
     }
-    Ok(())
+}
+
+/// The month that a text spells, written again.
+fn written_month(text: &[u8]) -> Option<[u8; 7]> {
+    Some(write_month(read_month(text).ok()?))
 }
 
 #[test]
-fn months_are_those_of_the_years_that_are_read(rt: HostRuntime) -> Result<(), Fail> {
+fn months_are_read_and_written(rt: HostRuntime) {
     for text in [b"2024-02", b"1990-01", b"2099-12", b"2009-10"] {
-        let month = read_month(text.as_slice())?;
-        assert_eq!(rt; write_month(month), *text);
+        assert_eq!(rt; written_month(text.as_slice()), Some(*text));
     }
+}
+
+#[test]
+fn months_are_those_of_the_years_that_are_read(rt: HostRuntime) {
     let rows = [
         ("2024-13", DayFault::NotADate),
         ("2024-00", DayFault::NotADate),
@@ -158,9 +174,19 @@ fn months_are_those_of_the_years_that_are_read(rt: HostRuntime) -> Result<(), Fa
         ("0000-01", DayFault::YearOutside),
     ];
     for (text, want) in rows {
-        assert_eq!(rt; read_month(text.as_bytes()), Err(want), "at {text}");
+        assert_eq!(rt; read_month(text.as_bytes()), Err(want));
     }
-    Ok(())
+}
+
+/// Whether an amount is written so, behind what was there.
+fn is_pushed(alloc: Global, cents: i128, want: &str) -> Result<bool, AllocError> {
+    let mut out = b"upb ".to_vec(alloc)?;
+    match push_signed(&mut out, cents) {
+        Ok(()) => {}
+        Err(_) => return Ok(false),
+    }
+    let (label, amount) = out.as_slice().split_at(4);
+    Ok(label == b"upb ".as_slice() && amount == want.as_bytes())
 }
 
 #[test]
@@ -177,59 +203,70 @@ fn signed_amounts_have_as_many_digits_as_they_need(rt: HostRuntime) -> Result<()
         (i128::MIN, "-1701411834604692317316873037158841057.28"),
     ];
     for (cents, want) in rows {
-        let mut out = b"upb ".to_vec(rt.alloc())?;
-        push_signed(&mut out, cents)?;
-        let (label, amount) = out.as_slice().split_at(4);
-        assert_eq!(rt; label, b"upb ".as_slice());
-        assert_eq!(rt; amount, want.as_bytes(), "at {cents}");
+        assert!(rt; is_pushed(rt.alloc(), cents, want)?);
     }
     Ok(())
 }
 
 #[test]
+fn months_take_their_interest(rt: HostRuntime) {
+    for (upb, rate, interest) in [
+        (20_000_000_u32, 6_000, 100_000),
+        // 41.666.. is rounded up
+        (20_000_000, 250, 4_167),
+        // 999.0045 is rounded down
+        (19_980_090, 6_000, 99_900),
+        // half a cent is rounded up
+        (100, 6_000, 1),
+        (0, 25_000, 0),
+    ] {
+        assert_eq!(rt; month_interest(Cents::from(upb), rate), interest);
+    }
+}
+
+#[test]
 fn rates_take_their_part_of_an_amount(rt: HostRuntime) {
-    assert_eq!(rt; month_interest(20_000_000, 6_000), 100_000);
-    assert_eq!(rt;
-        month_interest(20_000_000, 250),
-        4_167,
-        "41.666.. is rounded up"
-    );
-    assert_eq!(rt;
-        month_interest(19_980_090, 6_000),
-        99_900,
-        "999.0045 is rounded down"
-    );
-    assert_eq!(rt; month_interest(100, 6_000), 1, "half a cent is rounded up");
-    assert_eq!(rt; month_interest(0, 25_000), 0);
     assert_eq!(rt; month_interest(10_000_000_000, 25_000), 208_333_333);
-    assert_eq!(rt; day_interest(20_000_000, 6_000, 30), 100_000);
-    assert_eq!(rt; day_interest(20_000_000, 6_000, 1), 3_333);
-    assert_eq!(rt; share_bp(119_910, 500), 5_996, "59.955 is rounded up");
-    assert_eq!(rt; share_bp(119_910, 0), 0);
-    assert_eq!(rt; share_bp(119_910, 10_000), 119_910);
+    let days = [
+        day_interest(20_000_000, 6_000, 30),
+        day_interest(20_000_000, 6_000, 1),
+    ];
+    assert_eq!(rt; days, [100_000, 3_333]);
+    // 59.955 is rounded up
+    let shares = [
+        share_bp(119_910, 500),
+        share_bp(119_910, 0),
+        share_bp(119_910, 10_000),
+    ];
+    assert_eq!(rt; shares, [5_996, 0, 119_910]);
+}
+
+/// How long a full list of that length is, and how long it may be, once there is room for more.
+fn room(
+    alloc: Global,
+    there: usize,
+    more: usize,
+    least: usize,
+) -> Result<(usize, usize), OutOfMemory> {
+    let mut items: Vec<u64> = Vec::new(alloc);
+    items.resize(there, 7)?;
+    items.shrink_to_fit();
+    make_room(&mut items, more, least)?;
+    Ok((items.len(), items.capacity()))
 }
 
 #[test]
 fn a_full_list_grows_by_an_eighth_of_it(rt: HostRuntime) -> Result<(), Fail> {
     // items there, items to come, the least step, and the room after
-    let rows: [(usize, usize, usize, usize); 6] = [
+    for (there, more, least, after) in [
         (0, 1, 0, 1),
         (0, 1, 2, 2),
         (0, 5, 2, 5),
         (80, 1, 2, 90),
         (80, 1, 12, 92),
         (80, 30, 12, 110),
-    ];
-    for (there, more, least, room) in rows {
-        let mut items: Vec<u64> = Vec::new(rt.alloc());
-        items.resize(there, 7)?;
-        items.shrink_to_fit();
-        make_room(&mut items, more, least)?;
-        assert_eq!(rt;
-            (items.len(), items.capacity()),
-            (there, room),
-            "at {there}, {more}"
-        );
+    ] {
+        assert_eq!(rt; room(rt.alloc(), there, more, least)?, (there, after));
     }
     Ok(())
 }
