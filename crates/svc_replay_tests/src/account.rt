@@ -20,7 +20,7 @@ fn account(alloc: Global) -> Result<LoanAccount, BookFault> {
 /// Whether the entry that was reversed is there, with what reversed it.
 fn keeps_what_was_reversed(account: &LoanAccount) -> bool {
     let entry = account.entry(4) == Some(payment(4, day(2024, 2, 1)));
-    entry && account.reversed_by(4) == Some(6) && account.reversed_by(5) == None
+    entry && account.reversed_by(4) == Some(6) && account.reversed_by(5).is_none()
 }
 
 #[test]
