@@ -4,8 +4,7 @@ use std::alloc::{AllocError, Global};
 use std::test::Fail;
 use svc_base::{
     Cents, DayFault, OutOfMemory, day_interest, make_room, month_interest, push_signed,
-    read_amount, read_civil_month, read_day, read_digits, read_month, read_number, share_bp,
-    split_pair, write_day, write_month,
+    read_amount, read_day, read_month, read_number, share_bp, write_day, write_month,
 };
 
 #[test]
@@ -30,52 +29,6 @@ fn numbers_have_one_spelling(rt: HostRuntime) {
     ];
     for (text, want) in rows {
         assert_eq!(rt; read_number(text.as_bytes()), want);
-    }
-}
-
-#[test]
-fn digits_are_read_up_to_64_bits(rt: HostRuntime) {
-    let rows: [(&str, Option<u64>); 7] = [
-        ("0", Some(0)),
-        ("18446744073709551615", Some(18_446_744_073_709_551_615)),
-        ("18446744073709551616", None),
-        ("99999999999999999999", None),
-        ("010", None),
-        ("1/", None),
-        ("1:", None),
-    ];
-    for (text, want) in rows {
-        assert_eq!(rt; read_digits(text.as_bytes()), want);
-    }
-}
-
-#[test]
-fn two_digits_stand_behind_a_mark(rt: HostRuntime) {
-    let rows: [(&str, Option<(&[u8], u32)>); 6] = [
-        ("12.34", Some((b"12", 34))),
-        (".05", Some((b"", 5))),
-        ("12:34", None),
-        ("12.3", None),
-        ("12.3a", None),
-        ("34", None),
-    ];
-    for (text, want) in rows {
-        assert_eq!(rt; split_pair(text.as_bytes(), b'.'), want);
-    }
-}
-
-#[test]
-fn months_of_any_year_are_read(rt: HostRuntime) {
-    let rows: [(&str, Option<u32>); 6] = [
-        ("0000-01", Some(0)),
-        ("1850-12", Some(22_211)),
-        ("9999-12", Some(119_999)),
-        ("2024-00", None),
-        ("2024-13", None),
-        ("24-01", None),
-    ];
-    for (text, want) in rows {
-        assert_eq!(rt; read_civil_month(text.as_bytes()), want);
     }
 }
 
