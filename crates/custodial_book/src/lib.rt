@@ -8,6 +8,3 @@ mod row;
 pub use book::{Book, worked_rows};
 pub use part::{Account, Part, Party};
 pub use row::{Row, Totals};
-
-#[cfg(test)]
-mod tests;

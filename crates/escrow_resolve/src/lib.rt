@@ -8,6 +8,3 @@ mod settlement;
 pub use analysis::{Parts, split};
 pub use settlement::settle;
 pub use svc_types::{EscrowPlan, PartPlan, Plan, PlanFault, PlanPart, Settled, SurplusPlan};
-
-#[cfg(test)]
-mod tests;

@@ -9,4 +9,3 @@ pub mod KeptLemmas
 pub mod StateLemmas
 pub mod WorkedLemmas
 pub mod SentLemmas
-pub mod ManyLemmas

@@ -7,4 +7,3 @@ pub mod Totals
 pub mod Conditions
 pub mod Kept
 pub mod Worked
-pub mod WorkedMany

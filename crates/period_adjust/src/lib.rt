@@ -20,6 +20,3 @@ pub use remit_types::MonthDue;
 pub use report::Report;
 pub use report_line::ReportLine;
 pub use seals::Seals;
-
-#[cfg(test)]
-mod tests;

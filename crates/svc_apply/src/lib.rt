@@ -16,6 +16,3 @@ pub use rows::{
     worked_payments, worked_payoffs,
 };
 pub use svc_types::Installment;
-
-#[cfg(test)]
-mod tests;

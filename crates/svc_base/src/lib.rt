@@ -25,6 +25,3 @@ pub use reading::{
 pub use room::make_room;
 pub use steps::Steps;
 pub use writing::{push_signed, write_day, write_month};
-
-#[cfg(test)]
-mod tests;

@@ -7,6 +7,3 @@ mod rows;
 
 pub use checked::Checked;
 pub use rows::worked_bound;
-
-#[cfg(test)]
-mod tests;

@@ -12,6 +12,3 @@ pub use building::{command_of, query_of};
 pub use field::{Field, FieldKind};
 pub use form::{Form, MAX_FIELDS, Question, form_named, question_named};
 pub use value::{Value, read_value};
-
-#[cfg(test)]
-mod tests;

@@ -1,6 +1,5 @@
 pub mod LeftLemmas
 pub mod AfterLemmas
-pub mod EntryLemmas
 pub mod ChosenLemmas
 pub mod KeptLemmas
 pub mod PlainLemmas

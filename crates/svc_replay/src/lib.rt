@@ -19,10 +19,3 @@ pub use laws::{agree, events_stand_in_order};
 pub use loan_books::LoanBooks;
 pub use plain::{Plain, facts_between};
 pub use rows::{worked_accounts, worked_costs, worked_totals};
-
-#[cfg(test)]
-mod books_tests;
-#[cfg(test)]
-mod money_tests;
-#[cfg(test)]
-mod tests;

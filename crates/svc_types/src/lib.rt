@@ -22,10 +22,3 @@ pub use replies::{Extra, Limit, Refusal, Reply};
 pub use requests::{Command, Query, Request, TypeChange, is_same};
 pub use terms::{RemitType, Terms};
 pub use words::{read_designation, read_kind, read_part, read_surplus, read_type};
-
-#[cfg(test)]
-mod order_tests;
-#[cfg(test)]
-mod request_tests;
-#[cfg(test)]
-mod tests;

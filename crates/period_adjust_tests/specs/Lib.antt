@@ -1,0 +1,2 @@
+pub mod WorkedMany
+pub mod Cash

@@ -1,4 +1,0 @@
-use Rattle.svc_checkpoint.proofs.tests.two_thousand_loans_with_400_months_each.Given as goal
-
-abbrev pub ghosts-deposits : goal.ghosts-deposits
-ghosts-deposits g a = record { name = a.blank.name; parts = a.blank.parts }

@@ -1,4 +1,0 @@
-use Rattle.svc_replay.proofs.books_tests.a_late_payment_counts_on_its_day.Given as goal
-
-abbrev pub ghosts-late_payment : goal.ghosts-late_payment
-ghosts-late_payment g a = record { name = a.blank.name; parts = a.blank.parts }
