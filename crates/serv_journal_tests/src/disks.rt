@@ -114,27 +114,30 @@ fn a_read_gives_the_bytes_at_its_place(rt: HostRuntime) -> Result<(), Fail> {
     Ok(())
 }
 
-/// Which of three syncs pass where the disk stops after so many calls, its length being read before.
-fn syncs_passed(alloc: Global, passing: u32) -> Result<[bool; 3], OutOfMemory> {
+/// The length of a disk that stops after so many calls more, and which of three syncs pass then.
+fn len_and_syncs(
+    alloc: Global,
+    passing: u32,
+) -> Result<(Result<u64, Failed>, [Result<(), Failed>; 3]), OutOfMemory> {
     let mut disk = disk_of(alloc, b"ab", &[])?;
-    let _ = disk.len();
+    let len = disk.len();
     disk.stop_after(passing);
     let first = disk.sync();
     let second = disk.sync();
     let third = disk.sync();
-    Ok([first.is_ok(), second.is_ok(), third.is_ok()])
+    Ok((len, [first, second, third]))
 }
 
 #[test]
 fn no_call_passes_after_a_stop(rt: HostRuntime) -> Result<(), Fail> {
-    for (passing, passed) in [
-        (0, [false, false, false]),
-        (1, [true, false, false]),
-        (2, [true, true, false]),
+    for (passing, syncs) in [
+        (0, [Err(Failed), Err(Failed), Err(Failed)]),
+        (1, [Ok(()), Err(Failed), Err(Failed)]),
+        (2, [Ok(()), Ok(()), Err(Failed)]),
     ] {
         assert!(rt;
-            syncs_passed(rt.alloc(), passing)? == passed,
-            "stopped after {passing}"
+            len_and_syncs(rt.alloc(), passing)? == (Ok(2), syncs),
+            "stop after {passing}"
         );
     }
     Ok(())

@@ -132,11 +132,12 @@ fn exchange<D: Doors>(
     rt: &HostRuntime,
     port: u16,
     doors: &mut D,
+    room: &mut [u8],
 ) -> Result<(Option<[usize; 2]>, Vec<u8>), Fail>
     requires { D.out doors.old ≡ 0 }
 {
     let mut client = client_of(rt, port)?;
-    let served = serve(doors, &mut [0; 8])?;
+    let served = serve(doors, room)?;
     let mut reply = Vec::new(rt.alloc());
     client.read_to_end(&mut reply)?;
     Ok((served, reply))
@@ -147,7 +148,9 @@ fn a_client_is_served_over_tcp(rt: HostRuntime) -> Result<(), Fail> {
     let port = free_port(&rt).ok_or("no port is free")?;
     let mut doors = TcpDoors::new(rt.clone()?, port);
     doors.listen()?;
-    let (served, reply) = exchange(&rt, port, &mut doors)?;
-    assert!(rt; served == Some([3, 0]) && reply.as_slice() == b"ok".as_slice());
+    let mut room = [0; 4];
+    let (served, reply) = exchange(&rt, port, &mut doors, &mut room)?;
+    assert!(rt; served == Some([3, 0]) && room == *b"ask\0");
+    assert_eq!(rt; reply.as_slice(), b"ok".as_slice());
     Ok(())
 }
