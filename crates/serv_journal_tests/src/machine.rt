@@ -4,7 +4,7 @@ ghost use Rattle.std.specs.Prelude.{◌≡◌};
 
 use crate::listening::serve;
 use serv_disk::{Disk, Doors, Failed, FileDisk, ReadSource, Sink, Source, TcpDoors, WriteSink};
-use std::alloc::AllocGlobal;
+use std::alloc::{AllocGlobal, Global};
 use std::io::{self, ErrorKind, Read, Write};
 use std::net::{Ipv4Addr, Net, OpenStream, Shutdown, SocketAddr, TcpListener, TcpStream};
 use std::path::PathBuf;
@@ -127,6 +127,13 @@ fn client_of<N: Net>(rt: &N, port: u16) -> Result<N::Stream, Fail> {
     Ok(client)
 }
 
+/// What is read to the end.
+fn heard<R: Read>(alloc: Global, client: &mut R) -> Result<Vec<u8>, Fail> {
+    let mut reply = Vec::new(alloc);
+    client.read_to_end(&mut reply)?;
+    Ok(reply)
+}
+
 /// Serves a client. What `serve` gives, and what the client hears.
 fn exchange<D: Doors>(
     rt: &HostRuntime,
@@ -138,9 +145,7 @@ fn exchange<D: Doors>(
 {
     let mut client = client_of(rt, port)?;
     let served = serve(doors, room)?;
-    let mut reply = Vec::new(rt.alloc());
-    client.read_to_end(&mut reply)?;
-    Ok((served, reply))
+    Ok((served, heard(rt.alloc(), &mut client)?))
 }
 
 #[test]
