@@ -20,8 +20,8 @@ fn is_refused(alloc: Global, refusal: &Refusal, text: &str) -> Result<bool, OutO
 }
 
 #[test]
-fn each_refusal_has_its_text(rt: HostRuntime) -> Result<(), Fail> {
-    let rows: [(Refusal, &str); 26] = [
+fn refusals_up_to_13_have_their_texts(rt: HostRuntime) -> Result<(), Fail> {
+    let rows: [(Refusal, &str); 13] = [
         (Refusal::KeyReused(3), "no 1 KeyReused 3\n"),
         (Refusal::Full(Limit::Types), "no 2 Full Types\n"),
         (
@@ -53,6 +53,16 @@ fn each_refusal_has_its_text(rt: HostRuntime) -> Result<(), Fail> {
             "no 12 PayoffShort 200300.40\n",
         ),
         (Refusal::NoSuchEntry, "no 13 NoSuchEntry\n"),
+    ];
+    for (refusal, text) in rows {
+        assert!(rt; is_refused(rt.alloc(), &refusal, text)?, "{text}");
+    }
+    Ok(())
+}
+
+#[test]
+fn refusals_from_14_on_have_their_texts(rt: HostRuntime) -> Result<(), Fail> {
+    let rows: [(Refusal, &str); 13] = [
         (Refusal::AlreadyReversed(14), "no 14 AlreadyReversed 14\n"),
         (Refusal::NotReversible, "no 15 NotReversible\n"),
         (Refusal::NoSuchLine, "no 16 NoSuchLine\n"),
