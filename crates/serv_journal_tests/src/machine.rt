@@ -113,10 +113,13 @@ fn a_file_keeps_what_was_written(rt: HostRuntime) -> Result<(), Fail> {
 
 /// A port of 127.0.0.1 at which nothing listens.
 fn free_port(rt: &impl Net) -> Option<u16> {
-    (47_100..47_900_u16).find(|port| {
-        let addr = SocketAddr::from((Ipv4Addr::LOCALHOST, *port));
-        TcpListener::bind(rt, addr).is_ok()
-    })
+    for port in 47_100..47_900_u16 {
+        let addr = SocketAddr::from((Ipv4Addr::LOCALHOST, port));
+        if TcpListener::bind(rt, addr).is_ok() {
+            return Some(port);
+        }
+    }
+    None
 }
 
 /// A client that sends `ask` and nothing more.
