@@ -26,6 +26,3 @@ pub use recon::{Reason, Recon};
 pub use reconciling::reconcile;
 pub use statement::{Statement, items};
 pub use text::recon_text;
-
-#[cfg(test)]
-mod tests;

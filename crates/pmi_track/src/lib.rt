@@ -24,6 +24,3 @@ pub use pmi_outcome::{Cause, Denial, PmiOutcome};
 pub use reading::insured;
 pub use schedule::scheduled;
 pub use serv_import::ImportFault;
-
-#[cfg(test)]
-mod tests;

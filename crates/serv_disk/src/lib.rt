@@ -31,6 +31,3 @@ pub use sink::{CalmSink, MemSink, Sink, WriteSink, write_whole};
 pub use source::{CalmSource, MemSource, ReadSource, Source, read_some};
 pub use tcp::{TcpDoors, TcpLink};
 pub use torn::Torn;
-
-#[cfg(test)]
-mod tests;

@@ -31,6 +31,3 @@ pub use response::respond;
 pub use route::{ContentLength, Route};
 pub use stage::Stage;
 pub use window::{HEAD_LIMIT, LINE_LIMIT};
-
-#[cfg(test)]
-mod tests;

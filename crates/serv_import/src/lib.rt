@@ -10,6 +10,3 @@ mod row;
 pub use fault::ImportFault;
 pub use file::batch;
 pub use row::RowRequest;
-
-#[cfg(test)]
-mod tests;

@@ -21,6 +21,3 @@ pub use format::Version;
 pub use frames::Frames;
 pub use journal::Journal;
 pub use new_journal::init;
-
-#[cfg(test)]
-mod tests;

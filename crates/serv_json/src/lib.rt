@@ -7,6 +7,3 @@ mod writing;
 
 pub use reading::{JsonFault, read_json};
 pub use writing::write_json;
-
-#[cfg(test)]
-mod tests;

@@ -21,6 +21,3 @@ pub use replies::{
     push_bad, push_found, push_full, push_parts, push_reply, write_bad, write_full, write_reply,
 };
 pub use writing::{push_line, write_line};
-
-#[cfg(test)]
-mod tests;

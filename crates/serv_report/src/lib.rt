@@ -13,6 +13,3 @@ pub use accounts::{custodial, push_custodial};
 pub use analyses::{escrow, push_escrow};
 pub use answers::{push_answer, write_answer};
 pub use reports::{activity, push_activity, push_trial, trial};
-
-#[cfg(test)]
-mod tests;

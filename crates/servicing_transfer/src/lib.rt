@@ -22,8 +22,3 @@ pub use confirming::confirm;
 pub use laws::{histories_split, parts_are_kept};
 pub use splitting::{Halves, split};
 pub use stating::statement;
-
-#[cfg(test)]
-mod statement_tests;
-#[cfg(test)]
-mod tests;

@@ -1,4 +1,0 @@
-use Rattle.bank_recon.proofs.tests.check.Given as goal
-
-abbrev pub ghosts-check_over : goal.ghosts-check_over
-ghosts-check_over g a = record { name = a.blank.name; parts = a.blank.parts }

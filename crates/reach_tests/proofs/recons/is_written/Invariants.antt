@@ -1,0 +1,4 @@
+use Rattle.reach_tests.proofs.recons.is_written.Given as goal
+
+abbrev pub ghosts-is_written_over : goal.ghosts-is_written_over
+ghosts-is_written_over a = record { name = a.blank.name; parts = a.blank.parts }

@@ -1,4 +1,0 @@
-mod bytes;
-mod disks;
-mod listening;
-mod machine;
