@@ -37,7 +37,7 @@ const LINES: &str = "3 pay 7 2024-02-01 1199.10
 
 /// What a loan answers of itself: its number, the balance now, what reversed entry 4, its escrow lines, changes of
 /// type, closed months, and cents that were remitted and are due.
-#[derive(Clone, Copy, Debug, PartialEq, Eq)]
+#[derive(Clone, Copy, PartialEq, Eq)]
 struct Answers {
     id: u32,
     upb: Cents,
@@ -84,7 +84,7 @@ const ANSWERS: Answers = Answers {
 
 /// The balance on 2024-01-28, interest and principal due for 2024-02, how many months are due from 2024-03 and
 /// 2024-04 on, and the remittance before boarding and at the end of 2024-03.
-#[derive(Clone, Copy, Debug, PartialEq, Eq)]
+#[derive(Clone, Copy, PartialEq, Eq)]
 struct Owed {
     earlier: Option<Cents>,
     february: Option<(Cents, Cents)>,
@@ -148,7 +148,7 @@ fn is_installment(entry: Option<Entry>, number: u32, day: &[u8]) -> bool {
 }
 
 /// All that is asked of the loan, whether all of it could happen, and whether its entries 3 and 9 are a payment.
-#[derive(Clone, Copy, Debug, PartialEq, Eq)]
+#[derive(Clone, Copy, PartialEq, Eq)]
 struct Asked {
     happened: [bool; 3],
     answers: Answers,
@@ -191,51 +191,52 @@ const ASKED: Asked = Asked {
 };
 
 #[test]
-fn a_loan_answers_for_itself(rt: HostRuntime) -> Result<(), Fail> {
-    assert_eq!(rt;
-        ask_of_new::<Plain, Brand>(rt.alloc(), Blank::new(1)),
-        Some(ASKED)
-    );
-    assert_eq!(rt;
-        ask_of_new::<Checked, Brand>(rt.alloc(), Blank::new(1)),
-        Some(ASKED)
-    );
-    Ok(())
+fn a_loan_answers_for_itself(rt: HostRuntime) {
+    let plain = ask_of_new::<Plain, Brand>(rt.alloc(), Blank::new(1));
+    assert!(rt; plain == Some(ASKED), "kept plainly");
+    let checked = ask_of_new::<Checked, Brand>(rt.alloc(), Blank::new(1));
+    assert!(rt; checked == Some(ASKED), "kept with checkpoints");
 }
 
-/// What an entry moved, and what is said of it once it is reversed, where it may be entered and reversed.
-fn moved_by_line<B: LoanBooks, L: Ledger>(
-    alloc: Global,
-    line: &str,
+/// Whether the entry of a loan moved that, and what is said of it once it is reversed.
+fn has_moved<B: LoanBooks, L: Ledger>(
+    loan: &mut Followed<B>,
+    entered: &Moved,
+    reversed: &Moved,
     steps: &mut Steps<L>,
-) -> Option<(Moved, Moved)> {
-    let mut loan: Followed<B> = board(alloc, DAY, BOARD, steps)?;
-    let entered = loan.follow_all(line, steps);
-    moved_and_reversed(&mut loan, entered, steps)
+) -> bool {
+    let before = loan.loan().moved() == *entered;
+    let followed = loan.follow_all("4 reverse 7 3", steps);
+    before && followed && loan.loan().moved() == *reversed
+}
+
+/// The same of the entry of a line.
+fn has_line_moved<B: LoanBooks, L: Ledger>(
+    alloc: Global,
+    (line, entered, reversed): &(&str, Moved, Moved),
+    steps: &mut Steps<L>,
+) -> bool {
+    match board::<B, L>(alloc, DAY, BOARD, steps) {
+        Some(mut loan) => {
+            let followed = loan.follow_all(line, steps);
+            followed && has_moved(&mut loan, entered, reversed, steps)
+        }
+        None => false,
+    }
 }
 
 /// The same of an analysis that refunds 1,000.00.
-fn moved_by_analysis<B: LoanBooks, L: Ledger>(
+fn has_analysis_moved<B: LoanBooks, L: Ledger>(
     alloc: Global,
+    day: Day,
     steps: &mut Steps<L>,
-) -> Option<(Moved, Moved)> {
-    let mut loan: Followed<B> = board(alloc, DAY, BOARD, steps)?;
-    let day = read_day(b"2024-02-01").ok()?;
-    let entered = loan.enter(3, day, analysis(), steps);
-    moved_and_reversed(&mut loan, entered, steps)
-}
-
-fn moved_and_reversed<B: LoanBooks, L: Ledger>(
-    loan: &mut Followed<B>,
-    entered: bool,
-    steps: &mut Steps<L>,
-) -> Option<(Moved, Moved)> {
-    let moved = loan.loan().moved();
-    let reversed = loan.follow_all("4 reverse 7 3", steps);
-    if entered && reversed {
-        Some((moved, loan.loan().moved()))
-    } else {
-        None
+) -> bool {
+    match board::<B, L>(alloc, DAY, BOARD, steps) {
+        Some(mut loan) => {
+            let followed = loan.enter(3, day, analysis(), steps);
+            followed && has_moved(&mut loan, &REFUNDED, &NOTHING, steps)
+        }
+        None => false,
     }
 }
 
@@ -312,26 +313,33 @@ const MOVED: [(&str, Moved, Moved); 7] = [
     ("3 waive 7 1000.00", NOTHING, NOTHING),
 ];
 
-/// The place of the first line that moved otherwise; the place after the last is that of an analysis.
-fn differing<B: LoanBooks, L: Ledger>(alloc: Global, blank: Blank) -> Option<usize>
+/// The place of the last line that moved otherwise, and whether an analysis moved what it should.
+fn moved_otherwise<B: LoanBooks, L: Ledger>(
+    alloc: Global,
+    blank: Blank,
+    day: Day,
+) -> (Option<usize>, bool)
     requires name { blank.name ≡ L.name }
     requires parts { blank.parts ≡ L.parts }
     requires some { 0 < L.parts }
 {
     let mut steps = Steps::<L>::new(blank);
-    for (place, (line, entered, reversed)) in MOVED.iter().enumerate() {
-        if moved_by_line::<B, L>(alloc, line, &mut steps) != Some((*entered, *reversed)) {
-            return Some(place);
+    let mut otherwise = None;
+    for (place, row) in MOVED.iter().enumerate() {
+        if !has_line_moved::<B, L>(alloc, row, &mut steps) {
+            otherwise = Some(place);
         }
     }
-    if moved_by_analysis::<B, L>(alloc, &mut steps) != Some((REFUNDED, NOTHING)) {
-        return Some(MOVED.len());
-    }
-    None
+    (
+        otherwise,
+        has_analysis_moved::<B, L>(alloc, day, &mut steps),
+    )
 }
 
 #[test]
 fn what_entries_brought_in_and_paid_out(rt: HostRuntime) -> Result<(), Fail> {
-    assert_eq!(rt; differing::<Plain, Brand>(rt.alloc(), Blank::new(1)), None);
+    let day = read_day(b"2024-02-01")?;
+    let moved = moved_otherwise::<Plain, Brand>(rt.alloc(), Blank::new(1), day);
+    assert_eq!(rt; moved, (None, true));
     Ok(())
 }

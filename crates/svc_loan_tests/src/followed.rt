@@ -1,10 +1,12 @@
 //! A loan that follows commands, which are told by their lines. What a call of the loan requires is tested first.
 
-ghost use Rattle.std.specs.Prelude.{◌≡◌, true, IsTrue, IfSome};
+ghost use Rattle.std.specs.Prelude.{◌≡◌, ◌≤◌, ◌<◌, true, length, IsTrue, IfSome};
 ghost use Rattle.std.specs.List.{list_any};
 ghost use Rattle.svc_base.specs.Calendar.{IsReadDay};
 ghost use Rattle.svc_types.specs.Requests.{IsCommand};
+ghost use Rattle.svc_spec.specs.Accounts.{MayPost};
 ghost use Rattle.svc_spec.specs.Books.{IsAct};
+ghost use Rattle.svc_replay.specs.Faults.{most_entries};
 ghost use Rattle.escrow_lines.specs.BillLists.{has_id};
 
 use escrow_lines::Line;
@@ -99,6 +101,17 @@ impl<B: LoanBooks> Followed<B> {
         &self.loan
     }
 
+    /// Adds an entry that may follow, for which there is room.
+    fn post<L: Ledger>(&mut self, entry: &Entry, steps: &mut Steps<L>)
+        requires entry { MayPost self.old.held.account entry.now }
+        requires number { entry.now.number < 1_000_000 }
+        requires few { length self.old.held.account.entries < most_entries }
+        requires room { 1 ≤ self.old.room.books.entries }
+    {
+        self.loan.post(entry, steps);
+        self.next = entry.number + 1;
+    }
+
     /// Adds an entry of a number; whether it may be added.
     pub(crate) fn enter<L: Ledger>(
         &mut self,
@@ -118,8 +131,7 @@ impl<B: LoanBooks> Followed<B> {
         if self.loan.reserve(day).is_err() {
             return false;
         }
-        self.loan.post(&entry, steps);
-        self.next = number + 1;
+        self.post(&entry, steps);
         true
     }
 

@@ -1,5 +1,5 @@
 //! Tests of one loan and of all loans: what is due for closed months after late payments, reversals and changes of
-//! type, by rows that were worked by hand, and each call once with ample memory.
+//! type, by rows that were worked by hand, and what a loan answers with ample memory.
 #![tactic(auto)]
 
 #[cfg(test)]
@@ -10,7 +10,5 @@ mod calls;
 mod dues;
 #[cfg(test)]
 mod followed;
-#[cfg(test)]
-mod one_of_all;
 #[cfg(test)]
 mod types;
