@@ -56,11 +56,6 @@ pub(crate) const TURNS: Turns = Turns {
     text: "",
 };
 
-/// A number that rises by a step each turn.
-fn risen(from: u32, step: u32, turn: u32) -> u32 {
-    from.saturating_add(turn.saturating_mul(step))
-}
-
 /// The loan whose turn it is.
 fn loan_in(part: &Turns, turn: u32) -> u32 {
     part.loan.saturating_add(turn % part.loans.max(1))
@@ -71,10 +66,10 @@ fn month_in(part: &Turns, turn: u32) -> u32 {
     part.month.saturating_add(turn / part.per_month.max(1))
 }
 
-/// What the marks stand for in a turn.
-fn marks_in(part: &Turns, turn: u32) -> Marks {
+/// What the marks stand for in a turn, whose first command has a number.
+fn marks_in(part: &Turns, turn: u32, number: u32) -> Marks {
     Marks {
-        number: risen(part.number, part.commands, turn),
+        number,
         loan: loan_in(part, turn),
         month: month_in(part, turn),
     }
@@ -191,13 +186,15 @@ fn play_part<B: LoanBooks, L: Ledger>(
 ) -> Result<(), OutOfMemory> {
     match part {
         Part::Once(text) => {
-            let marks = marks_in(&TURNS, 0);
+            let marks = marks_in(&TURNS, 0, 1);
             play(alloc, core, text, &marks, steps, differing)
         }
         Part::Each(part) => {
+            let mut number = part.number;
             for turn in 0..part.turns {
-                let marks = marks_in(part, turn);
+                let marks = marks_in(part, turn, number);
                 play(alloc, core, part.text, &marks, steps, differing)?;
+                number = number.saturating_add(part.commands);
             }
             Ok(())
         }

@@ -287,7 +287,7 @@ fn the_first_rule_that_holds_refuses(rt: HostRuntime) -> Result<(), Fail> {
     over_both(&rt, rt.alloc(), &QUESTIONS_REFUSED)
 }
 
-/// Escrow lines that are wrong, and the seventeenth.
+/// Escrow lines that are wrong, and the seventeenth; one that is taken away leaves its place.
 const LINES_REFUSED: [Part; 4] = [
     Once(BOARDED),
     Once(
@@ -322,6 +322,12 @@ no 2 Full Lines
 no 17 BadLine 1 Amount
 > k19 line 1 15 tax 8 6 2.00
 ok 19
+> k20 drop 1 0
+ok 20
+> k21 line 1 16 tax 7 12 1.00
+ok 21
+> k22 line 1 17 tax 7 12 1.00
+no 2 Full Lines
 ",
     ),
 ];
