@@ -37,6 +37,3 @@ pub use laws::replies_are_known;
 pub use posted::Posted;
 pub use servicing::Core;
 pub use verdict::Verdict;
-
-#[cfg(test)]
-mod tests;

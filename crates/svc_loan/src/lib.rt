@@ -13,10 +13,3 @@ pub use loan::Loan;
 pub use loans::Loans;
 pub use moved::Moved;
 pub use types::Types;
-
-#[cfg(test)]
-mod calls_tests;
-#[cfg(test)]
-mod loans_tests;
-#[cfg(test)]
-mod tests;
