@@ -3,15 +3,29 @@
 ghost use Rattle.std.specs.Prelude.{◌≡◌, ◌<◌, IfOk};
 
 use crate::serving::{DAY, DAY_SAID, link_of};
-use serv_disk::{CalmDoors, CalmLink, Doors, MemDoors, MemLink};
+use serv_disk::{CalmDoors, CalmLink, Disk, Doors, MemDoors, MemLink};
 use serv_links::{Service, serve_doors, write_summary};
-use serv_machine::Nowhere;
+use serv_machine::{Machine, Nowhere};
 use std::alloc::Global;
 use std::marker::Brand;
 use std::sync::ledger::{Blank, Ledger};
 use svc_base::{OutOfMemory, Steps};
 use svc_checkpoint::Checked;
 use svc_core::Core;
+
+/// Serves up to 10 links over a machine.
+fn serve_by<D: Disk, M: Machine<D>, G: Doors, L: Ledger>(
+    alloc: Global,
+    machine: &mut M,
+    disk: &mut D,
+    doors: &mut G,
+    steps: &mut Steps<L>,
+) -> Service
+    requires ready { M.ready machine.old disk.old }
+    requires out { G.out doors.old ≡ 0 }
+{
+    serve_doors(alloc, machine, disk, doors, 10, steps)
+}
 
 fn serve_counted<L: Ledger, G: Doors>(
     alloc: Global,
@@ -25,7 +39,7 @@ fn serve_counted<L: Ledger, G: Doors>(
     requires out { G.out doors.old ≡ 0 }
 {
     let mut steps = Steps::<L>::new(blank);
-    serve_doors(alloc, books, &mut Nowhere, doors, 10, &mut steps)
+    serve_by(alloc, books, &mut Nowhere, doors, &mut steps)
 }
 
 /// Serves up to 10 links over books in memory that begin with nothing.

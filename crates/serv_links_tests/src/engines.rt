@@ -63,7 +63,7 @@ pub(crate) fn engine_of<D: Disk, L: Ledger>(
 }
 
 /// The number of its commands, where it can take further ones.
-fn count_of(engine: Engine<Checked>) -> Result<u32, EngineFault> {
+fn count_of(engine: &Engine<Checked>) -> Result<u32, EngineFault> {
     if engine.is_spent() {
         return Err(EngineFault::DiskFault);
     }
@@ -81,7 +81,7 @@ fn opened_counted<L: Ledger>(
 {
     let mut steps = Steps::<L>::new(blank);
     match engine_of(alloc, disk, 1_000_000, &mut steps) {
-        Ok(engine) => count_of(engine),
+        Ok(engine) => count_of(&engine),
         Err(fault) => Err(fault),
     }
 }

@@ -8,7 +8,7 @@ use crate::other_links::Pieces;
 use serv_disk::{Disk, Link, MemDisk, MemLink};
 use serv_engine::Engine;
 use serv_links::{LinkEnd, serve_link};
-use serv_machine::Nowhere;
+use serv_machine::{Machine, Nowhere};
 use std::alloc::Global;
 use std::marker::Brand;
 use std::sync::ledger::{Blank, Ledger};
@@ -24,6 +24,19 @@ pub(crate) const DAY_SAID: &str =
     "HTTP/1.1 200 OK\r\nContent-Length: 35\r\nContent-Type: application/json\r\n\r\n\
     {\"code\":0,\"number\":1,\"text\":\"ok 1\"}";
 
+/// Serves a link over a machine.
+fn serve_by<D: Disk, M: Machine<D>, C: Link, L: Ledger>(
+    alloc: Global,
+    machine: &mut M,
+    disk: &mut D,
+    link: &mut C,
+    steps: &mut Steps<L>,
+) -> LinkEnd
+    requires { M.ready machine.old disk.old }
+{
+    serve_link(alloc, machine, disk, link, steps)
+}
+
 fn serve_counted<L: Ledger, C: Link>(
     alloc: Global,
     blank: Blank,
@@ -35,7 +48,7 @@ fn serve_counted<L: Ledger, C: Link>(
     requires some { 0 < L.parts }
 {
     let mut steps = Steps::<L>::new(blank);
-    serve_link(alloc, books, &mut Nowhere, link, &mut steps)
+    serve_by(alloc, books, &mut Nowhere, link, &mut steps)
 }
 
 /// Serves a link over books in memory.
@@ -56,7 +69,7 @@ fn serve_by_engine<D: Disk, C: Link, L: Ledger>(
     requires durable { IsDurable (D.images disk.old) engine.old }
 {
     engine.version_holds();
-    serve_link(alloc, engine, disk, link, steps)
+    serve_by(alloc, engine, disk, link, steps)
 }
 
 fn serve_on_disk_counted<L: Ledger>(
