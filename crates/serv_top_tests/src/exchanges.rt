@@ -12,40 +12,44 @@ fn push_line(bytes: &mut Vec<u8>, line: &str) -> Result<(), AllocError> {
     Ok(())
 }
 
-/// The lines of the tables.
-pub(crate) fn lines_of(alloc: Global, tables: &[&[Exchange]]) -> Result<Vec<u8>, AllocError> {
+/// The lines of the texts.
+pub(crate) fn lines_of(alloc: Global, texts: &[&str]) -> Result<Vec<u8>, AllocError> {
     let mut bytes = Vec::new(alloc);
-    for table in tables {
-        for (line, _) in table.iter() {
-            push_line(&mut bytes, line)?;
+    for text in texts {
+        for line in text.lines() {
+            if let Some(line) = line.strip_prefix("> ") {
+                push_line(&mut bytes, line)?;
+            }
         }
     }
     Ok(bytes)
 }
 
 /// The replies to them.
-pub(crate) fn replies_to(alloc: Global, tables: &[&[Exchange]]) -> Result<Vec<u8>, AllocError> {
+pub(crate) fn replies_to(alloc: Global, texts: &[&str]) -> Result<Vec<u8>, AllocError> {
     let mut bytes = Vec::new(alloc);
-    for table in tables {
-        for (_, reply) in table.iter() {
-            push_line(&mut bytes, reply)?;
+    for text in texts {
+        for line in text.lines() {
+            if !line.starts_with("> ") {
+                push_line(&mut bytes, line)?;
+            }
         }
     }
     Ok(bytes)
 }
 
-/// Whether the lines of the tables have their replies by this word, from an empty journal.
-fn answers(alloc: Global, word: &str, tables: &[&[Exchange]]) -> Result<bool, OutOfMemory> {
-    let lines = lines_of(alloc, tables)?;
+/// Whether the lines of the texts have their replies by this word, from an empty journal.
+fn answers(alloc: Global, word: &str, texts: &[&str]) -> Result<bool, OutOfMemory> {
+    let lines = lines_of(alloc, texts)?;
     let end = ending_of(alloc, &over(&["j", word], NEW_JOURNAL, &lines))?;
-    let replies = replies_to(alloc, tables)?;
+    let replies = replies_to(alloc, texts)?;
     Ok(end.is(Status::Done, &replies))
 }
 
 /// Whether they have them in memory and over a journal.
-fn is_answered(alloc: Global, tables: &[&[Exchange]]) -> bool {
-    matches!(answers(alloc, "session", tables), Ok(true))
-        && matches!(answers(alloc, "apply", tables), Ok(true))
+fn is_answered(alloc: Global, texts: &[&str]) -> bool {
+    matches!(answers(alloc, "session", texts), Ok(true))
+        && matches!(answers(alloc, "apply", texts), Ok(true))
 }
 
 #[test]

@@ -17,11 +17,11 @@ struct Course {
 }
 
 fn course_of(alloc: Global) -> Result<Course, OutOfMemory> {
-    let tables = [TAKEN_ON, FIRST_PAYMENT, CLOSED, CLOSED_LATER];
-    let lines = lines_of(alloc, &tables)?;
+    let texts = [TAKEN_ON, FIRST_PAYMENT, CLOSED, CLOSED_LATER];
+    let lines = lines_of(alloc, &texts)?;
     let mut disk = disk_of(alloc, NEW_JOURNAL, &[])?;
     let end = applied(alloc, &lines, &mut disk)?;
-    let replies = replies_to(alloc, &tables)?;
+    let replies = replies_to(alloc, &texts)?;
     Ok(Course {
         lines,
         replies,
