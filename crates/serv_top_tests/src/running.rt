@@ -2,7 +2,7 @@
 
 ghost use Rattle.std.specs.Prelude.{◌≡◌, ◌<◌};
 
-use serv_disk::{CalmDoors, Doors, MemDisk, MemSink, MemSource};
+use serv_disk::{CalmDoors, Disk, Doors, MemDisk, MemSink, MemSource, Sink, Source};
 use serv_top::{Status, run};
 use std::alloc::{AllocError, Global};
 use std::marker::Brand;
@@ -63,13 +63,13 @@ impl Ending {
 }
 
 /// Runs the words with a counter of steps.
-fn run_counted<L: Ledger, G: Doors>(
+fn run_counted<L: Ledger, S: Source, K: Sink, D: Disk, G: Doors>(
     alloc: Global,
     blank: Blank,
     given: &Given,
-    src: &mut MemSource,
-    snk: &mut MemSink,
-    disk: &mut MemDisk,
+    src: &mut S,
+    snk: &mut K,
+    disk: &mut D,
     doors: &mut G,
 ) -> Status
     requires name { blank.name ≡ L.name }
@@ -92,7 +92,15 @@ fn run_in_memory<G: Doors>(
 ) -> Status
     requires out { G.out doors.old ≡ 0 }
 {
-    run_counted::<Brand, G>(alloc, Blank::new(1), given, src, snk, disk, doors)
+    run_counted::<Brand, MemSource, MemSink, MemDisk, G>(
+        alloc,
+        Blank::new(1),
+        given,
+        src,
+        snk,
+        disk,
+        doors,
+    )
 }
 
 fn source_of(alloc: Global, given: &Given) -> Result<MemSource, AllocError> {
