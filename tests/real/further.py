@@ -44,6 +44,7 @@ def told(path, servicer, *words, given=b""):
 def usage(room):
     for it in (["transfer", "2", "1"], ["remain", "2", "1"], ["transfer", "1"], ["transfer"], ["remain", "01", "2"],
                ["transfer", "0", "4294967296"], ["transfer", "-1", "2"], ["reconcile", "0", "4"], ["reconcile", "5", "4"],
+               ["remain", "2", "1"], ["remain", "1", ""], ["remain", "1", "2", "3"], ["reconcile"],
                ["reconcile", "1"], ["statement", "1"], ["confirm", "x"], ["pmi", "x"], ["pmi-drop"], ["pmi_drops"]):
         status, out, log = run("j", *it, cwd=room)
         same((2, b"", b"status 2 Usage"), (status, out, named(log)), it)

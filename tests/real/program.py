@@ -20,6 +20,7 @@ import threading
 import time
 
 from harness import TOP, Skipped, case, named, read, run, run_all, same, start, write
+import forty
 import histories
 import reckon
 
@@ -52,6 +53,7 @@ def words(room):
     for it in ([], [""], ["j"], ["j", "frob"], ["", "init"], ["j", "init", "x"], ["j", "report"],
                ["j", "report", "2024-1"], ["j", "report", "2100-01"], ["j", "drill", "0", "7"],
                ["j", "drill", "501", "7"], ["j", "drill", "01", "7"], ["j", "drill", "1", "1000000"],
+               ["j", "drill", "40", "07"], ["", "transfer", "1", "2"],
                ["--help"], ["j", "--version"], ["j", "Apply"], ["j", "apply "]):
         status, out, log = run(*it, given=MONTH, cwd=room)
         same((2, b"", b"status 2 Usage"), (status, out, named(log)), it)
@@ -97,9 +99,8 @@ def inputs(room):
     same((0, b"", b""), run("j", "session"), "nothing")
 
 
-@case("apply: a conversation, each reply before the next line is sent")
-def conversation(room):
-    it = start(init(room), "apply")
+def converse(it):
+    """Sends each line only once the reply to the one before it has come."""
     replies = io.BytesIO(MONTH_TEXT)
     for line in MONTH.splitlines(keepends=True):
         it.stdin.write(line)
@@ -112,6 +113,12 @@ def conversation(room):
             same(reply, it.stdout.readline(), line)
     it.stdin.close()
     same(0, it.wait(timeout=60))
+
+
+@case("session and apply: a conversation, each reply before the next line is sent")
+def conversation(room):
+    converse(start("j", "session"))
+    converse(start(init(room), "apply"))
 
 
 @case("apply: the same bytes as session; sent again the same replies and no byte more in the journal")
@@ -134,6 +141,29 @@ def bad_lines(room):
     same((0, b"\n".join(wanted) + b"\n", b""), run("j", "session", given=b"\n".join(given) + b"\n"))
 
 
+FILLED = [("", "k", 0), ("k1 ", "d", 3), ("k1 waive ", "9", 9), ("k1 waive 1 ", "9", 11), ("k1 day ", "2", 7),
+          ("k1 close ", "2", 9), ("k1 retype 1 2024-03 ", "A", 20), ("k1 line 1 1 ", "t", 12),
+          ("k1 analyse 1 ", "r", 13), ("k1 analyse 1 - spread:", "1", 15), ("k1 pay 1 2024-02-01 1.00 ", "p", 25),
+          ("k1 day 2024-02-01", " ", 18), ("? ", "b", 2), ("? rows ", "0", 7)]
+
+
+@case("lines of 512 bytes are read to their ends, those of 513 are too long, wherever a word is")
+def long_lines(room):
+    lines = [begin.ljust(size, fill) for begin, fill, _ in FILLED for size in (512, 513)]
+    places = [place for _, _, at in FILLED for place in (at, 512)]
+    wanted = "".join(f"bad {place}\n" for place in places).encode()
+    same((0, wanted, b""), run("j", "session", given="".join(line + "\n" for line in lines).encode()))
+
+
+@case("session and apply: 5,000 commands")
+def many_commands(room):
+    board = "board 1 2023-12-15 200000.00 6000 250 1199.10 360 2024-02 15 500 2 0.00 SS"
+    words = ["day 2024-02-01", board, *["line 1 1 tax 7 12 100.00"] * 4_998]
+    lines, replies = forty.texts([forty.command(number, it) for number, it in enumerate(words, 1)])
+    same((0, replies, b""), run("j", "session", given=lines))
+    same((0, replies, b""), run(init(room), "apply", given=lines))
+
+
 @case("input of 67,108,864 bytes: status 11; one byte less is read")
 def too_much(room):
     line = b"k1 day 2024-02-01\n"
@@ -141,6 +171,7 @@ def too_much(room):
     given = line + b"x" * (size - len(line))
     same((11, b"ok 1\n", b"status 11 TooMuch 67108864\n"), run("j", "session", given=given))
     same((0, b"ok 1\nbad 512\n", b""), run("j", "session", given=given[:-1]))
+    same((11, b"", b"status 11 TooMuch 67108864\n"), run("j", "session", given=b"x" * size + b"y"))
 
 
 # Outputs that break
@@ -242,6 +273,16 @@ def bad_rows(room):
     same((0, wanted.encode(), b""), run(path, "import", given="\n".join([HEADER, *rows]).encode()))
 
 
+@case("import: a quote that is not closed takes in what follows, to the end of the file")
+def open_quotes(room):
+    rows = "f1,pay,1,2024-02-01,1.00,\nf2,pay,1,2024-02-01,1.00,\n"
+    path = init(room)
+    for data, wanted in ((f'{HEADER}\n"{rows}', b"bad row 2 column 7\n"), (f'"{HEADER}\n{rows}', b"bad row 1 column 1\n"),
+                         (HEADER + "\n", b""), (f"{HEADER}\n{rows}", b"no 5 NoSuchLoan\n" * 2)):
+        same((0, wanted, b""), run(path, "import", given=data.encode()), data)
+    same(9, len(read(path)))
+
+
 @case("import: 300 rows twice; the second time each has its first reply")
 def many_rows(room):
     path = boarded(room)
@@ -274,6 +315,91 @@ def cut_journal(room):
         same((0, b"ok 1\n", b""), run(path, "apply", given=b"k9 day 2024-02-02\n"), "the empty history")
     write(whole + b"any tail \1\1\1", path)
     same((0, b"ok 1\nok 2\n", b""), run(path, "apply", given=b"k1 day 2024-02-01\nk2 day 2024-02-02\n"), "a tail")
+
+
+ONE_LINE = bytes.fromhex("4d5352564a303032" "01" "00000001" "0011") + b"k1 day 2024-02-01" + b"\0"
+OLD_LINE = bytes.fromhex("4d5352564a303031" "01" "0011") + b"k1 day 2024-02-01" + b"\0"
+
+
+def refused(status):
+    """What the program comes to where it does not open a journal: at a place, or 0 where it is none."""
+    return (8, b"", b"status 8 Damaged %d\n" % status) if status else (6, b"", b"status 6 NotJournal\n")
+
+
+@case("journal: one of version 1 cut at each place; made of nine bytes at most")
+def cut_old_journal(room):
+    path = os.path.join(room, "j")
+    for length in range(29):
+        write(OLD_LINE[:length], path)
+        same(refused(0 if length < 8 else 8 if length < 28 else 28), run(path, "apply"), length)
+        same(OLD_LINE[:length], read(path), length)
+    for length in range(33):
+        write(ONE_LINE[:length], path)
+        is_made = length <= 9
+        same((0, b"", b"") if is_made else (7, b"", b"status 7 AlreadyThere\n"), run(path, "init"), length)
+        same(b"MSRVJ002\0" if is_made else ONE_LINE[:length], read(path), length)
+
+
+def opened_with(at, value):
+    """How the journal of one line is opened with a byte of it changed to 0, 1 or 255: damaged at a place, or 0, where
+    it is none; nothing where it opens."""
+    opens = {8: True, 9: value == 0, 10: value == 0, 11: value == 0, 13: value == 0, 12: value == 1, 32: value != 1}
+    if opens.get(at, False):
+        return None
+    return 0 if at < 8 else 32 if at == 32 else 8
+
+
+@case("journal: any byte of the 33 changed to 0, 1 or 255")
+def changed_journal(room):
+    path = os.path.join(room, "j")
+    for at in range(33):
+        for value in (0, 1, 255):
+            given = ONE_LINE[:at] + bytes([value]) + ONE_LINE[at + 1:]
+            write(given, path)
+            got, place = run(path, "apply", given=b"k1 day 2024-02-01\n"), opened_with(at, value)
+            if place is None:
+                same((0, b"ok 1\n", b""), got, (at, value))
+                given = ONE_LINE
+            else:
+                same(refused(place), got, (at, value))
+            if (at, value) == (14, 1):  # a length of 1 ends the record at a byte that is no open gate: it is made 0
+                given = given[:16] + b"\0" + given[17:]
+            same(given, read(path), (at, value))
+
+
+# The front of a journal behind which 300 random bytes stand, the greatest of them, and the place of the damage for
+# each of 16 seeds; or 0, where the journal opens.
+RANDOM = [
+    (b"MSRVJ002", 255, [0] * 16), (b"MSRVJ001", 255, [0] * 16),
+    (ONE_LINE[:13], 255, [8] * 16), (OLD_LINE[:9], 255, [8] * 16),
+    (ONE_LINE[:-1], 255, [0] * 16), (OLD_LINE[:-1], 255, [0] * 16),
+    (b"MSRVJ002", 1, [8, 0, 0, 8, 0, 0, 8, 0, 0, 8, 8, 0, 272, 8, 0, 8]),
+    (b"MSRVJ001", 1, [271, 0, 0, 268, 0, 0, 8, 0, 0, 8, 8, 0, 8, 267, 0, 268]),
+    (ONE_LINE[:13], 1, [8, 8, 8, 8, 8, 16, 8, 16, 8, 272, 271, 8, 8, 272, 8, 272]),
+    (OLD_LINE[:9], 1, [8, 8, 8, 8, 8, 8, 8, 8, 8, 8, 267, 8, 8, 268, 8, 268]),
+    (ONE_LINE[:-1], 1, [32, 0, 0, 32, 0, 0, 32, 0, 0, 32, 32, 0, 32, 32, 0, 32]),
+    (OLD_LINE[:-1], 1, [291, 0, 0, 288, 0, 0, 28, 0, 0, 28, 28, 0, 28, 287, 0, 288]),
+]
+
+
+def drawn(front, seed, greatest):
+    """The front, and behind it the low bits of numbers that are drawn as those of a generated year."""
+    state, drawn_bytes = seed, bytearray(front)
+    for _ in range(300):
+        state = (state * 6_364_136_223_846_793_005 + 1_442_695_040_888_963_407) % 2**64
+        drawn_bytes.append(state >> 33 & 255 & greatest)
+    return bytes(drawn_bytes)
+
+
+@case("journal: 192 fronts with random bytes behind them are damaged at their place, or open, and again")
+def random_tails(room):
+    path, line = os.path.join(room, "j"), b"k1 day 2024-02-01\n"
+    for front, greatest, places in RANDOM:
+        for seed, place in enumerate(places):
+            write(drawn(front, seed, greatest), path)
+            wanted = refused(place) if place else (0, b"ok 1\n", b"")
+            same(wanted, run(path, "apply", given=line), (front, seed))
+            same(wanted, run(path, "apply", given=line), (front, seed))
 
 
 @case("journal: one of version 1 is upgraded where it stands")
@@ -430,6 +556,34 @@ def full_disk(room):
         applied.check_after_crash(path, out, "after the full disk")
     finally:
         subprocess.run(["umount", disk], check=False)
+
+
+# A month of forty loans
+
+@case("a month of forty loans by lines, and by files that come twice: the same replies and journal")
+def forty_loans(room):
+    lines, replies = forty.texts(forty.by_lines())
+    same((0, replies, b""), run("j", "session", given=lines), "session")
+    one, other = init(room, "lines.journal"), init(room, "files.journal")
+    same((0, replies, b""), run(one, "apply", given=lines), "apply")
+    files = [("import", *forty.file_of(it)) for it in (forty.FEBRUARY, forty.MARCH)]
+    parts = [("apply", *forty.texts(it)) for it in (forty.boarding(), forty.IN_MARCH, forty.end())]
+    for word, given, wanted in (parts[0], files[0], files[0], parts[1], files[1], files[1], parts[2]):
+        same((0, wanted, b""), run(other, word, given=given), word)
+    same(read(one), read(other), "the journals")
+
+
+@case("a loan of forty, one of each type, is handed over: reports and cash of both parts add up")
+def one_of_forty(room):
+    whole = init(room)
+    run(whole, "apply", given=forty.texts(forty.by_lines())[0])
+    for id, sums in forty.HANDED_OVER.items():
+        for word, (total, advanced) in zip(("transfer", "remain"), sums):
+            part = init(room, f"{word}.{id}")
+            run(part, "apply", given=run(whole, word, str(id), str(id))[1])
+            report = run(part, "report", "2024-03")[1].decode()
+            same(["total " + total, "end"], report.splitlines()[-2:], (word, id))
+            same((0, (forty.CUSTODY.format(advanced) + "\n").encode(), b""), run(part, "custodial"), (word, id))
 
 
 # Histories

@@ -19,6 +19,7 @@ import time
 
 from harness import TOP, case, named, read, run, run_all, same, start, write
 import bodies
+import forty
 import reckon
 import replay
 
@@ -147,6 +148,28 @@ def slow(room):
     same(POSTED + POSTED, take(link, 2 * len(POSTED)))
     link.close()
     it.ends(summary(1, 2))
+
+
+@case("serve: a month of forty loans, a byte at a time")
+def forty_loans(room):
+    given, wanted = b"", b""
+    for line, reply in forty.by_lines():
+        method, target, body = bodies.request_of(line)
+        length = f"Content-Length: {len(body)}\r\n" if body else ""
+        given += f"{method} {target} HTTP/1.1\r\n{length}\r\n".encode() + body
+        wanted += bodies.response_of(*bodies.reply_of(reply))
+    it = Served(room, 1)
+    link = it.plain()
+    link.setsockopt(socket.IPPROTO_TCP, socket.TCP_NODELAY, 1)
+    got = []
+    reader = threading.Thread(target=lambda: got.append(take_all(link)))
+    reader.start()
+    for byte in given:
+        link.sendall(bytes([byte]))
+    link.shutdown(socket.SHUT_WR)
+    reader.join()
+    same(wanted, got[0])
+    it.ends(summary(1, len(forty.by_lines())))
 
 
 HOSTILE = [

@@ -16,6 +16,3 @@ mod worked;
 pub use drilling::drill;
 pub use laws::{payments_have_their_number, repeats_are_commands};
 pub use worked::{worked_late_payment, worked_year};
-
-#[cfg(test)]
-mod tests;

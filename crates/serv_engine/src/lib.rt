@@ -10,6 +10,3 @@ mod replaying;
 
 pub use engine::Engine;
 pub use fault::EngineFault;
-
-#[cfg(test)]
-mod tests;

@@ -17,6 +17,3 @@ pub use link_end::LinkEnd;
 pub use outcome::Outcome;
 pub use serving::{LINK_LIMIT, serve_link};
 pub use summary::{Summary, write_summary};
-
-#[cfg(test)]
-mod tests;

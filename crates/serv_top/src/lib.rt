@@ -27,8 +27,3 @@ pub use status::Status;
 pub use stream::INPUT_LIMIT;
 pub use top::run;
 pub use words::port_in;
-
-#[cfg(test)]
-mod runs;
-#[cfg(test)]
-mod without_links;

@@ -278,6 +278,3 @@ pub fn run<S: Source, K: Sink, D: Disk, G: Doors, L: Ledger>(
         Some(Task::Review(review)) => write_review(alloc, review, src, snk, disk, steps),
     }
 }
-
-#[cfg(test)]
-mod tests;

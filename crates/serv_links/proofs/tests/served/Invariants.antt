@@ -1,4 +1,0 @@
-use Rattle.serv_links.proofs.tests.served.Given as goal
-
-abbrev pub ghosts-served_over : goal.ghosts-served_over
-ghosts-served_over g a = record { name = a.blank.name; parts = a.blank.parts }

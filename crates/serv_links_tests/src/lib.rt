@@ -1,0 +1,17 @@
+//! Tests of links, of the engine and of generated years, over disks and links in memory.
+#![tactic(auto)]
+
+#[cfg(test)]
+mod doors;
+#[cfg(test)]
+mod engines;
+#[cfg(test)]
+mod hostile;
+#[cfg(test)]
+mod links;
+#[cfg(test)]
+mod other_links;
+#[cfg(test)]
+mod serving;
+#[cfg(test)]
+mod years;

@@ -1,0 +1,100 @@
+//! What is said on a link, and what faults leave of it.
+
+use crate::other_links::Waiting;
+use crate::serving::{DAY, DAY_SAID, is_said, link_of, serve, serve_on_disk};
+use serv_disk::MemDisk;
+use serv_links::LinkEnd;
+use std::alloc::Global;
+use svc_base::OutOfMemory;
+
+/// A day is asked for, twice; another day under its key; a path that is no route; a method that is not the
+/// route's.
+const EXCHANGE: &str = "POST /v1/commands HTTP/1.1\r\nHost: a\r\nContent-Length: 42\r\n\r\n\
+    {\"key\":\"k1\",\"do\":\"day\",\"day\":\"2024-02-01\"}\
+    POST /v1/commands HTTP/1.1\r\nHost: a\r\nContent-Length: 42\r\n\r\n\
+    {\"key\":\"k1\",\"do\":\"day\",\"day\":\"2024-02-01\"}\
+    POST /v1/commands HTTP/1.1\r\nHost: a\r\nContent-Length: 42\r\n\r\n\
+    {\"key\":\"k1\",\"do\":\"day\",\"day\":\"2024-02-02\"}\
+    GET /v1/nowhere HTTP/1.1\r\n\r\n\
+    GET /v1/commands HTTP/1.1\r\n\r\n";
+
+/// What is said to it.
+const SAID: &str = "HTTP/1.1 200 OK\r\nContent-Length: 35\r\nContent-Type: application/json\r\n\r\n\
+    {\"code\":0,\"number\":1,\"text\":\"ok 1\"}\
+    HTTP/1.1 200 OK\r\nContent-Length: 35\r\nContent-Type: application/json\r\n\r\n\
+    {\"code\":0,\"number\":1,\"text\":\"ok 1\"}\
+    HTTP/1.1 409 Conflict\r\nContent-Length: 36\r\nContent-Type: application/json\r\n\r\n\
+    {\"code\":1,\"text\":\"no 1 KeyReused 1\"}\
+    HTTP/1.1 404 Not Found\r\nContent-Length: 0\r\n\r\n\
+    HTTP/1.1 405 Method Not Allowed\r\nAllow: POST\r\nContent-Length: 0\r\n\r\n";
+
+#[test]
+fn requests_are_answered_in_order(rt: HostRuntime) {
+    let said = is_said(
+        rt.alloc(),
+        EXCHANGE.as_bytes(),
+        LinkEnd::Ended(5),
+        SAID.as_bytes(),
+    );
+    assert!(rt; matches!(said, Ok(true)));
+}
+
+/// The bytes of a link, which of its reads and writes fail, its end, and what is said on it.
+type Row = (
+    &'static str,
+    &'static [u32],
+    &'static [u32],
+    LinkEnd,
+    &'static str,
+);
+
+const FAULTS: [Row; 3] = [
+    // The second read fails, after a request and in a head; the first write fails.
+    (DAY, &[2], &[], LinkEnd::Broken(1), DAY_SAID),
+    ("POST /v1/comm", &[2], &[], LinkEnd::Broken(0), ""),
+    (DAY, &[], &[1], LinkEnd::Broken(0), ""),
+];
+
+/// Whether a link with faults ends as its row says.
+fn breaks(alloc: Global, row: &Row) -> Result<bool, OutOfMemory> {
+    let (bytes, reads, writes, end, said) = row;
+    let mut link = link_of(alloc, bytes.as_bytes(), *reads, *writes)?;
+    let ended = serve(alloc, &mut link)?;
+    Ok(ended == *end && link.content() == said.as_bytes())
+}
+
+#[test]
+fn a_fault_of_the_link_breaks_it(rt: HostRuntime) {
+    for (number, row) in FAULTS.iter().enumerate() {
+        assert!(rt; matches!(breaks(rt.alloc(), row), Ok(true)), "row {number}");
+    }
+}
+
+/// What is said where the disk fails.
+const FAILED: &str =
+    "HTTP/1.1 500 Internal Server Error\r\nConnection: close\r\nContent-Length: 0\r\n\r\n";
+
+/// Whether a day that is asked for over a disk of which these calls fail ends so, and is told this.
+fn is_told(alloc: Global, fails: &[u32], end: LinkEnd, said: &str) -> Result<bool, OutOfMemory> {
+    let journal = b"MSRVJ002\x00".to_vec(alloc)?;
+    let mut disk = MemDisk::new(journal, fails.to_vec(alloc)?)?;
+    disk.reserve(64, 4096)?;
+    let mut link = link_of(alloc, DAY.as_bytes(), &[], &[])?;
+    let ended = serve_on_disk(alloc, &mut disk, &mut link)?;
+    Ok(ended == end && link.content() == said.as_bytes())
+}
+
+#[test]
+fn a_fault_of_the_disk_is_told(rt: HostRuntime) {
+    let alloc = rt.alloc();
+    assert!(rt; matches!(is_told(alloc, &[], LinkEnd::Ended(1), DAY_SAID), Ok(true)));
+    // The first call of an append fails, and the last one.
+    assert!(rt; matches!(is_told(alloc, &[4], LinkEnd::Disk(0), FAILED), Ok(true)));
+    assert!(rt; matches!(is_told(alloc, &[7], LinkEnd::Disk(0), FAILED), Ok(true)));
+}
+
+#[test]
+fn a_response_is_written_before_the_next_read(rt: HostRuntime) {
+    let mut link = Waiting::new();
+    assert!(rt; matches!(serve(rt.alloc(), &mut link), Ok(LinkEnd::Ended(2))));
+}

@@ -1,0 +1,29 @@
+//! Tests of the program's top call, over sources, sinks, disks and links in memory.
+#![tactic(auto)]
+
+#[cfg(test)]
+mod exchanges;
+#[cfg(test)]
+mod faults;
+#[cfg(test)]
+mod files;
+#[cfg(test)]
+mod journals;
+#[cfg(test)]
+mod links;
+#[cfg(test)]
+mod one_link;
+#[cfg(test)]
+mod reviews;
+#[cfg(test)]
+mod running;
+#[cfg(test)]
+mod statuses;
+#[cfg(test)]
+mod stops;
+#[cfg(test)]
+mod tables;
+#[cfg(test)]
+mod texts;
+#[cfg(test)]
+mod transfers;
