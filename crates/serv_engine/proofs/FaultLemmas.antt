@@ -77,7 +77,7 @@ ask_fault o core.OutOfMemory is = is
 pub fresh_fault : (said : Judgement) (j : JournalState) (a : Accepted) (old new : ℕ) (f : EngineFault) → said ≡ Fresh → IsAppendFault j a old new f → IsSubmitFault said j a old new f
 fresh_fault said j a old new (fault.JournalFull bytes) fresh is = (fresh, is.0, is.1)
 fresh_fault said j a old new fault.DiskFault fresh is = (fresh, is.0, is.1)
-fresh_fault said j a old new fault.OutOfMemory fresh is = is
+fresh_fault said j a old new fault.OutOfMemory fresh is = fresh
 fresh_fault said j a old new fault.NotJournal fresh is = absurd is
 fresh_fault said j a old new (fault.Damaged place) fresh is = absurd is
 fresh_fault said j a old new (fault.Refused why) fresh is = absurd is

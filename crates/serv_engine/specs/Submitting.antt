@@ -41,7 +41,7 @@ abbrev pub IsSubmitFault : Judgement → JournalState → Accepted → ℕ → �
 IsSubmitFault said j a old new (fault.Refused why) = said ≡ Refused why
 IsSubmitFault said j a old new (fault.JournalFull bytes) = (said ≡ Fresh) × (bytes ≡ j.size) × IsFull j a
 IsSubmitFault said j a old new fault.DiskFault = (said ≡ Fresh) × HasRoom j a × HasRisen old new
-IsSubmitFault said j a old new fault.OutOfMemory = ⊤
+IsSubmitFault said j a old new fault.OutOfMemory = said ≡ Fresh
 IsSubmitFault said j a old new fault.NotJournal = ⊥
 IsSubmitFault said j a old new (fault.Damaged place) = ⊥
 

@@ -150,7 +150,8 @@ impl<B: LoanBooks> Engine<B> {
             (IsGoodFor form self.old.history (accepted key.now command.now)) }
         ensures good { (form : Form) → IsDurableIn form (D.images disk.old) self.old
             → Each (D.images disk.new) (IsGoodFor form self.old.history (accepted key.now command.now)) }
-        // `Refused` comes exactly where a rule refuses, `JournalFull` where a fresh command has no room.
+        // `Refused` comes exactly where a rule refuses, `JournalFull` where a fresh command has no room;
+        // only a fresh one can want memory.
         ensures fault { IfErr result (IsSubmitFault (judged self.old.history key.now command.now)
             self.old.journal (accepted key.now command.now) (D.faults disk.old) (D.faults disk.new)) }
         ensures room { OnOk result (judged self.old.history key.now command.now ≡ Judgement.Fresh

@@ -1,5 +1,5 @@
 -- What an engine answers, as a machine's answer.
-use Rattle.std.proofs.Common.{◌≡◌, ◌≢◌, ◌⊎◌, ℕ, ◌+◌, ◌-◌, ◌<◌, ◌≤◌, List, [], ◌∷◌, ◌++◌, length, refl, sym, ap, subst, ◌∙◌, inl, inr, ⊎_elim, arith}
+use Rattle.std.proofs.Common.{◌≡◌, ◌⊎◌, ℕ, ◌+◌, ◌-◌, ◌<◌, ◌≤◌, List, [], ◌∷◌, ◌++◌, length, refl, sym, ap, subst, ◌∙◌, ⊎_elim, arith}
 use Rattle.std.proofs.lemmas.Bool.Decides.{nat_tests}
 use Rattle.svc_types.specs.declared.requests.Command.{Command}
 use Rattle.svc_types.specs.declared.replies.Reply.{Reply}
@@ -8,8 +8,6 @@ use Rattle.svc_core.specs.Core.{IsReplyTo}
 use Rattle.svc_world.specs.World.{Accepted, accepted}
 use Rattle.svc_world.specs.Judging as judging
 use Rattle.svc_world.specs.Judging.{Judgement, judged}
-use Rattle.serv_disk.specs.Faults.{HasRisen}
-use Rattle.serv_journal.specs.States.{JournalState}
 use Rattle.serv_engine.specs.declared.fault.EngineFault.{EngineFault}
 use Rattle.serv_engine.specs.declared.fault.EngineFault.TheVariants as engine
 use Rattle.serv_engine.specs.Engines.{EngineState, IsDurableIn, IsDurable}
@@ -17,7 +15,7 @@ use Rattle.serv_engine.specs.Histories.{line_of_command, record_length, lengths_
 use Rattle.serv_engine.specs.Submitting.{HasRoom, IsFull, IsSubmitFault}
 use Rattle.serv_machine.specs.declared.faults.ActFault.{ActFault}
 use Rattle.serv_machine.specs.declared.faults.ActFault.TheVariants as fault
-use Rattle.serv_machine.specs.History.{History, Journal, Decision, Kept, Refused, Full, Fresh, in_journal, by_room, by_judgement, decided, after_decision}
+use Rattle.serv_machine.specs.History.{Journal, Decision, Full, Fresh, in_journal, by_room, by_judgement, decided, after_decision}
 use Rattle.serv_machine.specs.Replies.{IsReplyBy, IsFaultBy, pending_at}
 use Rattle.std.specs.Prelude.{Result, Err}
 use Rattle.serv_disk.specs.Disks.{Each, LeavesOnly}

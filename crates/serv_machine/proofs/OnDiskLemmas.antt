@@ -1,12 +1,11 @@
 -- Runs of calls over a disk, one after the other.
-use Rattle.std.proofs.Common.{◌≡◌, ◌⊎◌, ℕ, List, [], ◌∷◌, ◌++◌, refl, sym, ap, subst, ◌∙◌, inl, inr, ⊎_elim, append_assoc, append-nil}
+use Rattle.std.proofs.Common.{◌≡◌, ℕ, List, [], ◌∷◌, ◌++◌, refl, sym, ap, subst, ◌∙◌, inl, inr, append_assoc, append-nil}
 use Rattle.svc_world.specs.World.{Accepted}
 use Rattle.serv_disk.specs.Disks.{Each, LeavesOnly}
 use Rattle.serv_disk.proofs.Moments.{started, weaker, joined}
-use Rattle.serv_journal.specs.Disks.{IsWhole, IsGood}
 use Rattle.serv_journal.proofs.ExactLemmas.{whole_good}
 use Rattle.serv_engine.specs.Histories.{line_of_command, lines_of_history, IsGoodFound}
-use Rattle.serv_machine.specs.OnDisk.{HasHistory, IsAlong, IsLeft, OnDisk}
+use Rattle.serv_machine.specs.OnDisk.{HasHistory, IsAlong, OnDisk}
 
 -- what has a history is good for it and a command more
 pub good_for : (h : List Accepted) (a : Accepted) (file : List ℕ) → HasHistory h file → IsGoodFound h a file

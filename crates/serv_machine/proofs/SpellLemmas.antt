@@ -1,16 +1,16 @@
 -- Each answer to a query has a text: the months of an escrow analysis have names.
-use Rattle.std.proofs.Common.{◌≡◌, ℕ, List, ◌+◌, ◌<◌, length, arith, refl, sym, ap, subst, ◌∙◌}
+use Rattle.std.proofs.Common.{◌≡◌, ℕ, List, ◌+◌, length, arith, refl, sym, subst}
 use Rattle.std.specs.Prelude.{Option, Some, None}
 use Rattle.std.specs.Option.{option_map}
-use Rattle.svc_base.specs.Calendar.{IsReadDay, month_of, months_end}
+use Rattle.svc_base.specs.Calendar.{IsReadDay, month_of}
 use Rattle.svc_types.specs.declared.requests.Query.{Query}
 use Rattle.svc_types.specs.declared.requests.Query.TheVariants as query
 use Rattle.svc_world.specs.declared.answer.Answer.{Answer}
 use Rattle.svc_world.specs.Held.{Held, find_loan}
 use Rattle.svc_world.specs.Analysing.{year_begins}
 use Rattle.svc_world.specs.Custody.{rows_in}
-use Rattle.svc_world.specs.World.{World, Accepted, world}
-use Rattle.svc_world.specs.Worlds.{IsHeld, IsWorld}
+use Rattle.svc_world.specs.World.{Accepted, world}
+use Rattle.svc_world.specs.Worlds.{IsHeld}
 use Rattle.svc_world.specs.Judging.{IsHistory}
 use Rattle.svc_world.specs.Answers.{answer_to}
 use Rattle.svc_world.proofs.HistoryLemmas.{is_world}

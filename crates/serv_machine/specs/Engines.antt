@@ -1,5 +1,5 @@
 -- What an engine holds, and why it does not accept a command.
-use Rattle.std.specs.Prelude.{ℕ, ◌-◌}
+use Rattle.std.specs.Prelude.{◌-◌}
 use Rattle.serv_engine.specs.Engines.{EngineState}
 use Rattle.serv_engine.specs.Histories.{lengths_of}
 use Rattle.serv_engine.specs.declared.fault.EngineFault.{EngineFault}

@@ -39,7 +39,7 @@ fn applied(alloc: Global, lines: &[u8], disk: &mut MemDisk) -> Result<Ending, Ou
     ending_on(alloc, &over(&["j", "apply"], b"", lines), disk)
 }
 
-/// Whether all lines applied to what is left on a disk give all replies. Gives the journal then.
+/// Whether all lines applied to what is left on a disk give all replies.
 fn ends_well(alloc: Global, course: &Course, disk: &mut MemDisk) -> Result<bool, OutOfMemory> {
     let end = applied(alloc, &course.lines, disk)?;
     Ok(end.is(Status::Done, &course.replies))
@@ -53,10 +53,11 @@ struct Stop {
     longer: bool,
 }
 
-/// Lines that are applied to a disk that stops, and the replies to them.
+/// A disk that stops and how many commands it holds, lines that are applied to it, and the replies to them.
 #[derive(Clone, Copy)]
 struct Stopped<'a> {
     content: &'a [u8],
+    held: usize,
     lines: &'a [u8],
     replies: &'a [u8],
 }
@@ -80,6 +81,25 @@ fn crashed(alloc: Global, stopped: &Stopped, stop: Stop) -> Result<(Ending, MemD
     Ok((end, left))
 }
 
+/// How many lines were answered.
+fn answers_in(end: &Ending) -> usize {
+    end.output.iter().filter(|byte| **byte == b'\n').count()
+}
+
+/// Whether what is left on a disk opens to that many commands: a next one, which a copy takes, is numbered
+/// after them.
+fn opens_to(alloc: Global, left: &MemDisk, commands: usize) -> Result<bool, OutOfMemory> {
+    let mut copy = disk_of(alloc, left.content(), &[])?;
+    let end = applied(alloc, b"next day 2024-06-01\n", &mut copy)?;
+    let reply = format!(in alloc; "ok {}\n", commands.saturating_add(1))?;
+    Ok(end.is(Status::Done, reply.as_bytes()))
+}
+
+/// Whether what is left on a disk opens to all commands that were answered, and to at most one more.
+fn keeps(alloc: Global, left: &MemDisk, answered: usize) -> Result<bool, OutOfMemory> {
+    Ok(opens_to(alloc, left, answered)? || opens_to(alloc, left, answered.saturating_add(1))?)
+}
+
 /// Applies lines to a disk that stops, and all lines of the course to what a crash leaves.
 fn seen_after(
     alloc: Global,
@@ -88,7 +108,9 @@ fn seen_after(
     stop: Stop,
 ) -> Result<Seen, OutOfMemory> {
     let (end, mut left) = crashed(alloc, stopped, stop)?;
-    let is_well = ends_well(alloc, course, &mut left)?
+    let answered = stopped.held.saturating_add(answers_in(&end));
+    let is_well = keeps(alloc, &left, answered)?
+        && ends_well(alloc, course, &mut left)?
         && left.content().starts_with(&course.journal)
         && stopped.replies.starts_with(&end.output);
     Ok(match end.status {
@@ -138,6 +160,7 @@ fn calls_of_course(alloc: Global, torn: Torn, longer: bool) -> Result<u32, OutOf
     let course = course_of(alloc)?;
     let stopped = Stopped {
         content: NEW_JOURNAL,
+        held: 0,
         lines: &course.lines,
         replies: &course.replies,
     };
@@ -171,8 +194,7 @@ fn is_cut_after(end: &Ending, course: &Course, answered: usize) -> bool {
     } else {
         Status::Done
     };
-    let lines = end.output.iter().filter(|byte| **byte == b'\n').count();
-    end.status == status && lines == answered && course.replies.starts_with(&end.output)
+    end.status == status && answers_in(end) == answered && course.replies.starts_with(&end.output)
 }
 
 /// Whether a run of which this call fails ends after so many lines, and nothing is lost.
@@ -181,7 +203,11 @@ fn goes_on_after(alloc: Global, call: u32, answered: usize) -> Result<bool, OutO
     let mut disk = disk_of(alloc, NEW_JOURNAL, &[call])?;
     let end = applied(alloc, &course.lines, &mut disk)?;
     let mut left = disk.crash(Torn::New, false)?;
-    Ok(is_cut_after(&end, &course, answered) && ends_well(alloc, &course, &mut left)?)
+    Ok(
+        is_cut_after(&end, &course, answered)
+            && keeps(alloc, &left, answered)?
+            && ends_well(alloc, &course, &mut left)?,
+    )
 }
 
 #[test]
@@ -262,6 +288,7 @@ fn calls_of_opening(
 ) -> u32 {
     let stopped = Stopped {
         content,
+        held: 15,
         lines: b"",
         replies: b"",
     };

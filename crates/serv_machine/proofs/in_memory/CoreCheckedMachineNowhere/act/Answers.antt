@@ -15,3 +15,6 @@ returns-in-Err-Refused-clause-fault g c = memory_refused c.args.self.now.history
 
 pub returns-in-Err-Refused-clause-disk : goal.returns-in-Err-Refused-clause-disk
 returns-in-Err-Refused-clause-disk g c = memory_same c.args.arg2.now c.args.self.now.history c.submit.new.self.history c.in-Err-Refused.ensures.err
+
+pub returns-in-Err-OutOfMemory-clause-disk : goal.returns-in-Err-OutOfMemory-clause-disk
+returns-in-Err-OutOfMemory-clause-disk g c = memory_same c.args.arg2.now c.args.self.now.history c.submit.new.self.history c.in-Err-OutOfMemory.ensures.err

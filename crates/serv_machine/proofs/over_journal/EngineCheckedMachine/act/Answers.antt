@@ -1,9 +1,6 @@
-use Rattle.std.proofs.Common.{refl, sym, ap, subst, rules, ◌≡◌, ◌≤◌, ◌∙◌}
 use Rattle.svc_world.specs.World.{accepted}
-use Rattle.serv_engine.specs.Histories.{lengths_of}
-use Rattle.serv_engine.specs.Engines.{EngineState, IsDurable}
 use Rattle.serv_engine.proofs.LengthLemmas.{journal_base}
-use Rattle.serv_machine.proofs.EngineLemmas.{long_enough, act_reply, act_fault_is, act_after, ok_disk, err_disk, err_same, history_same}
+use Rattle.serv_machine.proofs.EngineLemmas.{long_enough, act_reply, act_fault_is, act_after, ok_disk, err_disk, history_same}
 use Rattle.serv_machine.proofs.over_journal.EngineCheckedMachine.act.Goals as goal
 
 pub returns-in-Ok-clause-reply : goal.returns-in-Ok-clause-reply

@@ -1,4 +1,3 @@
-use Rattle.std.proofs.Common.{refl, sym}
 use Rattle.std.proofs.lemmas.Result.{IfOk-weaker}
 use Rattle.serv_report.specs.AnswerTexts.{IsSpellable}
 use Rattle.serv_machine.proofs.SpellLemmas.{spelled}
