@@ -12,7 +12,6 @@ import shutil
 import signal
 import subprocess
 import sys
-import time
 
 from harness import TOP, Skipped, case, named, read, run, run_all, same, start, write
 import program
@@ -139,28 +138,44 @@ def two_at_once(room):
 
 # Causes
 
-@case("causes: a folder that is not there, a port that is taken, a file that may not be written")
+@case("causes: a folder that is not there, one in the file's place, a port that is taken")
 def causes(room):
     missing = os.path.join(room, "nowhere", "j")
     said = f"status 5 DiskFault {missing}: No such file or directory (os error 2)\n".encode()
     same((5, b"", said), run(missing, "init"))
-    path = month(room)
-    it, port = serving(path)
+    for words in ("init", "apply", "custodial"):
+        same((5, b"", f"status 5 DiskFault {room}: Is a directory (os error 21)\n".encode()), run(room, words), words)
+    it, port = serving(month(room))
     other = month(room, "other.journal")
     said = b"status 9 NetFault 127.0.0.1: Address already in use (os error 98)\n"
     same((9, b"", said), run(other, "serve", str(port), "1"))
     it.kill()
     it.wait()
-    if os.geteuid():
-        raise Skipped("the last part wants root, which becomes another user")
-    os.chmod(room, 0o711)
-    os.chmod(other, 0o600)
-    said = f"status 5 DiskFault {other}: Permission denied (os error 13)\n".encode()
+
+
+def by_another(room, *words):
+    """Runs a copy of the program as a user who is not root."""
     copy = os.path.join(room, "program")
-    shutil.copyfile(program.find(), copy)
-    os.chmod(copy, 0o755)
-    ran = subprocess.run([copy, other, "custodial"], capture_output=True, user=65534, group=65534, check=False)
-    same((5, b"", said), (ran.returncode, ran.stdout, ran.stderr))
+    if not os.path.exists(copy):
+        shutil.copyfile(program.find(), copy)
+        os.chmod(copy, 0o755)
+    ran = subprocess.run([copy, *words], capture_output=True, user=65534, group=65534, check=False, timeout=60)
+    return ran.returncode, ran.stdout, ran.stderr
+
+
+@case("causes: a file that may not be opened, one that may only be read, a folder in which none may be made")
+def not_allowed(room):
+    if os.geteuid():
+        raise Skipped("it wants root, which becomes another user")
+    path = month(room)
+    os.chmod(room, 0o711)
+    for mode in (0o600, 0o444):
+        os.chmod(path, mode)
+        said = f"status 5 DiskFault {path}: Permission denied (os error 13)\n".encode()
+        same((5, b"", said), by_another(room, path, "custodial"), oct(mode))
+    none = os.path.join(room, "none.journal")
+    said = f"status 5 DiskFault {none}: Permission denied (os error 13)\n".encode()
+    same((5, b"", said), by_another(room, none, "init"))
 
 
 # Syncs
@@ -204,7 +219,7 @@ def failed_syncs(room):
         write(before, path)
         _, (status, out, log) = traced(path, given, "-e", f"inject=fsync:error=EIO:when={when}")
         same(5, status, f"sync {when}")
-        if "Input/output error" not in log.splitlines()[-2] + log.splitlines()[-1] + log:
+        if f"status 5 DiskFault {path}: Input/output error (os error 5)\n" not in log:
             raise AssertionError(f"no cause: {log[-300:]}")
         same(out.count(b"\n"), max(0, (when - 2) // 2), f"replies at sync {when}")
         same((0, b""), run(path, "custodial")[::2], f"opening after sync {when}")
@@ -223,7 +238,6 @@ def folder_synced(room):
     ran = subprocess.run(words, capture_output=True, check=False, timeout=60)
     synced = re.findall(r"fsync\(\d+<(.*?)>\)", ran.stderr.decode())
     same([room, path], synced[:2])
-    time.sleep(0)
 
 
 if __name__ == "__main__":

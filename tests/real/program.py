@@ -522,11 +522,11 @@ def copied(room):
 
 # Disks that are full
 
-def fill(room, path, **how):
+def fill(room, path, cause, **how):
     """Applies all lines where they do not fit. Gives what they are and the replies before the disk was full."""
     applied = Applied(room, len(ALL_LINES))
     status, out, log = run(path, "apply", given=applied.lines, **how)
-    same((5, b"status 5 DiskFault"), (status, named(log)))
+    same((5, f"status 5 DiskFault {path}: {cause}\n".encode()), (status, log))
     return applied, out
 
 
@@ -537,7 +537,7 @@ def size_limit(room):
         resource.setrlimit(resource.RLIMIT_FSIZE, (4000, 4000))
 
     path = init(room)
-    applied, out = fill(room, path, preexec_fn=limit)
+    applied, out = fill(room, path, "File too large (os error 27)", preexec_fn=limit)
     applied.check_after_crash(path, out, "after the limit")
 
 
@@ -551,7 +551,7 @@ def full_disk(room):
     try:
         path = init(disk)
         write(b"x" * 11_500, disk, "filler")
-        applied, out = fill(room, path)
+        applied, out = fill(room, path, "No space left on device (os error 28)")
         os.remove(os.path.join(disk, "filler"))
         applied.check_after_crash(path, out, "after the full disk")
     finally:
