@@ -6,7 +6,7 @@ ghost use Rattle.std.specs.Prelude.{◌≡◌, ◌<◌};
 
 mod usage;
 
-use serv_disk::{FileDisk, Hold, ReadSource, TcpDoors, WriteSink};
+use serv_disk::{Disk, Doors, FileDisk, Hold, ReadSource, Sink, Source, TcpDoors, WriteSink};
 use serv_top::{Status, port_in};
 use std::alloc::{AllocError, Global};
 use std::env;
@@ -66,6 +66,22 @@ fn told(rt: &impl Eprint, status: Status, what: &str, cause: Option<io::Error>) 
     status.number()
 }
 
+/// Runs what the words ask for over these objects. What is said of a run is kept out of `start`, which proves nothing by
+/// it.
+fn run_over<S: Source, K: Sink, D: Disk, G: Doors, L: Ledger>(
+    alloc: Global,
+    words: &[&str],
+    src: &mut S,
+    snk: &mut K,
+    disk: &mut D,
+    doors: &mut G,
+    steps: &mut Steps<L>,
+) -> Status
+    requires out { G.out doors.old ≡ 0 }
+{
+    serv_top::run(alloc, words, src, snk, disk, doors, steps)
+}
+
 /// Makes the objects and runs what the words ask for, says how that ended, and gives the exit status. The first word is
 /// the path of the journal's file, and links come to the port of the words `serve`.
 fn start<
@@ -98,7 +114,7 @@ where
     let mut snk = WriteSink::new(io::writer(rt));
     let mut doors = TcpDoors::new(net, port_in(&texts));
     let mut steps = Steps::<L>::new(blank);
-    let status = serv_top::run(
+    let status = run_over(
         rt.alloc(),
         &texts,
         &mut src,

@@ -1,4 +1,4 @@
-use Rattle.serv_cli.proofs.main.Given as goal
+use Rattle.serv_cli.proofs.run.Given as goal
 
 abbrev pub ghosts-start : goal.ghosts-start
 ghosts-start a = record { name = a.blank.name; parts = a.blank.parts }
