@@ -4,8 +4,8 @@
     replay.py            with the program that `rt` built (or the one that the variable JAQHENDULU names)
     replay.py --reckon   the texts of examples/ against reckon.py alone; needs no program
 
-Each set of steps runs on a fresh journal in a folder of its own that is removed afterwards, and so does each
-document. Standard library alone. Prints a line a step and `N passed, M failed` at its end.
+Each set of steps runs on a fresh journal in a folder of its own that is removed afterwards. The documents run in one
+folder, once in their order and once backwards, so that each comes before and after each other one. Standard library alone. Prints a line a step and `N passed, M failed` at its end.
 """
 import csv
 import io
@@ -211,23 +211,38 @@ def replay_requests(folder, count, built):
             count.compare(f"{folder}: summary", read(folder, "summary.txt"), it.communicate(timeout=60)[0])
 
 
+def commands_of(block, line):
+    """The commands of a block `console`, each with its line's number and what is shown below it."""
+    command, shown, at = None, [], 0
+    for it in block.splitlines():
+        line += 1
+        if it.startswith("$ "):
+            if command is not None:
+                yield at, command, shown
+            command, shown, at = it[2:], [], line
+        elif it.startswith("> ") and not shown:
+            command += "\n" + it[2:]
+        else:
+            shown.append(it)
+    if command is not None:
+        yield at, command, shown
+
+
 def blocks_of(text):
-    """The commands of a document, each with its line's number and what is shown below it."""
-    for block in re.finditer(r"^```console\n(.*?)^```$", text, re.S | re.M):
-        line = text[:block.start()].count("\n") + 1
-        command, shown, at = None, [], 0
-        for it in block[1].splitlines():
-            line += 1
-            if it.startswith("$ "):
-                if command is not None:
-                    yield at, command, shown
-                command, shown, at = it[2:], [], line
-            elif it.startswith("> ") and not shown:
-                command += "\n" + it[2:]
-            else:
-                shown.append(it)
-        if command is not None:
-            yield at, command, shown
+    """What a document has to be run, with its line's number and what is shown below it: each command of a block `console`;
+    a block `sh` as a whole, with the block `text` that follows it. One that no text follows shows nothing."""
+    for it in re.finditer(r"^```(console|sh)\n(.*?)^```\n(?:\n```text\n(.*?)^```$)?", text, re.S | re.M):
+        line = text[:it.start()].count("\n") + 1
+        if it[1] == "console":
+            yield from commands_of(it[2], line)
+        else:
+            yield line + 1, it[2].rstrip("\n"), (it[3] or "").splitlines()
+
+
+def said_in(text):
+    """The lines and the replies of a table 'You send'."""
+    for table in re.finditer(r"^\| You send \| It answers \|\n\|---\|---\|\n((?:\|.*\n)+)", text, re.M):
+        yield re.findall(r"^\| `(.*)` \| `(.*)` \|$", table[1], re.M)
 
 
 def fits(shown, got):
@@ -241,35 +256,52 @@ def fits(shown, got):
 
 
 def lay_out(room, built):
-    """A folder with what the documents' commands name. Its `rt` runs the built program: proofs are rt's own work."""
-    os.makedirs(f"{room}/bin")
-    os.makedirs(f"{room}/here/crates/serv_cli/out")
+    """A folder with what the documents' commands name. Its `rt` runs the built program, and its `.ci/run` does nothing:
+    proofs are rt's own work."""
+    for it in ("bin", "here/crates/serv_cli/out", "here/.ci"):
+        os.makedirs(f"{room}/{it}")
     shutil.copytree(HERE, f"{room}/here/examples", ignore=shutil.ignore_patterns("__pycache__"))
     for place in ("bin/jaqhendulu", "here/crates/serv_cli/out/serv_cli"):
         os.symlink(built, f"{room}/{place}")
-    with open(f"{room}/bin/rt", "w", encoding="utf-8") as file:
-        file.write('#!/bin/sh\nshift 2\nexec jaqhendulu "$@"\n')
-    os.chmod(f"{room}/bin/rt", 0o755)
+    for place, text in (("bin/rt", 'shift 2\nexec jaqhendulu "$@"'), ("here/.ci/run", "exit 0")):
+        with open(f"{room}/{place}", "w", encoding="utf-8") as file:
+            file.write(f"#!/bin/sh\n{text}\n")
+        os.chmod(f"{room}/{place}", 0o755)
 
 
-def replay_document(name, count, built):
-    """Runs the commands of a document in one shell, in a folder of its own."""
+def replay_document(name, room, order, count):
+    """Runs the commands of a document in one shell, in a folder that others may have worked in."""
     with open(os.path.join(TOP, name), encoding="utf-8") as file:
         blocks = list(blocks_of(file.read()))
     script = "".join(f"{command}\nprintf '%s\\n' \"{MARK}{at}\"\n" for at, command, _ in blocks)
-    with tempfile.TemporaryDirectory() as room:
-        lay_out(room, built)
-        paths = f"{room}/bin:{room}/.local/bin:{os.environ['PATH']}"
-        env = {"PATH": paths, "HOME": room, "LC_ALL": "C.UTF-8"}
-        ran = subprocess.run(["bash", "-c", script], cwd=f"{room}/here", env=env, stdin=subprocess.DEVNULL,
-                             stdout=subprocess.PIPE, stderr=subprocess.DEVNULL)
+    env = {"PATH": f"{room}/bin:{room}/.local/bin:{os.environ['PATH']}", "HOME": room, "LC_ALL": "C.UTF-8"}
+    ran = subprocess.run(["bash", "-c", script], cwd=f"{room}/here", env=env, stdin=subprocess.DEVNULL,
+                         stdout=subprocess.PIPE, stderr=subprocess.DEVNULL)
     pieces = re.split(f"{MARK}\\d+\n", ran.stdout.decode(errors="replace"))
     for (at, command, shown), got in zip(blocks, pieces):
-        name_of = f"{name}:{at}: {command.splitlines()[0][:60]}"
+        name_of = f"{order}: {name}:{at}: {command.splitlines()[0][:60]}"
         if fits(shown, got.splitlines()):
             count.compare(name_of, b"", b"")
         else:
             count.compare(name_of, "\n".join(shown).encode(), got.rstrip("\n").encode())
+
+
+def replay_documents(names, order, count, built):
+    """Runs the documents one after another in one folder: each has files of its own, so any order will do."""
+    with tempfile.TemporaryDirectory() as room:
+        lay_out(room, built)
+        for name in names:
+            replay_document(name, room, order, count)
+
+
+def replay_tables(name, count, built):
+    """Sends the lines of a document's tables to a session."""
+    with open(os.path.join(TOP, name), encoding="utf-8") as file:
+        tables = list(said_in(file.read()))
+    for rows in tables:
+        given = "".join(f"{line}\n" for line, _ in rows).encode()
+        got = subprocess.run([built, "j", "session"], input=given, capture_output=True).stdout
+        count.compare(f"{name}: a line and its reply", "".join(f"{reply}\n" for _, reply in rows).encode(), got)
 
 
 def main():
@@ -281,9 +313,11 @@ def main():
     if os.path.isfile(os.path.join(HERE, "http", "requests")):
         replay_requests("http", count, built)
     if built:
-        for name in DOCUMENTS:
-            if os.path.isfile(os.path.join(TOP, name)):
-                replay_document(name, count, built)
+        there = [name for name in DOCUMENTS if os.path.isfile(os.path.join(TOP, name))]
+        replay_documents(there, "forwards", count, built)
+        replay_documents(there[::-1], "backwards", count, built)
+        for name in there:
+            replay_tables(name, count, built)
     print(f"{count.passed} passed, {count.failed} failed")
     return 1 if count.failed else 0
 
