@@ -5,7 +5,8 @@
     replay.py --reckon   the texts of examples/ against reckon.py alone; needs no program
 
 Each set of steps runs on a fresh journal in a folder of its own that is removed afterwards. The documents run in one
-folder, once in their order and once backwards, so that each comes before and after each other one. Standard library alone. Prints a line a step and `N passed, M failed` at its end.
+folder, once in their order and once backwards, so that each comes before and after each other one. Standard library
+alone. Prints a line a step and `N passed, M failed` at its end.
 """
 import csv
 import io
