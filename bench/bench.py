@@ -10,6 +10,7 @@ little; of `apply` and `serve`, which wait for the disk, they are times on the c
 set of a run. Standard library alone; `JAQHENDULU` names another program than the one that `rt` built.
 """
 import os
+import shutil
 import socket
 import statistics
 import subprocess
@@ -130,6 +131,28 @@ def session_small(room):
 
 def session_large(room):
     return [session_row(room, sized(9000), 1, f"`session`, {sized(9000):,} loans, a year")]
+
+
+BOOKKEEPERS = (("ledger", generate.as_ledger, ("-f", "FILE", "balance", "--depth", "1")),
+               ("hledger", generate.as_ledger, ("-f", "FILE", "balance", "--depth", "1")),
+               ("bean-check", generate.as_beancount, ("FILE",)))
+
+
+def bookkeeper_rows(room):
+    """`session` of a year beside what programs for books take for that year's payments alone, where they are installed."""
+    loans, lines = sized(9000), f"{room}/lines"
+    write_lines(lines, generate.year(loans, 12, loans))
+    rows = []
+    for name, form, words in BOOKKEEPERS:
+        if not shutil.which(name):
+            continue
+        file = f"{room}/{name}"
+        write_lines(file, form(generate.year(loans, 12, loans)))
+        call = [shutil.which(name), *(file if it == "FILE" else it for it in words)]
+        pairs = [(ours("j", "session", given=lines, out=f"{room}/replies").processor, Run(call).end().processor)
+                 for _ in range(rounds())]
+        rows.append(Row(f"`session`, {loans:,} loans, a year, beside `{name}` of its payments", "s", pairs))
+    return rows
 
 
 def bare_loop(path, lines):
@@ -272,7 +295,8 @@ def serve_row(room):
     return [Row(f"`serve` on one connection, {count:,} commands beside `apply`", "s", pairs, memory)]
 
 
-WORKLOADS = {"session-500": session_small, "session-9000": session_large, "apply": apply_row, "opening": opening_row,
+WORKLOADS = {"session-500": session_small, "session-9000": session_large,
+             "bookkeepers": bookkeeper_rows, "apply": apply_row, "opening": opening_row,
              "late": late_rows, "serve": serve_row, "drill": drill_row}
 
 

@@ -41,6 +41,30 @@ def year(loans, months, seed):
                 late.append(loan)
 
 
+def payments_in(lines):
+    """The key, loan, day and amount of each payment among the lines."""
+    for line in lines:
+        words = line.split()
+        if words[1] == "pay":
+            yield words[0], words[2], words[3], words[4]
+
+
+def as_ledger(lines):
+    """The payments as transactions of ledger and hledger, one a payment, from T to the loan."""
+    for key, loan, day, amount in payments_in(lines):
+        yield f"{day} {key}\n    T  {amount}\n    Loans:{loan}\n"
+
+
+def as_beancount(lines):
+    """The same for beancount, which wants each account opened."""
+    lines = list(lines)
+    yield "2023-12-01 open Assets:T USD"
+    for loan in sorted({int(loan) for _, loan, _, _ in payments_in(lines)}):
+        yield f"2023-12-01 open Income:Loan{loan} USD"
+    for key, loan, day, amount in payments_in(lines):
+        yield f'{day} * "{key}"\n  Assets:T  {amount} USD\n  Income:Loan{loan}\n'
+
+
 def entries(loans, count):
     """So many deposits of each loan, eight a month, with no closing; the business day is in the last of these months."""
     yield "b0 day 2023-12-15"
