@@ -1,0 +1,169 @@
+#!/usr/bin/env python3
+"""Tests of the companion programs in tools/, beside the built program.
+
+    companions.py [WORD..]    all cases, or those whose names have the words
+
+Standard library alone; LibreOffice, hledger, ledger, beancount and matplotlib where they are installed.
+`JAQHENDULU` names another program than the one that `rt` built. Prints a line a case and `N passed, M failed`.
+"""
+import os
+import shutil
+import subprocess
+import sys
+
+from harness import TOP, Skipped, case, read, run, run_all, same, write
+sys.path.insert(0, os.path.join(TOP, "tools"))
+import tidy  # noqa: E402
+
+EXAMPLES = os.path.join(TOP, "examples")
+
+
+def tool(name, *words, given=b"", status=0):
+    """Runs a companion to its end and gives its output and log, where it ends with that status."""
+    ran = subprocess.run([sys.executable, os.path.join(TOP, "tools", name), *words], input=given, capture_output=True,
+                         timeout=120)
+    same(status, ran.returncode, f"{name} {' '.join(words)}: {ran.stderr.decode()[-300:]}")
+    return ran.stdout, ran.stderr
+
+
+def without_tool(name):
+    """Skips a case where a program is not installed."""
+    if not shutil.which(name):
+        raise Skipped(f"{name} is not installed")
+
+
+def quarter(room):
+    """The path of a journal of the worked quarter."""
+    path = os.path.join(room, "books.journal")
+    same((0, b"", b""), run(path, "init"), "init")
+    for step in sorted(os.listdir(os.path.join(EXAMPLES, "quarter"))):
+        if step.endswith((".lines", ".csv")):
+            words = "import" if step.endswith(".csv") else "apply"
+            same(0, run(path, words, given=read(EXAMPLES, "quarter", step))[0], step)
+    return path
+
+
+# tidy.py
+
+# A bank's sheets that say one and the same, with the words that read them.
+PAYMENTS = (b"key,do,loan,day,amount,line\nT1,pay,101,2024-02-01,1199.10,\nT2,pay,102,2024-12-31,1200.00,\n"
+            b"T3,pay,103,2024-02-29,500.50,\n")
+SHEETS = [
+    ("Trace;Loan;Date;Amount\r\nT1;101;2024-02-01;1199.1\r\nT2;102;2024-12-31;1,200.00\r\nT3;103;2024-02-29;$500.50\r\n",
+     "--set do=pay"),
+    ("Amount\tLOAN NUMBER\tNote\tEffective Date\tkey\n$1,199.10\t101\ta, b\t2/1/2024\tT1\n1200.0\t102\t\t12/31/2024\tT2\n"
+     "500.5\t103\t\t02/29/2024\tT3", "--set do=pay --dates mdy"),
+    ("\ufeffloan,day,amount,key,do\n101,1.2.2024,\"1,199.10\",T1,Wire\n,,,,\n\n102,31.12.2024,\"$1,200.00\",T2,pay\n"
+     "0103,29.02.2024,$ 500.50,T3,WIRE\n", "--dates dmy --word wire=pay"),
+    ("Sum,Loan,Date,Id,line\n1199.10,101,2024/2/1,T1,\n1200,102,2024/12/31,T2,\n500.50,103,2024-02-29,T3,\n",
+     "--set do=pay --dates ymd --whole --column amount=sum --column key=ID"),
+]
+
+
+@case("tidy: four sheets of three payments, each with its own columns, separators, amounts and days, are one file")
+def sheets_read(room):
+    for text, words in SHEETS:
+        same((PAYMENTS, b""), tool("tidy.py", *words.split(), given=text.encode()), words)
+
+
+# A row that is refused below `key,do,loan,day,amount,line`, the words, and what the reason has in it.
+DOUBTS = [
+    ("T1,pay,101,2024-02-01,1199,", "", "amount '1199' has no point"),
+    ("T1,pay,101,2024-02-01,\"1,199\",", "", "amount '1,199' has no point"),
+    ("T1,pay,101,2024-02-01,\"1199,10\",", "", "amount '1199,10' is no amount"),
+    ("T1,pay,101,2024-02-01,1.199,", "", "amount '1.199' is no amount"),
+    ("T1,pay,101,2024-02-01,\"1,19.10\",", "--whole", "amount '1,19.10' is no amount"),
+    ("T1,pay,101,2024-02-01,-5.00,", "", "amount '-5.00' is below zero"),
+    ("T1,pay,101,2024-02-01,(5.00),", "", "amount '(5.00)' is below zero"),
+    ("T1,pay,101,2024-02-01,,", "", "amount is empty"),
+    ("T1,pay,101,2/1/2024,5.00,", "", "day '2/1/2024' may be read in several orders"),
+    ("T1,pay,101,2/1/24,5.00,", "--dates mdy", "day '2/1/24' is no day in the order mdy with a year of four digits"),
+    ("T1,pay,101,31/1/2024,5.00,", "--dates mdy", "day '31/1/2024' is no day of the calendar in the order mdy"),
+    ("T1,pay,101,2023-02-29,5.00,", "", "day '2023-02-29' is no day of the calendar"),
+    ("T1,pay,101,1989-12-31,5.00,", "", "day '1989-12-31' is not of the years 1990 to 2099"),
+    ("T1,pay,101,45323,5.00,", "--dates mdy", "day '45323' is no day"),
+    ("T1,pay,1O1,2024-02-01,5.00,", "", "loan '1O1' is no whole number"),
+    ("T1,pay,4294967296,2024-02-01,5.00,", "", "loan '4294967296' is above 4294967295"),
+    ("T1,Wire,101,2024-02-01,5.00,", "", "do 'Wire' is none of pay, curtail, payoff, deposit, disburse"),
+    ("4.02E+15,pay,101,2024-02-01,5.00,", "", "key '4.02E+15' was rounded by the spreadsheet"),
+    ("a b,pay,101,2024-02-01,5.00,", "", "key 'a b' is no key"),
+    ("T0,pay,101,2024-02-01,5.00,", "", "key 'T0' is that of row 2 too"),
+    ("T1,curtail,101,2024-02-01,5.00,principal", "", "line 'principal' does not go with curtail"),
+    ("T1,disburse,101,2024-02-01,5.00,", "", "line '' is no whole number"),
+    ("T1,pay,101,2024-02-01,1,199.10,", "", "has 7 fields where row 1 has 6"),
+    ("Total,,,,5.00,", "", "do is empty"),
+]
+
+
+@case(f"tidy: {len(DOUBTS)} rows in doubt are refused with row and reason, and nothing is written")
+def doubts(room):
+    head = "key,do,loan,day,amount,line\nT0,pay,101,2024-02-01,5.00,\n"
+    for row, words, reason in DOUBTS:
+        found = tidy.tidy(head + row + "\n", tidy.words_of(words.split()))[1]
+        if len(found) != 1 or not found[0].startswith("row 3: " + reason):
+            raise AssertionError(f"{row}: {found}")
+    out, log = tool("tidy.py", given=(head + DOUBTS[0][0] + "\n" + DOUBTS[0][0]).encode(), status=1)
+    same((b"", "nothing is written: 2 in doubt"), (out, log.decode().splitlines()[-1]))
+
+
+# A file that is refused as a whole, and what the reason has in it.
+HEADERS = [
+    ("", "the file is empty"),
+    ("key,do,loan,date,amount,effective date\n", "row 1: several columns may be day: 'date', 'effective date'"),
+    ("key,do,loan,amount\n", "row 1: no column is day"),
+    ("key;do,loan;day,amount\n", "row 1: no column is"),
+    ("key,do,loan,day,amount\n\"T1\"x,pay,101,2024-02-01,5.00\n", "line 2:"),
+    ("key,do,loan,day,amount\n\"T1,pay,101,2024-02-01,5.00\n", "line 2:"),
+    ("key,do,loan,day,amount\nT1,pay,101,2024-02-01,5.00\xff", "byte 49 is not UTF-8"),
+]
+
+
+@case("tidy: a file whose columns or bytes are in doubt is refused as a whole")
+def headers(room):
+    for text, reason in HEADERS:
+        out, log = tool("tidy.py", given=text.encode("latin-1"), status=1)
+        if out or reason not in log.decode():
+            raise AssertionError(f"{text!r}: {out!r} {log!r}")
+    for words in ("--column loans=Loan", "--set", "--set x=1", "--key a", "--dates xyz"):
+        tool("tidy.py", *words.split(), status=2)
+
+
+LOANS = ("Loan,Boarding Date,Unpaid Principal,Note Rate,Servicing Fee,P&I,Term,First Due,Escrow Payment,Investor's Type\n"
+         "101,12/15/2023,\"$200,000.00\",6.000%,0.25%,1199.1,360,1/1/2024,0.00,Scheduled\n"
+         "102,12/15/2023,\"150,000.00\",6.875 %,0.250%,985.39,360,2024-01,250.00,AA\n")
+BOARDED = (b"b-101 board 101 2023-12-15 200000.00 6000 250 1199.10 360 2024-01 15 500 2 0.00 SS\n"
+           b"b-102 board 102 2023-12-15 150000.00 6875 250 985.39 360 2024-01 15 500 2 250.00 AA\n")
+BOARD = ["--board", "--key", "b-", "--dates", "mdy", "--set", "grace=15", "--set", "late=5%", "--set", "cushion=2",
+         "--column", "type=Investor's type", "--word", "scheduled=SS"]
+
+
+@case("tidy: a sheet of loans becomes board lines, which the program accepts; rates without a sign want a word")
+def boarding(room):
+    same((BOARDED, b""), tool("tidy.py", *BOARD, given=LOANS.encode()))
+    path = os.path.join(room, "books.journal")
+    run(path, "init")
+    same((0, b"ok 1\nok 2\nok 3\n", b""), run(path, "apply", given=b"d day 2023-12-15\n" + BOARDED))
+    bare = LOANS.replace(" %", "").replace("%", "").encode()
+    log = tool("tidy.py", *BOARD, given=bare, status=1)[1].decode()
+    if "row 2: rate '6.000' has no percent sign" not in log:
+        raise AssertionError(log)
+    same((BOARDED, b""), tool("tidy.py", *BOARD, "--rates", "percent", given=bare))
+    lines = bare.replace(b"6.000", b"6000").replace(b"6.875", b"6875").replace(b"0.250,", b"250,").replace(b"0.25,", b"250,")
+    same((BOARDED, b""), tool("tidy.py", *BOARD, "--rates", "lines", given=lines))
+    for old, new, reason in ((b"6.000%", b"6.0625%", "more than 3 digits"), (b"1/1/2024", b"1/15/2024", "not the first day"),
+                             (b"Scheduled", b"Mixed", "is none of AA, SA, SS"), (b",360,", b",360.0,", "no whole number")):
+        log = tool("tidy.py", *BOARD, given=LOANS.encode().replace(old, new, 1), status=1)[1].decode()
+        if reason not in log:
+            raise AssertionError(log)
+
+
+@case("tidy: the quarter's files are as they were")
+def quarters_files(room):
+    for name in ("03-january.csv", "05-february.csv", "11-march.csv"):
+        data = read(EXAMPLES, "quarter", name)
+        plain = data.replace(b'"', b"").replace(b"\r\n", b"\n").removeprefix(b"\xef\xbb\xbf")
+        same((plain, b""), tool("tidy.py", given=data), name)
+
+
+if __name__ == "__main__":
+    sys.exit(run_all(sys.argv[1:]))
