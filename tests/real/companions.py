@@ -165,5 +165,101 @@ def quarters_files(room):
         same((plain, b""), tool("tidy.py", given=data), name)
 
 
+# pair.py
+
+LATE_FILE = b"""\
+row 2  p-0110-106  pay 106 2024-01-10 1939.29      ok 37
+row 3  p-0112-105  curtail 105 2024-01-12 2000.00  ok 38
+row 4  p-0112-107  pay 107 2024-01-12 500.00       no 5 NoSuchLoan
+       no loan has that number; look at the number; board the loan first
+row 5  p-0112-1O5  pay 1O5 2024-01-12 500.00       bad row 5 column 3
+       the field loan does not fit
+4 sent: 2 ok, 0 answered, 1 refused, 1 bad, 0 without a reply
+"""
+
+
+def paired(room, word, sent, replies, *words, status=0):
+    """What pair.py writes of an input and its replies."""
+    write(sent, room, "sent")
+    write(replies, room, "replies")
+    return tool("pair.py", word, f"{room}/sent", f"{room}/replies", *words, status=status)
+
+
+@case("pair: the quarter's late file has a row that was refused and one that is bad, and its month has none")
+def late_file(room):
+    folder = os.path.join(EXAMPLES, "quarter")
+    sent, replies = read(folder, "07-late-file.csv"), read(folder, "07-late-file.txt")
+    same((LATE_FILE, b""), paired(room, "import", sent, replies, status=1))
+    out = paired(room, "import", sent, replies, "--csv", status=1)[0].splitlines()
+    same([b"place,key,sent,reply,meaning", b"row 2,p-0110-106,pay 106 2024-01-10 1939.29,ok 37,"], out[:2])
+    sent, replies = read(folder, "04-february.lines"), read(folder, "04-february.txt")
+    out = paired(room, "apply", sent, replies)[0].splitlines()
+    same(b"6 sent: 3 ok, 3 answered, 0 refused, 0 bad, 0 without a reply", out[-1])
+    same(b"line 5 ? rows 27 rows 27 count 7 .. and 8 lines", b" ".join(out[4].split()))
+
+
+# Lines, and the replies that docs/FORMATS.md and docs/REFUSALS.md give, with what is said of each.
+TOLD = [
+    ("k1 day 2024-02-01", "ok 1", None),
+    ("k2 board 1 2024-02-01 1.00 1 1 1.00 1 2024-03 1 1 1 0.00 SS", "no 6 BadTerms 4 Payment",
+     "the level payment: above the first month's interest, at most 100,000,000.00"),
+    ("? report 2024-02", "no 23 NotClosed -",
+     "the month has no report; close it first; before the first closed month there are none"),
+    ("k3 analyse 1 - spread:6 -", "no 18 BadPlan 4 TooFewMonths 6",
+     "a shortage over fewer than 12 months, a deficiency over fewer than 2; spread it longer"),
+    ("k3 line 1 1 tax 1 1 1.00", "no 2 Full Lines",
+     "the loan has 16 escrow lines; `drop` one that has ended, or set the line under the number of one"),
+    ("", "bad 0", "a word is missing at the end"),
+    ("k1", "bad 2", "a word is missing at the end"),
+    ("k1  day 2024-02-01", "bad 3", "there is a space too many"),
+    ("k1 pay 01 2024-02-01 1.00", "bad 7", "the word '01' does not fit"),
+    ("k1 pay 1 2024-02-01", "bad 19", "a word is missing at the end"),
+    ("k3 pay 1 2024-02-01 5.00\r", "bad 20", "the word '5.00\\r' does not fit"),
+    ("x" * 513, "bad 512", "the line is longer than 512 bytes"),
+]
+
+
+@case("pair: refusals and faults of lines in words, over all that docs/REFUSALS.md shows")
+def in_words(room):
+    lines, replies = ("".join(it[at] + "\n" for it in TOLD).encode() for at in (0, 1))
+    out = paired(room, "apply", lines, replies, status=1)[0].decode().splitlines()
+    wanted = [it for row in TOLD for it in (row[1], row[2]) if it]
+    got = [it[-len(wanted[at]):] for at, it in enumerate(out[:-1])]
+    same(wanted, got)
+    same("12 sent: 1 ok, 0 answered, 4 refused, 7 bad, 0 without a reply", out[-1])
+    for name in ("refusals", "full"):
+        folder = os.path.join(EXAMPLES, "refusals")
+        paired(room, "apply", read(folder, name + ".lines"), read(folder, name + ".txt"), status=1)
+
+
+@case("pair: a run that ended early, replies of another input, and an input without the header")
+def not_whole(room):
+    sent = b"a day 2024-02-01\n? trial 2024-01\nb day 2024-02-02"
+    whole = b"ok 1\ntrial 2024-01 loans 0\ntotal upb 0.00 balance 0.00\nend\nok 2\n"
+    same(b"3 sent: 2 ok, 1 answered, 0 refused, 0 bad, 0 without a reply",
+         paired(room, "apply", sent, whole)[0].splitlines()[-1])
+    for length, count in ((len(whole) - 1, 1), (len(whole) - 6, 2), (5, 2), (0, 3)):
+        out = paired(room, "apply", sent, whole[:length], status=1)[0].splitlines()
+        same(f"{count} without a reply", out[-1].decode().split(", ")[-1], length)
+    for replies in (whole + b"ok 3\n", b"ok 1\nok 2\nok 3\n", b"ok 1\nreport 2024-01 lines 0\nend\nok 2\n"):
+        same(b"", paired(room, "apply", sent, replies, status=2)[0])
+    head = b"\xef\xbb\xbfkey,do,loan,day,amount,line\r\n"
+    same(b"row 2", paired(room, "import", head + b"\r\na,pay,1,2024-02-01,1.00,\r\n", b"ok 2\n")[0][:5])
+    same(b"", paired(room, "import", head + b"a,pay,1,2024-02-01,1,\n", b"bad row 3 column 5\n", status=2)[0])
+    out = paired(room, "import", head[:-4] + b"x\na,pay,1,2024-02-01,1.00,\n", b"bad row 1 column 1\n", status=1)[0]
+    same(b"the first row is not key,do,loan,day,amount,line", out.splitlines()[1].strip())
+
+
+@case("pair: a bank's sheet is tidied, imported and paired, and twice the same")
+def three_commands(room):
+    path, sheet = quarter(room), SHEETS[0][0].encode()
+    rows = tool("tidy.py", "--set", "do=pay", given=sheet)[0].replace(b"2024-12-31", b"2024-02-30")
+    for _ in range(2):
+        replies = run(path, "import", given=rows)[1]
+        same(b"ok 63\nbad row 3 column 4\nok 64\n", replies)
+        out = paired(room, "import", rows, replies, status=1)[0].splitlines()
+        same(b"3 sent: 2 ok, 0 answered, 0 refused, 1 bad, 0 without a reply", out[-1])
+
+
 if __name__ == "__main__":
     sys.exit(run_all(sys.argv[1:]))
