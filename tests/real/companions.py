@@ -12,8 +12,11 @@ import subprocess
 import sys
 
 from harness import TOP, Skipped, case, read, run, run_all, same, write
-sys.path.insert(0, os.path.join(TOP, "tools"))
+sys.path[:0] = [os.path.join(TOP, "tools"), os.path.join(TOP, "bench")]
+import generate  # noqa: E402
+import reckon  # noqa: E402
 import tidy  # noqa: E402
+import verify  # noqa: E402
 
 EXAMPLES = os.path.join(TOP, "examples")
 
@@ -259,6 +262,106 @@ def three_commands(room):
         same(b"ok 63\nbad row 3 column 4\nok 64\n", replies)
         out = paired(room, "import", rows, replies, status=1)[0].splitlines()
         same(b"3 sent: 2 ok, 0 answered, 0 refused, 1 bad, 0 without a reply", out[-1])
+
+
+# verify.py: journals by the hex of docs/JOURNAL.md
+
+LINE = b"k1 day 2024-02-01"
+HEX_2 = bytes.fromhex("4d5352564a303032 01 00000001 0011 6b312064617920323032342d30322d3031 00")
+HEX_1 = bytes.fromhex("4d5352564a303031 01 0011 6b312064617920323032342d30322d3031 00")
+NEXT = bytes.fromhex("00000002 0011") + b"k2 day 2024-02-02" + b"\0"
+SECOND = HEX_2[:-1] + b"\1" + NEXT
+
+# Files, the lines of their records, and what is said of what stands behind them.
+FILES = [
+    (HEX_2, 2, [LINE], ""),
+    (HEX_1, 1, [LINE], ""),
+    (b"MSRVJ002\0", 2, [], ""),
+    (b"MSRVJ001\0", 1, [], ""),
+    (HEX_1[:-1] + b"\2" + HEX_2, 2, [LINE], ""),
+    (HEX_1[:-1] + b"\1" + HEX_2, 2, [LINE], ""),
+    (HEX_1[:-1] + b"\0" + HEX_2, 1, [LINE], "behind the end 33 bytes: an upgrade that was not finished"),
+    (HEX_2 + b"any bytes", 2, [LINE], "behind the end 9 bytes, none of them a record"),
+    (HEX_2 + NEXT, 2, [LINE], "WARNING behind the end 24 bytes with 1 well-formed records: a command that was being"),
+    (HEX_2[:-1] + b"\7" + NEXT, 2, [LINE], "WARNING behind the end 24 bytes with 1 well-formed records: a command"),
+    (HEX_1 + HEX_1[9:], 1, [LINE], "WARNING behind the end 20 bytes with 1 well-formed records: a command that was"),
+    (b"MSRVJ002\0" + SECOND[9:], 2, [], "WARNING behind the end 48 bytes with 2 well-formed records: the commit byte at"),
+    (HEX_2 + NEXT.replace(b"\2", b"\3"), 2, [LINE], "behind the end 24 bytes, none of them a record"),
+]
+
+
+@case(f"verify: {len(FILES)} journals of both versions and what stands behind their ends")
+def journals(room):
+    for data, version, lines, rest in FILES:
+        got = verify.read_journal(data)
+        same((version, lines), (got.version, got.lines), data)
+        same(lines, reckon.lines_of_journal(data), data)
+        said = list(verify.described("a", data, got))
+        same(rest, "".join(said[4:])[:len(rest)], data)
+        same(1 if rest else 0, len(said[4:]), data)
+    write(SECOND, room, "a")
+    wanted = (b"journal %b/a\nversion 2 records 2 length 57\ncommands day 2\nlast key k2\n" % room.encode())
+    same((wanted, b""), tool("verify.py", f"{room}/a"))
+    same((b"1 k1 day 2024-02-01\n2 k2 day 2024-02-02\n", b""), tool("verify.py", "--lines", f"{room}/a"))
+    tool("verify.py", f"{room}/none", status=2)
+
+
+@case("verify: a journal cut at each length, or with a number or length changed, is damaged where the program says")
+def damage(room):
+    path = os.path.join(room, "cut")
+    files = [SECOND[:length] for length in range(8, len(SECOND))]
+    files += [SECOND[:at] + b"\3" + SECOND[at + 1:] for at in (9, 12, 13, 14, 33, 36, 37, 38)]
+    for data in files:
+        try:
+            verify.check_lines(verify.read_journal(data))
+            places = ""
+        except verify.Damaged as why:
+            places = str(why).split(":")[0]
+        write(data, path)
+        status, _, log = run(path, "custodial")
+        same(b"status 8 Damaged %b" % places.encode() if places else b"", log.strip(), data)
+        same(8 if places else 0, status, data)
+    for data in (b"", b"MSRVJ00", b"MSRVJ003\0"):
+        write(data, path)
+        same(6, run(path, "custodial")[0], data)
+        out = tool("verify.py", path, status=1)[0]
+        same(b"WARNING %b is damaged at 0: the header is that of no journal\n" % path.encode(), out)
+    for line in (b"k1 day 2024-02-02", b"k2 dey 2024-02-02", b"k! day 2024-02-02"):
+        data = SECOND.replace(b"k2 day 2024-02-02", line)
+        write(data, path)
+        same(b"status 8 Damaged 32", run(path, "custodial")[2].strip(), line)
+        if not tool("verify.py", path, status=1)[0].startswith(b"WARNING %b is damaged at 32: " % path.encode()):
+            raise AssertionError(line)
+
+
+# The lines of a journal and of a backup, the status, and what is said of them.
+PAIRS = [
+    ("ab", "ab", 0, "the backup has all commands"),
+    ("abc", "a", 0, "the backup is 2 commands behind, from 2, key b, on"),
+    ("a", "", 0, "the backup is 1 commands behind, from 1, key a, on"),
+    ("a", "abc", 1, "WARNING the backup has 2 commands that the journal lacks, from 2 on"),
+    ("abc", "axc", 1, "WARNING the files differ from command 2 on"),
+]
+
+
+@case("verify: a backup is behind its journal, has all of it, has more, or is another")
+def backups(room):
+    for ours, theirs, status, wanted in PAIRS:
+        for name, keys in (("a", ours), ("b", theirs)):
+            lines = [f"{key} day 2024-02-01" for key in keys]
+            write(generate.journal_of(lines), room, name)
+        out = tool("verify.py", f"{room}/a", f"{room}/b", status=status)[0].decode()
+        same(wanted, out.splitlines()[-1])
+
+
+@case("verify: the quarter's journal has its commands, as reckon.py reads them")
+def quarters_journal(room):
+    path = quarter(room)
+    data = read(path)
+    listed = [f"{number} {line.decode()}" for number, line in enumerate(reckon.lines_of_journal(data), 1)]
+    same("\n".join(listed) + "\n", tool("verify.py", "--lines", path)[0].decode())
+    out = tool("verify.py", path)[0].decode().splitlines()
+    same([f"version 2 records 62 length {len(data)}", "last key r-2024-03"], [out[1], out[3]])
 
 
 if __name__ == "__main__":
