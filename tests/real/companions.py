@@ -6,7 +6,10 @@
 Standard library alone; LibreOffice, hledger, ledger, beancount and matplotlib where they are installed.
 `JAQHENDULU` names another program than the one that `rt` built. Prints a line a case and `N passed, M failed`.
 """
+import collections
+import csv
 import os
+import re
 import shutil
 import subprocess
 import sys
@@ -362,6 +365,113 @@ def quarters_journal(room):
     same("\n".join(listed) + "\n", tool("verify.py", "--lines", path)[0].decode())
     out = tool("verify.py", path)[0].decode().splitlines()
     same([f"version 2 records 62 length {len(data)}", "last key r-2024-03"], [out[1], out[3]])
+
+
+# ledger.py
+
+def kept_in_ledger(room, path, *words):
+    """The text that ledger.py makes of a journal, with its custodial line."""
+    listed = tool("verify.py", "--lines", path)[0]
+    asked = "".join(f"? rows {it.split()[0]}\n" for it in listed.decode().splitlines()).encode()
+    files = {"commands": listed, "rows": run(path, "apply", given=asked)[1], "custodial": run(path, "custodial")[1]}
+    for name, data in files.items():
+        write(data, room, name)
+    return tool("ledger.py", *words, "--custodial", f"{room}/custodial", f"{room}/commands", f"{room}/rows")[0].decode()
+
+
+def cents_of(text):
+    """The sum of the postings of each account, assertions left out; each transaction's is 0."""
+    sums = collections.Counter()
+    for transaction in text.split("\n\n"):
+        found = re.findall(r"^ +(\w\S*)  (-?)([0-9]+)\.([0-9]{2}) USD", transaction, re.M)
+        values = [(name, int(sign + whole + cents)) for name, sign, whole, cents in found]
+        same(0, sum(it for _, it in values), transaction)
+        for name, value in values:
+            sums[name] += value
+    return sums
+
+
+def checked(room, text, wanted):
+    """Passes a text through hledger, compares its balances of accounts, and sees that another one of T is refused."""
+    path = os.path.join(room, "books.ledger")
+    write(text.encode(), path)
+    without_tool("hledger")
+    subprocess.run(["hledger", "-f", path, "check", "-s", "ordereddates"], check=True, capture_output=True)
+    out = subprocess.run(["hledger", "-f", path, "balance", "--flat", "-E", "-N", "-O", "csv"], check=True,
+                         capture_output=True, env={**os.environ, "LC_ALL": "C.UTF-8"}).stdout.decode()
+    got = {name: amount.removesuffix(" USD") for name, amount in csv.reader(out.splitlines())}
+    for name, cents in wanted.items():
+        amount = f"{'-' * (cents < 0)}{abs(cents) // 100}.{abs(cents) % 100:02}"
+        same(amount if cents else "0", got[name], name)
+    write(re.sub(r"(Custodial:T  0.00 USD = )[0-9.]+", r"\g<1>0.01", text).encode(), path)
+    same(1, subprocess.run(["hledger", "-f", path, "check"], capture_output=True).returncode, "another T")
+
+
+# What examples/README.md says of the quarter's end.
+QUARTER = {"Assets:Custodial:T": 148000, "Assets:Custodial:P": 0, "Equity:Servicer:EscrowAdvance": -10000,
+           "Equity:Servicer:PiAdvance": 0}
+COMMAND_40 = """\
+2024-02-14 (40) back-102
+    ; reverse 102 21
+    Equity:Borrower:Returned  1235.39 USD  ; loan: 102
+    Assets:Custodial:T  -1235.39 USD  ; loan: 102
+    Assets:Custodial:P  -985.39 USD  ; loan: 102
+    Assets:Custodial:T  985.39 USD  ; loan: 102
+    Equity:Servicer:Fee  -31.22 USD  ; loan: 102
+    Assets:Custodial:P  31.22 USD  ; loan: 102
+"""
+
+
+def year(room):
+    """The path of a journal of 500 loans and a year, at whose end escrow has 5,000.00 less a bill of 250.00."""
+    lines = [*generate.year(500, 12, 1), "l1 line 1 1 tax 7 12 500.00"]
+    lines += [f"e{loan} deposit {loan} 2025-01-01 100.00" for loan in range(1, 51)]
+    lines.append("u1 disburse 1 2025-01-01 250.00 1")
+    write(generate.journal_of(lines), room, "books.journal")
+    return os.path.join(room, "books.journal")
+
+
+@case("ledger: the quarter's transactions add up to T 1480.00 and P 0.00, and hledger checks them")
+def quarter_in_ledger(room):
+    text = kept_in_ledger(room, quarter(room))
+    if COMMAND_40 not in text:
+        raise AssertionError("command 40 is another")
+    sums = cents_of(text)
+    same(QUARTER, {name: sums[name] for name in QUARTER})
+    checked(room, text, QUARTER)
+
+
+@case("ledger: a year of 500 loans adds up to the custodial line, and hledger checks it")
+def year_in_ledger(room):
+    path = year(room)
+    text = kept_in_ledger(room, path)
+    said = run(path, "custodial")[1].decode().split()
+    held, advanced = (int(said[said.index(name) + 1].replace(".", "")) for name in ("P", "pi-advance"))
+    # Loan 1 is 150.00 below zero, which the servicer advances.
+    wanted = {"Assets:Custodial:T": 475000 + 15000, "Equity:Servicer:EscrowAdvance": -15000,
+              "Assets:Custodial:P": held, "Equity:Servicer:PiAdvance": -advanced}
+    sums = cents_of(text)
+    same(wanted, {name: sums[name] for name in wanted})
+    checked(room, text, wanted)
+
+
+@case("ledger: ledger and beancount accept the quarter, of an investor with a name; an input that is not whole is refused")
+def other_ledgers(room):
+    path = quarter(room)
+    text = kept_in_ledger(room, path, "--investor", "Fund-7")
+    same(148000, cents_of(text)["Assets:Custodial:Fund-7:T"])
+    rows = read(room, "rows")
+    for data in (rows[:-5], rows[rows.index(b"rows 2 "):], rows.replace(b"count 7", b"count 8"), rows + b"rows 63 count 0\nend\n",
+                 rows.replace(b"rows 1 count 0\nend", b"no 13 NoSuchEntry")):
+        write(data, room, "cut")
+        same(b"", tool("ledger.py", f"{room}/commands", f"{room}/cut", status=1)[0])
+    tool("ledger.py", "--investor", "a b", f"{room}/commands", f"{room}/rows", status=2)
+    write(text.encode(), room, "books.ledger")
+    write(kept_in_ledger(room, path, "--beancount").encode(), room, "books.beancount")
+    for words in (["ledger", "-f", f"{room}/books.ledger", "balance"], ["bean-check", f"{room}/books.beancount"]):
+        without_tool(words[0])
+        ran = subprocess.run(words, capture_output=True)
+        same((0, b""), (ran.returncode, ran.stderr), words)
 
 
 if __name__ == "__main__":
