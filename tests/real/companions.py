@@ -18,6 +18,7 @@ from harness import TOP, Skipped, case, read, run, run_all, same, write
 sys.path[:0] = [os.path.join(TOP, "tools"), os.path.join(TOP, "bench")]
 import generate  # noqa: E402
 import reckon  # noqa: E402
+import sheets  # noqa: E402
 import tidy  # noqa: E402
 import verify  # noqa: E402
 
@@ -472,6 +473,57 @@ def other_ledgers(room):
         without_tool(words[0])
         ran = subprocess.run(words, capture_output=True)
         same((0, b""), (ran.returncode, ran.stderr), words)
+
+
+# sheets.py
+
+# Texts of docs/FORMATS.md, and their sheets.
+TEXTS = [
+    ("report 2024-04 lines 1\nline 1 due 0.00 0.00 adjusted 957.37 200.10 upb 199600.80 balance 199600.80\n"
+     "adjust 13 1 2024-03 957.37 200.10\ntotal interest 957.37 principal 200.10\nend\n", None,
+     "month,loan,interest due,principal due,interest adjusted,principal adjusted,balance,investor balance\n"
+     "2024-04,1,0.00,0.00,957.37,200.10,199600.80,199600.80\n"),
+    ("report 2024-04 lines 0\nadjust 13 1 2024-03 957.37 -200.10\ntotal interest 957.37 principal 200.10\nend\n", "adjust",
+     "month,command,loan,of month,interest,principal\n2024-04,13,1,2024-03,957.37,-200.10\n"),
+    ("trial 2024-03 loans 0\nend\ntrial 2024-04 loans 1\nloan 1 upb 199600.80 balance 199600.80\n"
+     "total upb 199600.80 balance 199600.80\nend\n", None,
+     "month,loan,balance,investor balance\n2024-04,1,199600.80,199600.80\n"),
+    ("statement 2024-07-01 loans 1\nloan 2 upb 200000.00 next 2024-07 escrow 100.00 suspense 0.00 late 0.00 "
+     "escrow-advance 0.00 held 0.00 pi-advance 0.00\ntotal T 100.00 P 0.00\nend\n", None,
+     "day,loan,balance,next,escrow,suspense,late,escrow advance,held,pi advance\n"
+     "2024-07-01,2,200000.00,2024-07,100.00,0.00,0.00,0.00,0.00,0.00\n"),
+    ("rows 13 count 2\nrow 1 Received Borrower T 1199.10\nrow 1 PiAdvance Servicer P -1157.47\nend\n", None,
+     "command,loan,part,from,to,amount\n13,1,Received,Borrower,T,1199.10\n13,1,PiAdvance,Servicer,P,-1157.47\n"),
+    ("books 1 2024-02-01 upb 0.00 next - escrow 0.00 suspense -0.01 late 0.00 interest 1000.00 fee 41.67 "
+     "principal 199.10 charges 0.00 pay 1199.10\n" * 2, None,
+     "loan,day,balance,next,escrow,suspense,late,interest,fee,principal,charges,pay\n"
+     + "1,2024-02-01,0.00,-,0.00,-0.01,0.00,1000.00,41.67,199.10,0.00,1199.10\n" * 2),
+    ("custodial T 0.00 P 1.00 suspense 2.00 escrow 3.00 escrow-advance 4.00 held 5.00 pi-advance 1157.47\n", None,
+     "T,P,suspense,escrow,escrow advance,held,pi advance\n0.00,1.00,2.00,3.00,4.00,5.00,1157.47\n"),
+]
+
+
+@case("sheets: texts of docs/FORMATS.md as sheets; texts that are not whole, mixed or none are refused")
+def sheets_of_texts(room):
+    for text, of, wanted in TEXTS:
+        rows = sheets.sheet(text, of)
+        same(wanted, "".join(",".join(it) + "\n" for it in rows), text)
+    for text in (TEXTS[0][0][:-4], TEXTS[4][0].replace("count 2", "count 3"), TEXTS[5][0][:-9], TEXTS[2][0] + "end\n"):
+        same(b"", tool("sheets.py", given=text.encode(), status=1)[0])
+    for text in (b"", b"no 5 NoSuchLoan\n", (TEXTS[2][0] + TEXTS[0][0]).encode(), b"trial 2024-04 loans 1\nend\n"):
+        same(b"", tool("sheets.py", given=text, status=1)[0])
+    tool("sheets.py", "--of", "row", given=TEXTS[2][0].encode(), status=1)
+
+
+@case("sheets: report, trial, statement, rows, books and custodial of the quarter as the program writes them")
+def sheets_of_quarter(room):
+    path = quarter(room)
+    for words, rows in (("report 2024-03", 6), ("trial 2024-03", 6), ("statement", 6), ("custodial", 1)):
+        out = tool("sheets.py", given=run(path, *words.split())[1])[0]
+        same(rows + 1, len(out.splitlines()), words)
+    for line, rows in (("? rows 40", 3), ("? books 106", 1), ("? escrow 106", 12), ("? payoff 101 2024-04-01", 1)):
+        out = tool("sheets.py", given=run(path, "apply", given=line.encode())[1])[0]
+        same(rows + 1, len(out.splitlines()), line)
 
 
 if __name__ == "__main__":
