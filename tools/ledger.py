@@ -77,7 +77,8 @@ def joined(commands, rows):
 
 def balances_of(text, names):
     """What the custodial line says of the accounts that are asserted."""
-    found = re.match(rf"custodial T ({AMOUNT}) P ({AMOUNT}) .*escrow-advance ({AMOUNT}) .*pi-advance ({AMOUNT})\n", text)
+    form = rf"custodial T ({AMOUNT}) P ({AMOUNT}) .*escrow-advance ({AMOUNT}) .*pi-advance ({AMOUNT})\n"
+    found = re.fullmatch(form, text)
     if not found:
         raise NotWhole("custodial: the text is no custodial line")
     return [(names.account("T", ""), found[1]), (names.account("P", ""), found[2]),

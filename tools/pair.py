@@ -16,7 +16,7 @@ import os
 import re
 import sys
 
-REFUSALS = os.path.join(os.path.dirname(os.path.dirname(os.path.abspath(__file__))), "docs", "REFUSALS.md")
+REFUSALS = os.path.join(os.path.dirname(os.path.dirname(os.path.realpath(__file__))), "docs", "REFUSALS.md")
 HEADER = ["key", "do", "loan", "day", "amount", "line"]
 # The queries whose reply goes on to a line `end`.
 LONG = ["report", "trial", "rows", "escrow", "loan", "history", "aging", "command", "key"]

@@ -125,7 +125,7 @@ def words_of(arguments):
     """What the command line says."""
     listed = "".join(f"    {kind:10} {', '.join(forms) or '(one line)'}\n" for kind, (_, forms) in KINDS.items())
     it = argparse.ArgumentParser(description=__doc__ % listed, formatter_class=argparse.RawDescriptionHelpFormatter)
-    it.add_argument("--of", metavar="WORD", help="which lines of the texts; if nothing is said, the first of their kind")
+    it.add_argument("--of", metavar="WORD", help="which lines of the texts, if not the first of their kind")
     it.add_argument("--separator", choices=["comma", "semicolon"], default="comma")
     return it.parse_args(arguments)
 

@@ -19,8 +19,8 @@ import struct
 import sys
 
 VERSION_1, VERSION_2 = b"MSRVJ001", b"MSRVJ002"
-WORDS = ["day", "board", "pay", "curtail", "payoff", "deposit", "disburse", "refund", "waive", "reverse", "line", "drop",
-         "analyse", "close", "remit", "retype"]
+WORDS = ["day", "board", "pay", "curtail", "payoff", "deposit", "disburse", "refund", "waive", "reverse", "line",
+         "drop", "analyse", "close", "remit", "retype"]
 # The version of the records, their lines and places, the place of the commit byte that ends them, the file's size.
 Journal = collections.namedtuple("Journal", "version lines places end size")
 

@@ -17,6 +17,7 @@ import sys
 from harness import TOP, Skipped, case, read, run, run_all, same, write
 sys.path[:0] = [os.path.join(TOP, "tools"), os.path.join(TOP, "bench")]
 import generate  # noqa: E402
+import plot  # noqa: E402
 import reckon  # noqa: E402
 import sheets  # noqa: E402
 import tidy  # noqa: E402
@@ -56,10 +57,11 @@ def quarter(room):
 PAYMENTS = (b"key,do,loan,day,amount,line\nT1,pay,101,2024-02-01,1199.10,\nT2,pay,102,2024-12-31,1200.00,\n"
             b"T3,pay,103,2024-02-29,500.50,\n")
 SHEETS = [
-    ("Trace;Loan;Date;Amount\r\nT1;101;2024-02-01;1199.1\r\nT2;102;2024-12-31;1,200.00\r\nT3;103;2024-02-29;$500.50\r\n",
+    ("Trace;Loan;Date;Amount\r\nT1;101;2024-02-01;1199.1\r\nT2;102;2024-12-31;1,200.00\r\n"
+     "T3;103;2024-02-29;$500.50\r\n",
      "--set do=pay"),
-    ("Amount\tLOAN NUMBER\tNote\tEffective Date\tkey\n$1,199.10\t101\ta, b\t2/1/2024\tT1\n1200.0\t102\t\t12/31/2024\tT2\n"
-     "500.5\t103\t\t02/29/2024\tT3", "--set do=pay --dates mdy"),
+    ("Amount\tLOAN NUMBER\tNote\tEffective Date\tkey\n$1,199.10\t101\ta, b\t2/1/2024\tT1\n"
+     "1200.0\t102\t\t12/31/2024\tT2\n500.5\t103\t\t02/29/2024\tT3", "--set do=pay --dates mdy"),
     ("\ufeffloan,day,amount,key,do\n101,1.2.2024,\"1,199.10\",T1,Wire\n,,,,\n\n102,31.12.2024,\"$1,200.00\",T2,pay\n"
      "0103,29.02.2024,$ 500.50,T3,WIRE\n", "--dates dmy --word wire=pay"),
     ("Sum,Loan,Date,Id,line\n1199.10,101,2024/2/1,T1,\n1200,102,2024/12/31,T2,\n500.50,103,2024-02-29,T3,\n",
@@ -135,7 +137,8 @@ def headers(room):
         tool("tidy.py", *words.split(), status=2)
 
 
-LOANS = ("Loan,Boarding Date,Unpaid Principal,Note Rate,Servicing Fee,P&I,Term,First Due,Escrow Payment,Investor's Type\n"
+LOANS = ("Loan,Boarding Date,Unpaid Principal,Note Rate,Servicing Fee,P&I,Term,First Due,Escrow Payment,"
+         "Investor's Type\n"
          "101,12/15/2023,\"$200,000.00\",6.000%,0.25%,1199.1,360,1/1/2024,0.00,Scheduled\n"
          "102,12/15/2023,\"150,000.00\",6.875 %,0.250%,985.39,360,2024-01,250.00,AA\n")
 BOARDED = (b"b-101 board 101 2023-12-15 200000.00 6000 250 1199.10 360 2024-01 15 500 2 0.00 SS\n"
@@ -155,10 +158,12 @@ def boarding(room):
     if "row 2: rate '6.000' has no percent sign" not in log:
         raise AssertionError(log)
     same((BOARDED, b""), tool("tidy.py", *BOARD, "--rates", "percent", given=bare))
-    lines = bare.replace(b"6.000", b"6000").replace(b"6.875", b"6875").replace(b"0.250,", b"250,").replace(b"0.25,", b"250,")
+    lines = bare
+    for old, new in ((b"6.000", b"6000"), (b"6.875", b"6875"), (b"0.250,", b"250,"), (b"0.25,", b"250,")):
+        lines = lines.replace(old, new)
     same((BOARDED, b""), tool("tidy.py", *BOARD, "--rates", "lines", given=lines))
-    for old, new, reason in ((b"6.000%", b"6.0625%", "more than 3 digits"), (b"1/1/2024", b"1/15/2024", "not the first day"),
-                             (b"Scheduled", b"Mixed", "is none of AA, SA, SS"), (b",360,", b",360.0,", "no whole number")):
+    for old, new, reason in ((b"6.000%", b"6.0625%", "more than 3 digits"), (b",360,", b",360.0,", "no whole number"),
+                             (b"1/1/2024", b"1/15/2024", "not the first day"), (b"Scheduled", b"Mixed", "is none of")):
         log = tool("tidy.py", *BOARD, given=LOANS.encode().replace(old, new, 1), status=1)[1].decode()
         if reason not in log:
             raise AssertionError(log)
@@ -289,7 +294,7 @@ FILES = [
     (HEX_2 + NEXT, 2, [LINE], "WARNING behind the end 24 bytes with 1 well-formed records: a command that was being"),
     (HEX_2[:-1] + b"\7" + NEXT, 2, [LINE], "WARNING behind the end 24 bytes with 1 well-formed records: a command"),
     (HEX_1 + HEX_1[9:], 1, [LINE], "WARNING behind the end 20 bytes with 1 well-formed records: a command that was"),
-    (b"MSRVJ002\0" + SECOND[9:], 2, [], "WARNING behind the end 48 bytes with 2 well-formed records: the commit byte at"),
+    (b"MSRVJ002\0" + SECOND[9:], 2, [], "WARNING behind the end 48 bytes with 2 well-formed records: the commit byte"),
     (HEX_2 + NEXT.replace(b"\2", b"\3"), 2, [LINE], "behind the end 24 bytes, none of them a record"),
 ]
 
@@ -456,14 +461,14 @@ def year_in_ledger(room):
     checked(room, text, wanted)
 
 
-@case("ledger: ledger and beancount accept the quarter, of an investor with a name; an input that is not whole is refused")
+@case("ledger: ledger and beancount accept the quarter with an investor's name; an input that is not whole is refused")
 def other_ledgers(room):
     path = quarter(room)
     text = kept_in_ledger(room, path, "--investor", "Fund-7")
     same(148000, cents_of(text)["Assets:Custodial:Fund-7:T"])
     rows = read(room, "rows")
-    for data in (rows[:-5], rows[rows.index(b"rows 2 "):], rows.replace(b"count 7", b"count 8"), rows + b"rows 63 count 0\nend\n",
-                 rows.replace(b"rows 1 count 0\nend", b"no 13 NoSuchEntry")):
+    for data in (rows[:-5], rows[rows.index(b"rows 2 "):], rows.replace(b"count 7", b"count 8"),
+                 rows + b"rows 63 count 0\nend\n", rows.replace(b"rows 1 count 0\nend", b"no 13 NoSuchEntry")):
         write(data, room, "cut")
         same(b"", tool("ledger.py", f"{room}/commands", f"{room}/cut", status=1)[0])
     tool("ledger.py", "--investor", "a b", f"{room}/commands", f"{room}/rows", status=2)
@@ -483,8 +488,8 @@ TEXTS = [
      "adjust 13 1 2024-03 957.37 200.10\ntotal interest 957.37 principal 200.10\nend\n", None,
      "month,loan,interest due,principal due,interest adjusted,principal adjusted,balance,investor balance\n"
      "2024-04,1,0.00,0.00,957.37,200.10,199600.80,199600.80\n"),
-    ("report 2024-04 lines 0\nadjust 13 1 2024-03 957.37 -200.10\ntotal interest 957.37 principal 200.10\nend\n", "adjust",
-     "month,command,loan,of month,interest,principal\n2024-04,13,1,2024-03,957.37,-200.10\n"),
+    ("report 2024-04 lines 0\nadjust 13 1 2024-03 957.37 -200.10\ntotal interest 957.37 principal 200.10\nend\n",
+     "adjust", "month,command,loan,of month,interest,principal\n2024-04,13,1,2024-03,957.37,-200.10\n"),
     ("trial 2024-03 loans 0\nend\ntrial 2024-04 loans 1\nloan 1 upb 199600.80 balance 199600.80\n"
      "total upb 199600.80 balance 199600.80\nend\n", None,
      "month,loan,balance,investor balance\n2024-04,1,199600.80,199600.80\n"),
@@ -524,6 +529,37 @@ def sheets_of_quarter(room):
     for line, rows in (("? rows 40", 3), ("? books 106", 1), ("? escrow 106", 12), ("? payoff 101 2024-04-01", 1)):
         out = tool("sheets.py", given=run(path, "apply", given=line.encode())[1])[0]
         same(rows + 1, len(out.splitlines()), line)
+
+
+# plot.py
+
+TRIALS = ("trial 2023-12 loans 1\nloan 7 upb 200000.00 balance 200000.00\ntotal upb 200000.00 balance 200000.00\nend\n"
+          "trial 2024-01 loans 1\nloan 7 upb 199800.90 balance 199601.00\ntotal upb 199800.90 balance 199601.00\nend\n")
+
+
+@case("plot: balances by month from trials; texts that are not whole or not in a row are refused")
+def balances(room):
+    wanted = [("2023-12", 20000000, 20000000), ("2024-01", 19980090, 19960100)]
+    same(wanted, plot.balances_of(TRIALS))
+    same(wanted, plot.balances_of(TRIALS, "7"))
+    first = TRIALS[:TRIALS.index("trial 2024")]
+    for text, words in (("", []), (TRIALS[:-4], []), (TRIALS + "x", []), (first + first, []),
+                        ("no 23 NotClosed -\n", []), (TRIALS.replace("trial 2023-12", "report 2023-12"), []), (TRIALS, ["--loan", "8"])):
+        tool("plot.py", *words, f"{room}/a.png", given=text.encode(), status=1)
+    same([], os.listdir(room))
+
+
+@case("plot: the quarter's balances and a loan's are PNG files")
+def pictures(room):
+    python = next((it for it in (sys.executable, "/usr/bin/python3") if os.path.exists(it) and subprocess.run(
+        [it, "-c", "import matplotlib"], capture_output=True).returncode == 0), None)
+    if python is None:
+        raise Skipped("matplotlib is not installed")
+    path = quarter(room)
+    texts = b"".join(run(path, "trial", month)[1] for month in ("2023-12", "2024-01", "2024-02", "2024-03"))
+    for words in ([], ["--loan", "105"]):
+        subprocess.run([python, f"{TOP}/tools/plot.py", *words, f"{room}/a.png"], input=texts, check=True)
+        same(b"\x89PNG\r\n\x1a\n", read(room, "a.png")[:8])
 
 
 if __name__ == "__main__":
