@@ -77,14 +77,13 @@ def replies_of(items, replies):
 
 def fits(item, reply):
     """Whether a line may begin the reply to this item."""
-    if reply.startswith("bad row "):
-        return reply.startswith(f"bad {item.place} column ")
-    if item.query is not None:
-        answers = "command" if item.query == "key" else "books" if item.query == "at" else item.query
-        return bool(re.match(f"(no|bad|{re.escape(answers)}) ", reply))
     if reply.startswith("bad "):
-        return item.place.startswith("line ")
-    return bool(re.match("(ok|no) [0-9]", reply))
+        place = "[0-9]+" if item.place.startswith("line ") else f"{item.place} column [1-7]"
+        return bool(re.fullmatch(f"bad {place}", reply))
+    if item.query is None:
+        return bool(re.match("(ok|no) [0-9]", reply))
+    word = {"key": "command", "at": "books"}.get(item.query, item.query)
+    return reply.startswith((f"{word} ", "no "))
 
 
 # In words
@@ -198,7 +197,7 @@ def main():
         replies = read(asked.replies).decode("latin-1").split("\n")[:-1]
         meanings = meanings_of(read(asked.refusals).decode())
         rows = pair(items, replies, meanings)
-    except (OSError, Mismatch) as error:
+    except (OSError, csv.Error, Mismatch) as error:
         print(error, file=sys.stderr)
         return 2
     text, wrong = counted(rows)

@@ -543,8 +543,8 @@ def balances(room):
     same(wanted, plot.balances_of(TRIALS))
     same(wanted, plot.balances_of(TRIALS, "7"))
     first = TRIALS[:TRIALS.index("trial 2024")]
-    for text, words in (("", []), (TRIALS[:-4], []), (TRIALS + "x", []), (first + first, []),
-                        ("no 23 NotClosed -\n", []), (TRIALS.replace("trial 2023-12", "report 2023-12"), []), (TRIALS, ["--loan", "8"])):
+    for text, words in (("", []), (TRIALS[:-4], []), (TRIALS + "x", []), (first + first, []), (TRIALS, ["--loan", "8"]),
+                        ("no 23 NotClosed -\n", []), (TRIALS.replace("trial 2023-12", "report 2023-12"), [])):
         tool("plot.py", *words, f"{room}/a.png", given=text.encode(), status=1)
     same([], os.listdir(room))
 
