@@ -136,8 +136,8 @@ def as_beancount(commands, balances, names):
             text.append(f'{it.day} * "{it.said}"\n  number: "{it.number}"\n  key: "{it.key}"\n')
             text += [f'  {account}  {amount} USD\n    loan: "{loan}"\n' for account, amount, loan in names.postings(it)]
             text.append("\n")
-    # A balance of beancount is that of a day's beginning.
-    text += [f"{day_after(commands[-1].day)} balance {account}  {amount} USD\n" for account, amount in balances]
+    # A balance of beancount is that of a day's beginning, and would pass with a cent more or less.
+    text += [f"{day_after(commands[-1].day)} balance {account}  {amount} ~ 0.00 USD\n" for account, amount in balances]
     first = commands[0].day if commands else ""
     return "".join([*(f"{first} open {it} USD\n" for it in sorted(names.used)), "\n", *text])
 

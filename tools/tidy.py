@@ -81,22 +81,27 @@ def amount_of(text, whole=False):
     return f"{dollars}.{found[2]:0<2}"
 
 
+def parts_of(text, order):
+    """Year, month and day of a text in the order that was stated."""
+    parts = re.fullmatch(r"([0-9]{1,4})([/.-])([0-9]{1,2})\2([0-9]{1,4})", text)
+    if not parts:
+        raise Doubt("is no day")
+    if order is None:
+        raise Doubt("may be read in several orders: say --dates mdy, dmy or ymd")
+    values = [parts[1], parts[3], parts[4]]
+    year, month, day = (values[at] for at in ORDERS[order])
+    if len(year) not in (2, 4) or len(month) > 2 or len(day) > 2:
+        raise Doubt(f"is no day in the order {order}")
+    # Days are of the years 1990 to 2099, so 24 can be 2024 alone.
+    if len(year) == 2 and year >= "90":
+        raise Doubt(f"may be of 19{year} or 20{year}")
+    return int(year) if len(year) == 4 else 2000 + int(year), int(month), int(day)
+
+
 def day_of(text, order=None):
-    """A day, from 2024-02-01, or in the order that was stated from 2/1/2024, 2.1.2024 or 2-1-2024."""
+    """A day, from 2024-02-01, or in the order that was stated from 2/1/2024, 2.1.2024, 2-1-2024 or 2/1/24."""
     parts = re.fullmatch(r"([0-9]{4})-([0-9]{2})-([0-9]{2})", text)
-    if parts:
-        year, month, day = map(int, parts.groups())
-    else:
-        parts = re.fullmatch(r"([0-9]{1,4})([/.-])([0-9]{1,2})\2([0-9]{1,4})", text)
-        if not parts:
-            raise Doubt("is no day")
-        if order is None:
-            raise Doubt("may be read in several orders: say --dates mdy, dmy or ymd")
-        values = [parts[1], parts[3], parts[4]]
-        year, month, day = (values[at] for at in ORDERS[order])
-        if len(year) != 4 or len(month) > 2 or len(day) > 2:
-            raise Doubt(f"is no day in the order {order} with a year of four digits")
-        year, month, day = int(year), int(month), int(day)
+    year, month, day = map(int, parts.groups()) if parts else parts_of(text, order)
     try:
         found = datetime.date(year, month, day)
     except ValueError:

@@ -62,7 +62,7 @@ SHEETS = [
      "--set do=pay"),
     ("Amount\tLOAN NUMBER\tNote\tEffective Date\tkey\n$1,199.10\t101\ta, b\t2/1/2024\tT1\n"
      "1200.0\t102\t\t12/31/2024\tT2\n500.5\t103\t\t02/29/2024\tT3", "--set do=pay --dates mdy"),
-    ("\ufeffloan,day,amount,key,do\n101,1.2.2024,\"1,199.10\",T1,Wire\n,,,,\n\n102,31.12.2024,\"$1,200.00\",T2,pay\n"
+    ("\ufeffloan,day,amount,key,do\n101,1.2.24,\"1,199.10\",T1,Wire\n,,,,\n\n102,31.12.2024,\"$1,200.00\",T2,pay\n"
      "0103,29.02.2024,$ 500.50,T3,WIRE\n", "--dates dmy --word wire=pay"),
     ("Sum,Loan,Date,Id,line\n1199.10,101,2024/2/1,T1,\n1200,102,2024/12/31,T2,\n500.50,103,2024-02-29,T3,\n",
      "--set do=pay --dates ymd --whole --column amount=sum --column key=ID"),
@@ -86,7 +86,9 @@ DOUBTS = [
     ("T1,pay,101,2024-02-01,(5.00),", "", "amount '(5.00)' is below zero"),
     ("T1,pay,101,2024-02-01,,", "", "amount is empty"),
     ("T1,pay,101,2/1/2024,5.00,", "", "day '2/1/2024' may be read in several orders"),
-    ("T1,pay,101,2/1/24,5.00,", "--dates mdy", "day '2/1/24' is no day in the order mdy with a year of four digits"),
+    ("T1,pay,101,2/1/94,5.00,", "--dates mdy", "day '2/1/94' may be of 1994 or 2094"),
+    ("T1,pay,101,2/1/202,5.00,", "--dates mdy", "day '2/1/202' is no day in the order mdy"),
+    ("T1,pay,101,2/1/24,5.00,", "--dates ymd", "day '2/1/24' is no day in the order ymd"),
     ("T1,pay,101,31/1/2024,5.00,", "--dates mdy", "day '31/1/2024' is no day of the calendar in the order mdy"),
     ("T1,pay,101,2023-02-29,5.00,", "", "day '2023-02-29' is no day of the calendar"),
     ("T1,pay,101,1989-12-31,5.00,", "", "day '1989-12-31' is not of the years 1990 to 2099"),
@@ -175,6 +177,77 @@ def quarters_files(room):
         data = read(EXAMPLES, "quarter", name)
         plain = data.replace(b'"', b"").replace(b"\r\n", b"\n").removeprefix(b"\xef\xbb\xbf")
         same((plain, b""), tool("tidy.py", given=data), name)
+
+
+# Sheets that LibreOffice writes
+
+SPACES = " ".join(f'xmlns:{name}="urn:oasis:names:tc:opendocument:xmlns:{place}:1.0"' for name, place in (
+    ("office", "office"), ("style", "style"), ("number", "datastyle"), ("table", "table"), ("text", "text")))
+STYLES = """\
+<number:date-style style:name="D"><number:month/><number:text>/</number:text><number:day/><number:text>/</number:text>\
+<number:year number:style="long"/></number:date-style>
+<number:currency-style style:name="M"><number:currency-symbol number:language="en" number:country="US">$\
+</number:currency-symbol><number:number number:decimal-places="2" number:min-integer-digits="1" \
+number:grouping="true"/></number:currency-style>
+<style:style style:name="date" style:family="table-cell" style:data-style-name="D"/>
+<style:style style:name="currency" style:family="table-cell" style:data-style-name="M"/>"""
+
+
+def cell(kind, text):
+    """A cell of a sheet: a string, a date, a currency or a float, shown as spreadsheets show these."""
+    if kind == "string":
+        return f'<table:table-cell office:value-type="string"><text:p>{text}</text:p></table:table-cell>'
+    style = "" if kind == "float" else f' table:style-name="{kind}"'
+    name = "date-value" if kind == "date" else "value"
+    return f'<table:table-cell office:value-type="{kind}"{style} office:{name}="{text}"/>'
+
+
+def opened(kinds, rows):
+    """A spreadsheet whose rows have cells of these kinds below a header of strings, as a flat file."""
+    cells = [[cell("string", it) for it in rows[0]], *([cell(*it) for it in zip(kinds, row)] for row in rows[1:])]
+    body = "".join(f"<table:table-row>{''.join(row)}</table:table-row>" for row in cells)
+    return (f'<?xml version="1.0" encoding="UTF-8"?><office:document {SPACES} office:version="1.2" '
+            'office:mimetype="application/vnd.oasis.opendocument.spreadsheet">'
+            f"<office:automatic-styles>{STYLES}</office:automatic-styles><office:body><office:spreadsheet>"
+            f'<table:table table:name="a">{body}</table:table></office:spreadsheet></office:body></office:document>')
+
+
+def saved(room, path, options, *words):
+    """What LibreOffice saves of a file as CSV with these options: separator, quote, character set and so on."""
+    without_tool("soffice")
+    subprocess.run(["nice", "-n", "19", "soffice", f"-env:UserInstallation=file://{room}/profile", "--headless", *words,
+                    "--convert-to", f"csv:Text - txt - csv (StarCalc):{options}", "--outdir", f"{room}/out", path],
+                   check=True, capture_output=True, timeout=300)
+    return read(room, "out", os.path.basename(path).split(".")[0] + ".csv")
+
+
+@case("tidy: a sheet that LibreOffice saves with comma, semicolon or tab, quoted or not, as shown or not, is one file")
+def from_libreoffice(room):
+    kinds = ("string", "date", "float", "string", "currency")
+    rows = [("Trace", "Date", "Loan", "Payer", "Amount"),
+            ("T1", "2024-02-01", "101", "Alvarez, &quot;M&quot;", "1199.1"),
+            ("T2", "2024-12-31", "102", "", "1200"), ("T3", "2024-02-29", "103", "\u00c5se", "500.5")]
+    write(opened(kinds, rows).encode(), room, "sheet.fods")
+    for options in ("44,34,76,1,,0,false,true", "59,34,76,1,,0,true,true", "9,34,76,1,,0,false,false"):
+        data = saved(room, f"{room}/sheet.fods", options)
+        same((PAYMENTS, b""), tool("tidy.py", "--set", "do=pay", "--dates", "mdy", given=data), options)
+    kinds = ("float", "date", "float", "string", "float")
+    write(opened(kinds, [rows[0], ("4711000000000012345", *rows[1][1:])]).encode(), room, "rounded.fods")
+    data = saved(room, f"{room}/rounded.fods", "44,34,76,1,,0,false,true")
+    log = tool("tidy.py", "--set", "do=pay", "--dates", "mdy", given=data, status=1)[1].decode()
+    if "was rounded by the spreadsheet" not in log:
+        raise AssertionError(log)
+
+
+@case("tidy: the bank's sheet of examples/sheets, opened in LibreOffice and saved again, is the same file of payments")
+def through_libreoffice(room):
+    words, sheet = ["--set", "do=pay", "--dates", "mdy"], os.path.join(EXAMPLES, "sheets", "bank.csv")
+    wanted = tool("tidy.py", *words, given=read(sheet))[0]
+    same(b"0201-4713,pay,103,2024-02-01,1199.10,", wanted.splitlines()[3])
+    for detect in ("true", "false"):
+        opening = f"--infilter=Text - txt - csv (StarCalc):44,34,76,1,,1033,false,{detect}"
+        data = saved(room, sheet, "44,34,76,1,,0,false,true", opening)
+        same((wanted, b""), tool("tidy.py", *words, given=data), data)
 
 
 # pair.py
@@ -401,7 +474,6 @@ def checked(room, text, wanted):
     """Passes a text through hledger, compares its balances of accounts, and sees that another one of T is refused."""
     path = os.path.join(room, "books.ledger")
     write(text.encode(), path)
-    without_tool("hledger")
     subprocess.run(["hledger", "-f", path, "check", "-s", "ordereddates"], check=True, capture_output=True)
     out = subprocess.run(["hledger", "-f", path, "balance", "--flat", "-E", "-N", "-O", "csv"], check=True,
                          capture_output=True, env={**os.environ, "LC_ALL": "C.UTF-8"}).stdout.decode()
@@ -437,47 +509,69 @@ def year(room):
     return os.path.join(room, "books.journal")
 
 
-@case("ledger: the quarter's transactions add up to T 1480.00 and P 0.00, and hledger checks them")
-def quarter_in_ledger(room):
+def end_of_year(path):
+    """What T, P and the advances are at that year's end: T and escrow by hand, P and the other as the program says."""
+    said = run(path, "custodial")[1].decode().split()
+    held, advanced = (int(said[said.index(name) + 1].replace(".", "")) for name in ("P", "pi-advance"))
+    # Loan 1 is 150.00 below zero, which the servicer advances.
+    return {"Assets:Custodial:T": 475000 + 15000, "Equity:Servicer:EscrowAdvance": -15000,
+            "Assets:Custodial:P": held, "Equity:Servicer:PiAdvance": -advanced}
+
+
+@case("ledger: the transactions of the quarter, and of a year of 500 loans, add up to the custodial line")
+def add_up(room):
     text = kept_in_ledger(room, quarter(room))
     if COMMAND_40 not in text:
         raise AssertionError("command 40 is another")
     sums = cents_of(text)
     same(QUARTER, {name: sums[name] for name in QUARTER})
-    checked(room, text, QUARTER)
-
-
-@case("ledger: a year of 500 loans adds up to the custodial line, and hledger checks it")
-def year_in_ledger(room):
     path = year(room)
-    text = kept_in_ledger(room, path)
-    said = run(path, "custodial")[1].decode().split()
-    held, advanced = (int(said[said.index(name) + 1].replace(".", "")) for name in ("P", "pi-advance"))
-    # Loan 1 is 150.00 below zero, which the servicer advances.
-    wanted = {"Assets:Custodial:T": 475000 + 15000, "Equity:Servicer:EscrowAdvance": -15000,
-              "Assets:Custodial:P": held, "Equity:Servicer:PiAdvance": -advanced}
-    sums = cents_of(text)
+    wanted, sums = end_of_year(path), cents_of(kept_in_ledger(room, path))
     same(wanted, {name: sums[name] for name in wanted})
-    checked(room, text, wanted)
 
 
-@case("ledger: ledger and beancount accept the quarter with an investor's name; an input that is not whole is refused")
-def other_ledgers(room):
-    path = quarter(room)
-    text = kept_in_ledger(room, path, "--investor", "Fund-7")
+@case("ledger: hledger checks the quarter and has its balances")
+def quarter_in_hledger(room):
+    without_tool("hledger")
+    checked(room, kept_in_ledger(room, quarter(room)), QUARTER)
+
+
+@case("ledger: hledger checks a year of 500 loans and has its balances")
+def year_in_hledger(room):
+    without_tool("hledger")
+    path = year(room)
+    checked(room, kept_in_ledger(room, path), end_of_year(path))
+
+
+@case("ledger: ledger accepts the quarter with an investor's name in all accounts, and refuses another T")
+def quarter_in_ledger(room):
+    text = kept_in_ledger(room, quarter(room), "--investor", "Fund-7")
     same(148000, cents_of(text)["Assets:Custodial:Fund-7:T"])
+    without_tool("ledger")
+    for said, status in ((text, 0), (text.replace("USD = 1480.00", "USD = 1480.01"), 1)):
+        write(said.encode(), room, "books.ledger")
+        ran = subprocess.run(["ledger", "-f", f"{room}/books.ledger", "balance"], capture_output=True)
+        same(status, ran.returncode, ran.stderr)
+
+
+@case("ledger: beancount accepts the quarter, and refuses another T")
+def quarter_in_beancount(room):
+    without_tool("bean-check")
+    text = kept_in_ledger(room, quarter(room), "--beancount")
+    for said, status in ((text, 0), (text.replace("T  1480.00", "T  1480.01"), 1)):
+        write(said.encode(), room, "books.beancount")
+        same(status, subprocess.run(["bean-check", f"{room}/books.beancount"], capture_output=True).returncode)
+
+
+@case("ledger: rows that are cut, of other commands or too many are refused")
+def rows_not_whole(room):
+    kept_in_ledger(room, quarter(room))
     rows = read(room, "rows")
     for data in (rows[:-5], rows[rows.index(b"rows 2 "):], rows.replace(b"count 7", b"count 8"),
                  rows + b"rows 63 count 0\nend\n", rows.replace(b"rows 1 count 0\nend", b"no 13 NoSuchEntry")):
         write(data, room, "cut")
         same(b"", tool("ledger.py", f"{room}/commands", f"{room}/cut", status=1)[0])
     tool("ledger.py", "--investor", "a b", f"{room}/commands", f"{room}/rows", status=2)
-    write(text.encode(), room, "books.ledger")
-    write(kept_in_ledger(room, path, "--beancount").encode(), room, "books.beancount")
-    for words in (["ledger", "-f", f"{room}/books.ledger", "balance"], ["bean-check", f"{room}/books.beancount"]):
-        without_tool(words[0])
-        ran = subprocess.run(words, capture_output=True)
-        same((0, b""), (ran.returncode, ran.stderr), words)
 
 
 # sheets.py
