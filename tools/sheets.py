@@ -106,6 +106,8 @@ def rows_of(kind, number, lines, of):
 def sheet(text, of=None):
     """The header and the rows of all texts."""
     wanted, rows = None, []
+    if text and not text.endswith("\n"):
+        raise NoText("the last line does not end")
     for kind, number, lines in texts_of(text.splitlines()):
         if wanted is None:
             wanted, of = kind, of or next(iter(KINDS[kind][1]), None)

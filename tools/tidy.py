@@ -260,6 +260,15 @@ def tidied(row, places, asked, readers):
     return list(values.values())
 
 
+def check_shape(row, header):
+    """Whether a row has a field for each name; an amount that was cut at its comma has one more."""
+    if len(row) != len(header):
+        raise Doubt(f"has {len(row)} fields where row 1 has {len(header)}")
+    for name, field in zip(header, row):
+        if field and not name:
+            raise Doubt(f"{field!r} stands in a column without a name")
+
+
 def tidy(text, asked):
     """The rows as lines have them, and what is in doubt."""
     records, places = split(text, asked)
@@ -268,8 +277,7 @@ def tidy(text, asked):
         if not any(row):
             continue
         try:
-            if len(row) != len(records[0]):
-                raise Doubt(f"has {len(row)} fields where row 1 has {len(records[0])}")
+            check_shape(row, records[0])
             values = tidied(row, places, asked, readers)
             if keys.setdefault(values[0], number) != number:
                 raise Doubt(f"key {values[0]!r} is that of row {keys[values[0]]} too")

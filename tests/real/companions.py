@@ -51,6 +51,17 @@ def quarter(room):
     return path
 
 
+@case("help: each companion says what it takes, and refuses words that it does not know")
+def helps(room):
+    names = sorted(it for it in os.listdir(os.path.join(TOP, "tools")) if it.endswith(".py"))
+    same(["ledger.py", "pair.py", "plot.py", "sheets.py", "tidy.py", "verify.py"], names)
+    for name in names:
+        out = tool(name, "--help")[0]
+        if name.encode() not in out or b"options:" not in out.replace(b"optional arguments:", b"options:"):
+            raise AssertionError(out)
+        tool(name, "--frob", status=2)
+
+
 # tidy.py
 
 # A bank's sheets that say one and the same, with the words that read them.
@@ -127,6 +138,13 @@ HEADERS = [
     ("key,do,loan,day,amount\n\"T1,pay,101,2024-02-01,5.00\n", "line 2:"),
     ("key,do,loan,day,amount\nT1,pay,101,2024-02-01,5.00\xff", "byte 49 is not UTF-8"),
 ]
+
+
+@case("tidy: an amount that is cut at its comma is not taken for whole dollars")
+def cut_at_comma(room):
+    text = "key,do,loan,day,amount,\nT1,pay,101,2024-02-01,1,199.10\n"
+    found = tidy.tidy(text, tidy.words_of(["--whole"]))[1]
+    same(["row 2: '199.10' stands in a column without a name"], found)
 
 
 @case("tidy: a file whose columns or bytes are in doubt is refused as a whole")
@@ -607,7 +625,8 @@ def sheets_of_texts(room):
     for text, of, wanted in TEXTS:
         rows = sheets.sheet(text, of)
         same(wanted, "".join(",".join(it) + "\n" for it in rows), text)
-    for text in (TEXTS[0][0][:-4], TEXTS[4][0].replace("count 2", "count 3"), TEXTS[5][0][:-9], TEXTS[2][0] + "end\n"):
+    for text in (TEXTS[0][0][:-4], TEXTS[4][0].replace("count 2", "count 3"), TEXTS[5][0][:-9], TEXTS[5][0][:-1],
+                 TEXTS[2][0] + "end\n"):
         same(b"", tool("sheets.py", given=text.encode(), status=1)[0])
     for text in (b"", b"no 5 NoSuchLoan\n", (TEXTS[2][0] + TEXTS[0][0]).encode(), b"trial 2024-04 loans 1\nend\n"):
         same(b"", tool("sheets.py", given=text, status=1)[0])
