@@ -9,6 +9,7 @@ Standard library alone; LibreOffice, hledger, ledger, beancount and matplotlib w
 import collections
 import csv
 import os
+import random
 import re
 import shutil
 import subprocess
@@ -17,6 +18,7 @@ import sys
 from harness import TOP, Skipped, case, read, run, run_all, same, write
 sys.path[:0] = [os.path.join(TOP, "tools"), os.path.join(TOP, "bench")]
 import generate  # noqa: E402
+import pair  # noqa: E402
 import plot  # noqa: E402
 import reckon  # noqa: E402
 import sheets  # noqa: E402
@@ -351,6 +353,30 @@ def not_whole(room):
     same(b"", paired(room, "import", head + b"a,pay,1,2024-02-01,1,\n", b"bad row 3 column 5\n", status=2)[0])
     out = paired(room, "import", head[:-4] + b"x\na,pay,1,2024-02-01,1.00,\n", b"bad row 1 column 1\n", status=1)[0]
     same(b"the first row is not key,do,loan,day,amount,line", out.splitlines()[1].strip())
+
+
+def messy(draws, number):
+    """A file of rows, some of them with quotes, line ends and fields where none belong."""
+    text = draws.choice(["", "\ufeff"]) + "key,do,loan,day,amount,line" + draws.choice(["\n", "\r\n"])
+    for at in range(draws.randint(1, 5)):
+        row = [f"k{number}.{at}", "pay", draws.choice("17"), "2024-02-01", draws.choice(["1.00", "0.00", "1"]), ""]
+        row = [draws.choice([f'"{it}"', f'"{it}', it + '"', f'"{it}"x', f'"{it}\n"', '"a""b"'])
+               if draws.random() < 0.1 else it for it in row]
+        text += ",".join(row) + draws.choice(["\n", "\r\n", "\r", "\n\n", "\n \n", "\r\r\n", '\n""\n'])
+    return text.encode()
+
+
+@case("pair: each of 60 messy files has its replies, row by row")
+def messy_files(room):
+    path, draws = os.path.join(room, "books.journal"), random.Random(63)
+    meanings = pair.meanings_of(read(TOP, "docs", "REFUSALS.md").decode())
+    run(path, "init")
+    same(0, run(path, "apply", given=b"d day 2024-02-01\nb board 1 2023-12-15 %b SS\n" % generate.TERMS.encode())[0])
+    for number in range(60):
+        data = messy(draws, number)
+        replies = run(path, "import", given=data)[1].decode().splitlines()
+        got = pair.pair(list(pair.rows_of(data)), replies, meanings)
+        same(replies, [it[3] for it in got], data)
 
 
 @case("pair: a bank's sheet is tidied, imported and paired, and twice the same")
