@@ -297,7 +297,7 @@ def pair_of(text):
 
 def words_of(arguments):
     """What the command line says."""
-    listed = "".join(f"    {name:10} {', '.join(others)}\n" for name, others in ALIASES.items())
+    listed = "".join(f"    {name:10} {', '.join(others)}".rstrip() + "\n" for name, others in ALIASES.items())
     it = argparse.ArgumentParser(description=__doc__ % listed, formatter_class=argparse.RawDescriptionHelpFormatter)
     it.add_argument("--board", action="store_true", help="loans into board lines")
     it.add_argument("--column", action="append", default=[], type=pair_of, metavar="FIELD=NAME",
