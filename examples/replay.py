@@ -30,7 +30,7 @@ import reckon  # noqa: E402
 
 # The documents whose blocks of commands are run; guides that are not there are passed over.
 DOCUMENTS = ["README.md", "examples/README.md", "docs/REFUSALS.md", "docs/guide/cashier.md",
-             "docs/guide/operator.md", "docs/guide/auditor.md"]
+             "docs/guide/operator.md", "docs/guide/auditor.md", "tools/README.md"]
 MARK = "\x01end of "
 
 
@@ -262,6 +262,7 @@ def lay_out(room, built):
     for it in ("bin", "here/crates/serv_cli/out", "here/.ci"):
         os.makedirs(f"{room}/{it}")
     shutil.copytree(HERE, f"{room}/here/examples", ignore=shutil.ignore_patterns("__pycache__"))
+    os.symlink(os.path.join(TOP, "tools"), f"{room}/here/tools")
     for place in ("bin/jaqhendulu", "here/crates/serv_cli/out/serv_cli"):
         os.symlink(built, f"{room}/{place}")
     for place, text in (("bin/rt", 'shift 2\nexec jaqhendulu "$@"'), ("here/.ci/run", "exit 0")):
