@@ -3,8 +3,8 @@
 
     deploy.py [WORD..]    all cases, or those whose names have the words
 
-Standard library alone. Each case needs programs that may not be there, and is skipped by their names then;
-deploy/README.md has the line that installs them. `JAQHENDULU` names another program than the one that `rt` built.
+Standard library alone. A case that needs programs that are not there is skipped by their names; deploy/README.md has
+the line that installs them. `JAQHENDULU` names another program than the one that `rt` built.
 Prints a line a case and `N passed, M failed` at its end.
 """
 import base64
@@ -22,8 +22,9 @@ import sys
 import threading
 import time
 
-from harness import TOP, Skipped, case, read, run, run_all, same, start, write
+from harness import STARTED, TOP, Skipped, case, read, run, run_all, same, write
 import bodies
+import program
 import reckon
 import replay
 
@@ -70,21 +71,26 @@ def body_of_day(number):
     return bodies.body_of(f"k{number} day {day}")
 
 
+def start_words(words, **how):
+    """Starts a process without input that nobody listens to."""
+    STARTED.append(subprocess.Popen(words, stdin=subprocess.DEVNULL, stdout=subprocess.DEVNULL,
+                                    stderr=subprocess.DEVNULL, **how))
+    return STARTED[-1]
+
+
 class Kept:
     """A program that serves and is started again whenever it ends, as its unit has it."""
 
-    def __init__(self, path, connections=100000, pause=0.3):
-        self.words = [path, "serve", str(replay.free_port()), str(connections)]
-        self.port, self.pause, self.starts, self.goes_on = int(self.words[2]), pause, 0, True
-        self.it = None
+    def __init__(self, words, place, port, pause=0.3):
+        self.words, self.place, self.port, self.pause = words, place, port, pause
+        self.starts, self.goes_on, self.it = 0, True, None
         self.thread = threading.Thread(target=self.keep, daemon=True)
         self.thread.start()
         replay.connect(self.port).close()
 
     def keep(self):
         while self.goes_on:
-            self.it = start(*self.words, stdin=subprocess.DEVNULL, stdout=subprocess.DEVNULL,
-                            stderr=subprocess.DEVNULL)
+            self.it = start_words(self.words, cwd=self.place)
             self.starts += 1
             self.it.wait()
             time.sleep(self.pause)
@@ -92,7 +98,7 @@ class Kept:
     def kill(self):
         self.it.send_signal(signal.SIGKILL)
 
-    def end(self):
+    def close(self):
         self.goes_on = False
         while self.thread.is_alive():
             self.kill()
@@ -182,10 +188,11 @@ class Front:
 
 
 @contextlib.contextmanager
-def before(room, path, **how):
+def before(room, path, connections=100000, pause=0.3):
     """nginx before a program that is kept; both are ended."""
     needs("nginx", "openssl")
-    kept = Kept(path, **how)
+    port = replay.free_port()
+    kept = Kept([program.find(), path, "serve", str(port), str(connections)], room, port, pause)
     front = None
     try:
         front = Front(room, kept.port)
@@ -193,7 +200,7 @@ def before(room, path, **how):
     finally:
         if front:
             front.end()
-        kept.end()
+        kept.close()
 
 
 def ok(number):
@@ -220,7 +227,7 @@ def routes(room):
         got = link.getresponse()
         same((200, str(len(EMPTY)), b""), (got.status, got.getheader("Content-Length"), got.read()))
         link.close()
-        kept.end()
+        kept.close()
         same(2, len(reckon.lines_of_journal(read(room, "books.journal"))))
 
 
@@ -248,7 +255,7 @@ def kept_out(room):
             raise AssertionError(f"a handshake with the name {name}")
         same([], reckon.lines_of_journal(read(room, "books.journal")))
         same(ok(1), front.ask("POST", COMMANDS, body, {**JSON, "Content-Type": "Application/JSON; charset=utf-8"}))
-        kept.end()
+        kept.close()
 
 
 @case("nginx: a web page that has a row may send requests")
@@ -265,7 +272,7 @@ def named_page(room):
             time.sleep(0.02)
         same(ok(1), (status, got))
         same(403, front.ask("POST", COMMANDS, body_of_day(1), {**JSON, "Origin": "https://desk.example.evil"})[0])
-        kept.end()
+        kept.close()
 
 
 @case("nginx: the log has the user, the command and what came of it")
@@ -274,7 +281,7 @@ def logged(room):
         body = body_of_day(1)
         same(ok(1), front.ask("POST", COMMANDS, body, JSON))
         same(401, front.ask("GET", CUSTODIAL, headers={})[0])
-        kept.end()
+        kept.close()
         front.end()
         lines = [json.loads(it) for it in read(room, "jaqhendulu.log").decode().splitlines()]
         same([(USER, "POST /v1/commands HTTP/1.1", "200", body.decode()),
@@ -345,7 +352,7 @@ def eight(room):
     with before(room, new_journal(room, boarded(8))) as (kept, front):
         payers = [Payer(front, loan, lambda count: count < 20) for loan in range(1, 9)]
         at_once(payers)
-        kept.end()
+        kept.close()
         same([20] * 8, [len(it.numbers) for it in payers])
         paid_by(room, payers)
 
@@ -365,7 +372,7 @@ def restarts(room):
     with before(room, new_journal(room, boarded(8))) as (kept, front):
         payers = [Payer(front, loan, lambda count: not done.is_set()) for loan in range(1, 9)]
         at_once([*payers, killer])
-        kept.end()
+        kept.close()
         paid_by(room, payers)
         same(True, kept.starts >= 4, "starts")
         if max(it.longest for it in payers) > 9:
@@ -382,7 +389,7 @@ def fives(room):
             same(ok(i), (got.status, got.read()))
         link.close()
         same(True, kept.starts >= 9)
-        kept.end()
+        kept.close()
 
 
 @case("nginx: a program that does not come back: 504 after the time of the waiting room, for five clients at once")
@@ -433,7 +440,7 @@ def halves(room):
         for peer in peers:
             same(True, is_let_go(peer))
         same(ok(1), front.ask("POST", COMMANDS, body, JSON))
-        kept.end()
+        kept.close()
         same(1, len(reckon.lines_of_journal(read(room, "books.journal"))))
 
 
@@ -453,7 +460,7 @@ def deaf(room):
             raise AssertionError("held up")
         time.sleep(2.5)
         same(True, is_let_go(peer))
-        kept.end()
+        kept.close()
 
 
 @case("nginx: 17 MB of commands over one connection of a client, which the program alone would cut")
@@ -475,8 +482,221 @@ def long_link(room):
                 length = int(value) if name == b"Content-Length" else length
             same(ok(1)[1], answers.read(length))
         link.close()
-        kept.end()
+        kept.close()
         same(1, len(reckon.lines_of_journal(read(room, "books.journal"))))
+
+
+# The units
+
+SETTINGS = dict(re.findall(r"^(\w+)=(.*)$", text_of("systemd", "books.conf"), re.M))
+UNITS = ("jaqhendulu@.service", "jaqhendulu-day@.service", "jaqhendulu-backup@.service", "jaqhendulu-day@.timer",
+         "jaqhendulu-backup@.timer")
+
+
+def programs_in(text):
+    """A text with the programs of this repository in the places of those that the package installs."""
+    return text.replace("/usr/bin/jaqhendulu", program.find()).replace(
+        "/usr/libexec/jaqhendulu", os.path.join(DEPLOY, "libexec"))
+
+
+def unit(name, instance, root, **settings):
+    """The words that an instance of a unit starts, its folders under another root, and the folder where it starts."""
+    text = programs_in(text_of("systemd", name)).replace("%i", instance).replace("%S", os.path.join(root, "var/lib"))
+    settings = {**SETTINGS, **settings}
+    line = re.search(r"^ExecStart=(.*)$", text, re.M)[1]
+    for folder in re.findall(r"^StateDirectory=(.*)$", text, re.M):
+        os.makedirs(os.path.join(root, "var/lib", folder), exist_ok=True)
+    place = re.search(r"^WorkingDirectory=(.*)$", text, re.M)
+    return re.sub(r"\$\{(\w+)\}", lambda it: str(settings[it[1]]), line).split(" "), place and place[1]
+
+
+def run_unit(name, instance, root, **settings):
+    """Runs what a unit of one run starts: its status, output and log."""
+    words, place = unit(name, instance, root, **settings)
+    ran = subprocess.run(words, cwd=place, capture_output=True, timeout=60,
+                         env={**os.environ, "JAQHENDULU": program.find()})
+    return ran.returncode, ran.stdout.decode(), ran.stderr.decode()
+
+
+def instance(root, name, lines=()):
+    """The journal of an instance, with these lines."""
+    path = os.path.join(root, "var/lib/jaqhendulu", name, "books.journal")
+    os.makedirs(os.path.dirname(path))
+    write(generate.journal_of(lines), path)
+    return path
+
+
+def kept_unit(root, name, **settings):
+    """A service that is started again whenever it ends."""
+    port = settings.setdefault("PORT", replay.free_port())
+    words, place = unit("jaqhendulu@.service", name, root, **settings)
+    return Kept(words, place, port)
+
+
+@case("units: systemd-analyze verifies each, and finds the services little exposed")
+def verified(room):
+    needs("systemd-analyze")
+    for name in UNITS:
+        write(programs_in(text_of("systemd", name)).encode(), room, name)
+    for name in UNITS:
+        ran = subprocess.run(["systemd-analyze", "verify", "--man=no", os.path.join(room, name)], capture_output=True)
+        same((0, b"", b""), (ran.returncode, ran.stdout, ran.stderr), name)
+    for name in UNITS[:3]:
+        ran = subprocess.run(["systemd-analyze", "security", "--offline=yes", "--threshold=15",
+                              os.path.join(room, name)], capture_output=True)
+        same(0, ran.returncode, f"{name}: {ran.stdout[-200:]}")
+
+
+def calls_of_group(name):
+    """The system's calls of a group of systemd."""
+    listed = subprocess.run(["systemd-analyze", "syscall-filter", name], capture_output=True, check=True).stdout
+    words = [it.strip() for it in listed.decode().splitlines()[1:]]
+    calls = {it for it in words if it and it[0] not in "#@"}
+    return calls.union(*(calls_of_group(it) for it in words if it.startswith("@")))
+
+
+@case("units: the program makes no call of the system that its unit forbids")
+def calls(room):
+    needs("strace", "systemd-analyze")
+    allowed = set()
+    for line in re.findall(r"^SystemCallFilter=(.*)$", text_of("systemd", UNITS[0]), re.M):
+        groups = set().union(*(calls_of_group(it) for it in line.lstrip("~").split(" ")))
+        allowed = allowed - groups if line.startswith("~") else allowed | groups
+    path = instance(room, "books")
+    words, place = unit(UNITS[0], "books", room, PORT=replay.free_port(), CONNECTIONS=2)
+    it = start_words(["strace", "-f", "-o", os.path.join(room, "calls"), *words], cwd=place)
+    replay.connect(int(words[3])).close()
+    link = bodies.link_to(int(words[3]))
+    same(ok(1), bodies.ask(link, "POST", COMMANDS, body_of_day(1)))
+    link.close()
+    it.wait(timeout=20)
+    made = set(re.findall(r"^\d+ +(\w+)\(", read(room, "calls").decode(), re.M))
+    same(True, "flock" in made and "accept4" in made)
+    same(set(), made - allowed - {"execve"})
+    same(1, len(reckon.lines_of_journal(read(path))))
+
+
+def sent_until_answered(port, body):
+    """Sends a command, again where the program ended in between: status and body."""
+    for _ in range(100):
+        link = bodies.link_to(port)
+        try:
+            return bodies.ask(link, "POST", COMMANDS, body)
+        except (OSError, http.client.HTTPException):
+            time.sleep(0.05)
+        finally:
+            link.close()
+    raise AssertionError("nobody answers")
+
+
+@case("units: the service ends after its connections and comes again, but not where that cannot help")
+def comes_again(room):
+    text = text_of("systemd", UNITS[0])
+    same("always", re.search(r"^Restart=(.*)$", text, re.M)[1])
+    stays = re.search(r"^RestartPreventExitStatus=(.*)$", text, re.M)[1].split(" ")
+    rows = dict(re.findall(r"^\| (\d+) \| (\w+)", read(TOP, "docs", "PROGRAM.md").decode(), re.M))
+    same(["Usage", "NotJournal", "Damaged", "JournalFull"], [rows[it] for it in stays])
+    instance(room, "books")
+    with contextlib.closing(kept_unit(room, "books", CONNECTIONS=3)) as kept:
+        for number in range(1, 8):
+            same(ok(number), sent_until_answered(kept.port, body_of_day(number)))
+        same(True, kept.starts >= 3)
+
+
+@case("units: the morning's day: sent once, again, after a day by hand, before a program that starts late")
+def mornings(room):
+    instance(room, "books")
+    name, today = "jaqhendulu-day@.service", reckon.datetime.date.today()
+    with contextlib.closing(kept_unit(room, "books")) as kept:
+        for _ in range(2):
+            same((0, "ok 1\n", ""), run_unit(name, "books", room, PORT=kept.port))
+        words = unit(name, "books", room, PORT=kept.port)[0]
+        ran = subprocess.run([*words, f"{today - reckon.datetime.timedelta(1)}"], capture_output=True)
+        same((1, f"no 3 DayNotLater {today}\n".encode()), (ran.returncode, ran.stdout))
+        later = f"{today + reckon.datetime.timedelta(1)}"
+        link = bodies.link_to(kept.port)
+        same(ok(2), bodies.ask(link, "POST", COMMANDS, bodies.body_of(f"by-hand day {later}")))
+        link.close()
+        for _ in range(2):
+            ran = subprocess.run([*words, later], capture_output=True)
+            same((0, f"no 3 DayNotLater {later}\n".encode()), (ran.returncode, ran.stdout))
+            kept.kill()
+    same([f"d-{today} day {today}", f"by-hand day {later}"],
+         [it.decode() for it in reckon.lines_of_journal(read(room, "var/lib/jaqhendulu/books/books.journal"))])
+
+
+def copies(room):
+    place = os.path.join(room, "var/lib/jaqhendulu-backup/books")
+    return sorted(os.listdir(place)) if os.path.isdir(place) else []
+
+
+BACKUP = "jaqhendulu-backup@.service"
+
+
+@case("units: copies made under a client's commands open, have all that was answered before; the newest two are kept")
+def copied(room):
+    path = instance(room, "books", boarded(1))
+    with contextlib.closing(kept_unit(room, "books")) as kept:
+        stops, answered = threading.Event(), []
+
+        def client():
+            link = bodies.link_to(kept.port)
+            while not stops.is_set():
+                line = f"p{len(answered)} pay 1 2024-02-01 1.00"
+                same(200, bodies.ask(link, "POST", COMMANDS, bodies.body_of(line))[0])
+                answered.append(line)
+            link.close()
+
+        def copier():
+            try:
+                for _ in range(4):
+                    time.sleep(0.1)
+                    had = len(answered) + 2
+                    status, out, log = run_unit(BACKUP, "books", room, KEEP=2)
+                    same((0, ""), (status, log))
+                    made = out.split(" ")[0]
+                    lines = reckon.lines_of_journal(read(made))
+                    same(f"{made} commands {len(lines)}\n", out)
+                    same(True, len(lines) >= had, "what was answered before")
+                    same((0, b""), run(made, "custodial")[::2])
+            finally:
+                stops.set()
+
+        at_once([client, copier])
+    same(2, len(copies(room)))
+    same(True, copies(room)[-1].endswith(".journal"))
+    same(True, read(path).startswith(read(room, "var/lib/jaqhendulu-backup/books", copies(room)[0])[:-1]))
+
+
+@case("units: no copy is kept or removed of a journal that is damaged, shorter than the newest copy, or gone")
+def not_copied(room):
+    path = instance(room, "books", boarded(5))
+    for _ in range(2):
+        same((0, ""), run_unit(BACKUP, "books", room, KEEP=2)[::2])
+    kept, whole = copies(room), read(path)
+    for given, why in ((whole[:-30], "does not open: status 8 Damaged"),
+                       (whole.replace(b" board 3 ", b" bored 3 "), "does not open: status 8 Damaged"),
+                       (generate.journal_of(list(boarded(4))), "the copy has 5 commands, "),
+                       (b"", "is no journal"), (b"MSRVJ003" + whole[8:], "is no journal")):
+        write(given, path)
+        status, out, log = run_unit(BACKUP, "books", room, KEEP=1)
+        same((1, "", True), (status, out, why in log), (why, log))
+        same(kept, copies(room))
+    os.remove(path)
+    same(1, run_unit(BACKUP, "books", room)[0])
+    same(kept, copies(room))
+
+
+@case("units: a journal of version 1, and one that was written anew in version 2, are counted and copied")
+def old_versions(room):
+    lines = [it.encode() for it in boarded(3)]
+    first = b"MSRVJ001" + b"".join(b"\1" + len(it).to_bytes(2, "big") + it for it in lines)
+    second = generate.journal_of(it.decode() for it in lines)
+    path = instance(room, "books")
+    for data in (first + b"\0", first + b"\2" + second):
+        write(data, path)
+        status, out, log = run_unit(BACKUP, "books", room)
+        same((0, "", True), (status, log, out.endswith(" commands 4\n")), out)
 
 
 if __name__ == "__main__":
