@@ -4,487 +4,29 @@
     deploy.py [WORD..]    all cases, or those whose names have the words
 
 Standard library alone. A case that needs programs that are not there is skipped by their names; deploy/README.md has
-the line that installs them. `JAQHENDULU` names another program than the one that `rt` built.
-Prints a line a case and `N passed, M failed` at its end.
+the line that installs them. `JAQHENDULU` names another program than the one that `rt` built. Prints a line a case and
+`N passed, M failed` at its end.
 """
-import base64
 import contextlib
+import functools
 import http.client
-import json
 import os
 import re
-import shutil
 import signal
-import socket
-import ssl
 import subprocess
 import sys
+import tempfile
 import threading
 import time
 
-from harness import STARTED, TOP, Skipped, case, read, run, run_all, same, write
+from beside import (COMMANDS, DEPLOY, PLACES, Kept, at_once, boarded, body_of_day, changed, generate, needs, ok,
+                    start_words, text_of)
+from harness import TOP, Skipped, case, read, run, run_all, same, write
 import bodies
+import deploy_nginx  # noqa: F401, whose cases are run too
 import program
 import reckon
 import replay
-
-sys.path.append(os.path.join(TOP, "bench"))
-import generate  # noqa: E402
-
-PLACES = os.environ["PATH"] + ":/usr/sbin:/sbin"
-DEPLOY = os.path.join(TOP, "deploy")
-NAME = "books.example"
-USER, PASSWORD = "cashier", "a-word"
-ACCESS = {"Authorization": "Basic " + base64.b64encode(f"{USER}:{PASSWORD}".encode()).decode()}
-JSON = {"Content-Type": "application/json", **ACCESS}
-EMPTY = (b'{"code":0,"text":"custodial T 0.00 P 0.00 suspense 0.00 escrow 0.00 escrow-advance 0.00 held 0.00 '
-         b'pi-advance 0.00"}')
-REUSED = 409, b'{"code":1,"text":"no 1 KeyReused 1"}'
-CUSTODIAL = "/v1/custodial"
-COMMANDS = "/v1/commands"
-
-
-def needs(*names):
-    """Skips a case where a program is not installed."""
-    missing = [it for it in names if not shutil.which(it, path=PLACES)]
-    if missing:
-        raise Skipped(f"{', '.join(missing)} is not installed")
-
-
-def text_of(*path):
-    """A file of deploy/."""
-    return read(DEPLOY, *path).decode()
-
-
-def changed(text, *changes):
-    """A text with each of these pieces, which must be there, in place of another."""
-    for old, new in changes:
-        if old not in text:
-            raise AssertionError(f"there is no {old!r}")
-        text = text.replace(old, new)
-    return text
-
-
-def body_of_day(number):
-    """The command that sets the business day so many days after the first of January 1990."""
-    day = reckon.datetime.date(1990, 1, 1) + reckon.datetime.timedelta(number)
-    return bodies.body_of(f"k{number} day {day}")
-
-
-def start_words(words, **how):
-    """Starts a process without input that nobody listens to."""
-    STARTED.append(subprocess.Popen(words, stdin=subprocess.DEVNULL, stdout=subprocess.DEVNULL,
-                                    stderr=subprocess.DEVNULL, **how))
-    return STARTED[-1]
-
-
-class Kept:
-    """A program that serves and is started again whenever it ends, as its unit has it."""
-
-    def __init__(self, words, place, port, pause=0.3):
-        self.words, self.place, self.port, self.pause = words, place, port, pause
-        self.starts, self.goes_on, self.it = 0, True, None
-        self.thread = threading.Thread(target=self.keep, daemon=True)
-        self.thread.start()
-        replay.connect(self.port).close()
-
-    def keep(self):
-        while self.goes_on:
-            self.it = start_words(self.words, cwd=self.place)
-            self.starts += 1
-            self.it.wait()
-            time.sleep(self.pause)
-
-    def kill(self):
-        self.it.send_signal(signal.SIGKILL)
-
-    def close(self):
-        self.goes_on = False
-        while self.thread.is_alive():
-            self.kill()
-            self.thread.join(0.1)
-
-
-def new_journal(room, lines=()):
-    """The path of a journal of these lines."""
-    path = os.path.join(room, "books.journal")
-    write(generate.journal_of(lines), path)
-    same(0, run(path, "custodial")[0], "the journal opens")
-    return path
-
-
-# nginx
-
-MAIN = """daemon off;
-{user}
-worker_processes 2;
-pid {room}/nginx.pid;
-error_log {room}/error.log;
-events {{ worker_connections 2048; }}
-http {{
-    client_body_temp_path {room}/body;
-    proxy_temp_path {room}/proxy;
-    fastcgi_temp_path {room}/fastcgi;
-    uwsgi_temp_path {room}/uwsgi;
-    scgi_temp_path {room}/scgi;
-    include {room}/site.conf;
-}}
-"""
-
-
-class Front:
-    """nginx with the site of deploy/ before a port, under other ports and files and with shorter times."""
-
-    def __init__(self, room, behind, wait="10s"):
-        needs("nginx", "openssl")
-        self.room, self.port, waiting = room, replay.free_port(), replay.free_port()
-        site = changed(text_of("nginx", "jaqhendulu.conf"), ("443", str(self.port)), ("18079", str(waiting)),
-                       ("127.0.0.1:18080", f"127.0.0.1:{behind}"), ("/etc/jaqhendulu/", room + "/"),
-                       ("/var/log/nginx/", room + "/"), ("timeout 10s", "timeout 1s"),
-                       ("keepalive_timeout 30s", "keepalive_timeout 2s"), ("read_timeout 30s", f"read_timeout {wait}"))
-        self.path = os.path.join(room, "site.conf")
-        write(site.encode(), self.path)
-        write(MAIN.format(room=room, user="user root;" if os.getuid() == 0 else "").encode(), room, "main.conf")
-        write(f"{USER}:{{PLAIN}}{PASSWORD}\n".encode(), room, "users")
-        self.certificate()
-        words = [shutil.which("nginx", path=PLACES), "-p", room, "-c", os.path.join(room, "main.conf")]
-        checked = subprocess.run([*words, "-t"], capture_output=True)
-        same(0, checked.returncode, checked.stderr)
-        self.it = subprocess.Popen(words, stderr=subprocess.DEVNULL)
-        replay.connect(self.port).close()
-
-    def certificate(self):
-        made = subprocess.run(
-            ["openssl", "req", "-x509", "-newkey", "ec", "-pkeyopt", "ec_paramgen_curve:prime256v1", "-nodes", "-days",
-             "2", "-subj", f"/CN={NAME}", "-addext", f"subjectAltName=DNS:{NAME}", "-keyout",
-             os.path.join(self.room, "tls.key"), "-out", os.path.join(self.room, "tls.crt")], capture_output=True)
-        same(0, made.returncode, made.stderr)
-
-    def plain(self, name=NAME):
-        """A TLS connection to a name."""
-        trusts = ssl.create_default_context(cafile=os.path.join(self.room, "tls.crt"))
-        return trusts.wrap_socket(socket.create_connection(("127.0.0.1", self.port), timeout=20), server_hostname=name)
-
-    def link(self):
-        """The same by `http.client`."""
-        link = http.client.HTTPConnection(NAME, timeout=20)
-        link.sock = self.plain()
-        return link
-
-    def ask(self, method, target, body=None, headers=None):
-        """A request over a connection of its own: status and body."""
-        link = self.link()
-        try:
-            link.request(method, target, body, ACCESS if headers is None else headers)
-            got = link.getresponse()
-            return got.status, got.read()
-        finally:
-            link.close()
-
-    def end(self):
-        """Ends it, by a signal that its workers hear of."""
-        self.it.terminate()
-        self.it.wait(timeout=20)
-
-
-@contextlib.contextmanager
-def before(room, path, connections=100000, pause=0.3):
-    """nginx before a program that is kept; both are ended."""
-    needs("nginx", "openssl")
-    port = replay.free_port()
-    kept = Kept([program.find(), path, "serve", str(port), str(connections)], room, port, pause)
-    front = None
-    try:
-        front = Front(room, kept.port)
-        yield kept, front
-    finally:
-        if front:
-            front.end()
-        kept.close()
-
-
-def ok(number):
-    return 200, f'{{"code":0,"number":{number},"text":"ok {number}"}}'.encode()
-
-
-@case("nginx: the routes, HEAD as GET, chunked bodies; the program's own refusals come through")
-def routes(room):
-    with before(room, new_journal(room)) as (kept, front):
-        link = front.link()
-        for method, target, body, wanted in (
-                ("POST", COMMANDS, body_of_day(1), ok(1)),
-                ("POST", COMMANDS, body_of_day(1), ok(1)),
-                ("POST", COMMANDS, body_of_day(1).replace(b"01-02", b"01-03"), REUSED),
-                ("POST", COMMANDS, iter([body_of_day(2)[:9], body_of_day(2)[9:]]), ok(2)),
-                ("GET", CUSTODIAL, None, (200, EMPTY)),
-                ("GET", "/v1/loans/%31/books", None, (400, b"")),
-                ("GET", "/v1/loans/1/books?x=1", None, (404, b"")),
-                ("DELETE", CUSTODIAL, None, (405, b""))):
-            link.request(method, target, body, JSON)
-            got = link.getresponse()
-            same(wanted, (got.status, got.read()), (method, target))
-        link.request("HEAD", CUSTODIAL, headers=ACCESS)
-        got = link.getresponse()
-        same((200, str(len(EMPTY)), b""), (got.status, got.getheader("Content-Length"), got.read()))
-        link.close()
-        kept.close()
-        same(2, len(reckon.lines_of_journal(read(room, "books.journal"))))
-
-
-@case("nginx: no user, a foreign web page, another type, another name and long bodies do not reach the program")
-def kept_out(room):
-    with before(room, new_journal(room)) as (kept, front):
-        body = body_of_day(1)
-        for status, headers in (
-                (401, {"Content-Type": "application/json"}),
-                (401, {**JSON, "Authorization": "Basic " + base64.b64encode(b"cashier:b-word").decode()}),
-                (403, {**JSON, "Origin": "https://evil.example"}),
-                (403, {**JSON, "Origin": "null"}),
-                (415, ACCESS),
-                (415, {**JSON, "Content-Type": "text/plain"}),
-                (415, {**JSON, "Content-Type": "application/x-www-form-urlencoded"}),
-                (415, {**JSON, "Content-Type": "text/plain; application/json"}),
-                (421, {**JSON, "Host": "evil.example"})):
-            same(status, front.ask("POST", COMMANDS, body, headers)[0], headers)
-        same(413, front.ask("POST", COMMANDS, body + b" " * 2048, JSON)[0])
-        for name in ("evil.example", None):
-            try:
-                front.plain(name)
-            except (ssl.SSLError, ValueError):
-                continue
-            raise AssertionError(f"a handshake with the name {name}")
-        same([], reckon.lines_of_journal(read(room, "books.journal")))
-        same(ok(1), front.ask("POST", COMMANDS, body, {**JSON, "Content-Type": "Application/JSON; charset=utf-8"}))
-        kept.close()
-
-
-@case("nginx: a web page that has a row may send requests")
-def named_page(room):
-    with before(room, new_journal(room)) as (kept, front):
-        site = read(front.path).decode()
-        write(changed(site, ('""         0;', '"" 0; "https://desk.example" 0;')).encode(), front.path)
-        front.it.send_signal(signal.SIGHUP)
-        status = 403
-        for _ in range(100):
-            status, got = front.ask("POST", COMMANDS, body_of_day(1), {**JSON, "Origin": "https://desk.example"})
-            if status != 403:
-                break
-            time.sleep(0.02)
-        same(ok(1), (status, got))
-        same(403, front.ask("POST", COMMANDS, body_of_day(1), {**JSON, "Origin": "https://desk.example.evil"})[0])
-        kept.close()
-
-
-@case("nginx: the log has the user, the command and what came of it")
-def logged(room):
-    with before(room, new_journal(room)) as (kept, front):
-        body = body_of_day(1)
-        same(ok(1), front.ask("POST", COMMANDS, body, JSON))
-        same(401, front.ask("GET", CUSTODIAL, headers={})[0])
-        kept.close()
-        front.end()
-        lines = [json.loads(it) for it in read(room, "jaqhendulu.log").decode().splitlines()]
-        same([(USER, "POST /v1/commands HTTP/1.1", "200", body.decode()),
-              ("", "GET /v1/custodial HTTP/1.1", "401", "")],
-             [(it["user"], it["request"], it["status"], it["body"]) for it in lines])
-
-
-def at_once(clients):
-    """Runs functions side by side, and raises what one of them raised."""
-    raised = []
-
-    def guarded(client):
-        try:
-            client()
-        except Exception as error:  # told by the case
-            raised.append(error)
-
-    threads = [threading.Thread(target=guarded, args=[it]) for it in clients]
-    for it in threads:
-        it.start()
-    for it in threads:
-        it.join()
-    if raised:
-        raise raised[0]
-
-
-def boarded(loans):
-    """Lines of a day and so many loans."""
-    yield "d day 2024-02-01"
-    for loan in range(1, loans + 1):
-        yield f"b{loan} board {loan} 2023-12-15 200000.00 6000 250 1199.10 360 2024-02 15 500 2 0.00 AA"
-
-
-class Payer:
-    """A client that sends payments of a loan over one connection, each once, as long as it is told to go on."""
-
-    def __init__(self, front, loan, goes_on):
-        self.front, self.loan, self.goes_on = front, loan, goes_on
-        self.numbers, self.longest = [], 0.0
-
-    def __call__(self):
-        link = self.front.link()
-        while self.goes_on(len(self.numbers)):
-            began = time.monotonic()
-            count = len(self.numbers) + 1
-            line = f"p{self.loan}.{count} pay {self.loan} 2024-02-01 {count}.00"
-            link.request("POST", COMMANDS, bodies.body_of(line), JSON)
-            got = link.getresponse()
-            reply = got.read()
-            if got.status != 200:
-                raise AssertionError(f"{got.status} {reply}")
-            self.numbers.append(json.loads(reply)["number"])
-            self.longest = max(self.longest, time.monotonic() - began)
-        link.close()
-
-
-def paid_by(room, payers):
-    """Sees that all numbers from 10 on were answered, each once, and that the journal has these payments."""
-    numbers = [number for it in payers for number in it.numbers]
-    same(list(range(10, 10 + len(numbers))), sorted(numbers))
-    lines = reckon.lines_of_journal(read(room, "books.journal"))
-    keys = [f"p{it.loan}.{count}" for it in payers for count in range(1, len(it.numbers) + 1)]
-    same(sorted(keys), sorted(it.split(b" ")[0].decode() for it in lines[9:]))
-
-
-@case("nginx: eight clients at once, 20 commands each: all are booked once, under numbers of their own")
-def eight(room):
-    with before(room, new_journal(room, boarded(8))) as (kept, front):
-        payers = [Payer(front, loan, lambda count: count < 20) for loan in range(1, 9)]
-        at_once(payers)
-        kept.close()
-        same([20] * 8, [len(it.numbers) for it in payers])
-        paid_by(room, payers)
-
-
-@case("nginx: the program is killed six times under eight clients: every request is answered, and in the journal once")
-def restarts(room):
-    done = threading.Event()
-
-    def killer():
-        try:
-            for _ in range(6):
-                time.sleep(0.5)
-                kept.kill()
-        finally:
-            done.set()
-
-    with before(room, new_journal(room, boarded(8))) as (kept, front):
-        payers = [Payer(front, loan, lambda count: not done.is_set()) for loan in range(1, 9)]
-        at_once([*payers, killer])
-        kept.close()
-        paid_by(room, payers)
-        same(True, kept.starts >= 4, "starts")
-        if max(it.longest for it in payers) > 9:
-            raise AssertionError([it.longest for it in payers])
-
-
-@case("nginx: a program that ends after every fifth connection: 40 requests are answered")
-def fives(room):
-    with before(room, new_journal(room), connections=5, pause=0.05) as (kept, front):
-        link = front.link()
-        for i in range(1, 41):
-            link.request("POST", COMMANDS, body_of_day(i), JSON)
-            got = link.getresponse()
-            same(ok(i), (got.status, got.read()))
-        link.close()
-        same(True, kept.starts >= 9)
-        kept.close()
-
-
-@case("nginx: a program that does not come back: 504 after the time of the waiting room, for five clients at once")
-def never(room):
-    needs("nginx", "openssl")
-    front = Front(room, replay.free_port(), wait="2s")
-
-    def client():
-        began = time.monotonic()
-        same(504, front.ask("GET", CUSTODIAL)[0])
-        if not 1.5 < time.monotonic() - began < 5:
-            raise AssertionError(time.monotonic() - began)
-
-    try:
-        at_once([client] * 5)
-    finally:
-        front.end()
-
-
-def is_let_go(link):
-    """Whether nginx ends a connection within some seconds."""
-    link.settimeout(6)
-    try:
-        while link.recv(65536):
-            pass
-        return True
-    except socket.timeout:
-        return False
-    except OSError:
-        return True
-
-
-@case("nginx: peers that send nothing, half a head and half a body hold nobody up, and are let go")
-def halves(room):
-    with before(room, new_journal(room)) as (kept, front):
-        body = body_of_day(1)
-        head = f"POST {COMMANDS} HTTP/1.1\r\nHost: {NAME}\r\nAuthorization: {ACCESS['Authorization']}\r\n"
-        whole = head.encode() + b"Content-Type: application/json\r\nContent-Length: %d\r\n\r\n" % len(body) + body
-        peers = []
-        for given in (b"", whole[:40], whole[:-1], whole[:-len(body)]):
-            peers.append(front.plain())
-            peers[-1].sendall(given)
-        peers.append(socket.create_connection(("127.0.0.1", front.port)))
-        began = time.monotonic()
-        same((200, EMPTY), front.ask("GET", CUSTODIAL))
-        if time.monotonic() - began > 1:
-            raise AssertionError("held up")
-        for peer in peers:
-            same(True, is_let_go(peer))
-        same(ok(1), front.ask("POST", COMMANDS, body, JSON))
-        kept.close()
-        same(1, len(reckon.lines_of_journal(read(room, "books.journal"))))
-
-
-@case("nginx: a client that asks for long reports and never reads holds nobody up, and is let go")
-def deaf(room):
-    lines = [*boarded(3000), "c0 close 2023-12", "c1 close 2024-01"]
-    with before(room, new_journal(room, lines)) as (kept, front):
-        peer = front.plain()
-        peer.sendall((f"GET /v1/months/2024-01/report HTTP/1.1\r\nHost: {NAME}\r\nAuthorization: "
-                      f"{ACCESS['Authorization']}\r\n\r\n").encode() * 50)
-        time.sleep(0.3)
-        began = time.monotonic()
-        status, report = front.ask("GET", "/v1/months/2024-01/report")
-        same((200, 3000), (status, report.count(b"\\nline ")))
-        same(ok(3004), front.ask("POST", COMMANDS, bodies.body_of("d2 day 2024-02-02"), JSON))
-        if time.monotonic() - began > 1.5:
-            raise AssertionError("held up")
-        time.sleep(2.5)
-        same(True, is_let_go(peer))
-        kept.close()
-
-
-@case("nginx: 17 MB of commands over one connection of a client, which the program alone would cut")
-def long_link(room):
-    with before(room, new_journal(room)) as (kept, front):
-        body = body_of_day(1)
-        body = body[:-1] + b" " * (2048 - len(body)) + b"}"
-        request = (f"POST {COMMANDS} HTTP/1.1\r\nHost: {NAME}\r\nContent-Type: application/json\r\nAuthorization: "
-                   f"{ACCESS['Authorization']}\r\nContent-Length: {len(body)}\r\n\r\n").encode() + body
-        count = 17_000_000 // len(request) + 1
-        link = front.plain()
-        answers = link.makefile("rb")
-        for _ in range(count):
-            link.sendall(request)
-            same(b"HTTP/1.1 200 OK\r\n", answers.readline())
-            length = 0
-            for line in iter(answers.readline, b"\r\n"):
-                name, _, value = line.partition(b": ")
-                length = int(value) if name == b"Content-Length" else length
-            same(ok(1)[1], answers.read(length))
-        link.close()
-        kept.close()
-        same(1, len(reckon.lines_of_journal(read(room, "books.journal"))))
-
 
 # The units
 
@@ -625,6 +167,18 @@ def mornings(room):
          [it.decode() for it in reckon.lines_of_journal(read(room, "var/lib/jaqhendulu/books/books.journal"))])
 
 
+@case("units: a date that is more than ten days ahead is not sent unless it is given")
+def far_ahead(room):
+    today = reckon.datetime.date.today()
+    for name, days, wanted in (("near", 10, (0, "ok 2\n")), ("far", 11, (1, ""))):
+        path = instance(room, name, [f"k1 day {today - reckon.datetime.timedelta(days)}"])
+        with contextlib.closing(kept_unit(room, name)) as kept:
+            same(wanted, run_unit("jaqhendulu-day@.service", name, room, PORT=kept.port)[:2])
+            words = unit("jaqhendulu-day@.service", name, room, PORT=kept.port)[0]
+            same(b"ok 2\n", subprocess.run([*words, str(today)], capture_output=True).stdout)
+        same(2, len(reckon.lines_of_journal(read(path))))
+
+
 def copies(room):
     place = os.path.join(room, "var/lib/jaqhendulu-backup/books")
     return sorted(os.listdir(place)) if os.path.isdir(place) else []
@@ -697,6 +251,266 @@ def old_versions(room):
         write(data, path)
         status, out, log = run_unit(BACKUP, "books", room)
         same((0, "", True), (status, log, out.endswith(" commands 4\n")), out)
+
+
+# The package
+
+@functools.lru_cache
+def made_once():
+    """The bytes of the package and its name."""
+    with tempfile.TemporaryDirectory(prefix="jaqhendulu-") as room:
+        path = make_package(room)
+        return read(path), os.path.basename(path)
+
+
+def packaged(room):
+    """The path of the package in a case's folder."""
+    needs("dpkg-deb", "git", "man")
+    data, name = made_once()
+    write(data, room, name)
+    return os.path.join(room, name)
+
+
+def make_package(room):
+    """Makes the package of the built program: its path."""
+    made = subprocess.run([os.path.join(DEPLOY, "package.sh"), room], capture_output=True, timeout=60,
+                          env={**os.environ, "JAQHENDULU": program.find()})
+    same((0, b""), (made.returncode, made.stderr))
+    return made.stdout.decode().strip()
+
+
+def version():
+    """The program's version, as it says it."""
+    return run("books", "frob")[2].split(b"\n")[1].decode()
+
+
+@case("package: it has the program's bytes, its version once, and is the same when it is made again")
+def package(room):
+    path = packaged(room)
+    same(f"{version().replace(' ', '_')}-1_amd64.deb", os.path.basename(path))
+    again = os.path.join(room, "again")
+    os.mkdir(again)
+    same(read(path), read(make_package(again)))
+    root = os.path.join(room, "root")
+    same(0, subprocess.run(["dpkg-deb", "-x", path, root]).returncode)
+    same(read(program.find()), read(root, "usr/bin/jaqhendulu"))
+    number = version().split(" ")[1]
+    same(True, f"## {number}\n" in read(TOP, "CHANGELOG.md").decode())
+    for name in os.listdir(os.path.join(DEPLOY, "jobs")):
+        same(False, number in text_of("jobs", name), name)
+        same(text_of("jobs", name).replace("@VERSION@", number),
+             read(root, "usr/share/doc/jaqhendulu/examples", name).decode())
+
+
+@case("package: lintian finds no error")
+def linted(room):
+    needs("lintian")
+    ran = subprocess.run(["lintian", "--fail-on", "error", packaged(room)], capture_output=True, timeout=120)
+    same((0, []), (ran.returncode, [it for it in ran.stdout.split(b"\n") if it.startswith(b"E:")]))
+
+
+@case("package: the man page has each word and status of docs/PROGRAM.md, and no fault of form")
+def manual(room):
+    path, root = packaged(room), os.path.join(room, "root")
+    same(0, subprocess.run(["dpkg-deb", "-x", path, root]).returncode)
+    shown = subprocess.run(["man", "--warnings", "-l", os.path.join(root, "usr/share/man/man1/jaqhendulu.1.gz")],
+                           capture_output=True, env={**os.environ, "MANWIDTH": "200", "LC_ALL": "C.UTF-8"})
+    same((0, b""), (shown.returncode, shown.stderr))
+    text = shown.stdout.decode()
+    table = read(TOP, "docs", "PROGRAM.md").decode()
+    words, statuses = re.findall(r"^\| `(.*?)` \|", table, re.M), re.findall(r"^\| (\d+) \| (\w+)", table, re.M)
+    same((16, 14), (len(words), len(statuses)))
+    for it in [*words, *(" ".join(it) for it in statuses)]:
+        same(True, f"\n       {it}" in text, it)
+
+
+def tree(root):
+    """All files under a folder, but those of dpkg itself."""
+    found = [os.path.relpath(os.path.join(place, it), root) for place, _, files in os.walk(root) for it in files]
+    return sorted(it for it in found if not it.startswith(("var/lib/dpkg/", "var/log/")))
+
+
+def dpkg(root, *words):
+    ran = subprocess.run(["dpkg", f"--root={root}", "--force-script-chrootless", "--force-depends", "--force-not-root",
+                          *words], capture_output=True, env={**os.environ, "PATH": PLACES})
+    same(0, ran.returncode, ran.stderr)
+
+
+@case("package: installed in a test root it makes its user; purged it leaves the user, settings and journals alone")
+def installed(room):
+    needs("dpkg", "systemd-sysusers")
+    path, root = packaged(room), os.path.join(room, "root")
+    for folder in ("var/lib/dpkg/info", "var/lib/dpkg/updates", "var/log", "etc/jaqhendulu"):
+        os.makedirs(os.path.join(root, folder))
+    write(b"", root, "var/lib/dpkg/status")
+    write(text_of("systemd", "books.conf").encode(), root, "etc/jaqhendulu/books.conf")
+    instance(root, "books", boarded(2))
+    mine = tree(root)
+    dpkg(root, "-i", path)
+    same(True, re.search(rb"^jaqhendulu:[x!*]*:\d+:\d+:", read(root, "etc/passwd"), re.M) is not None)
+    for line in re.findall(r"^ExecStart=(\S+)", "".join(text_of("systemd", it) for it in UNITS), re.M):
+        same(True, os.access(root + line, os.X_OK), line)
+    ran = subprocess.run([root + "/usr/bin/jaqhendulu", root + "/var/lib/jaqhendulu/books/books.journal", "custodial"],
+                         capture_output=True)
+    same((0, b""), (ran.returncode, ran.stderr))
+    dpkg(root, "--purge", "jaqhendulu")
+    users = {"etc/passwd", "etc/shadow", "etc/group", "etc/gshadow", "etc/.pwd.lock"}
+    same(mine, [it for it in tree(root) if it.rstrip("-") not in users])
+
+
+@case("package: bash completes the words that the program lists")
+def completion(room):
+    needs("bash")
+    os.symlink(program.find(), os.path.join(room, "jaqhendulu"))
+    write(b"", room, "books.journal")
+    script = "source $1; COMP_WORDS=(jaqhendulu $2 $3); COMP_CWORD=$4; _jaqhendulu; echo ${COMPREPLY[@]}"
+    for given, at, wanted in (
+            (("boo", ""), 1, "books.journal"),
+            (("books.journal", "re"), 2, "report remain reconcile"),
+            (("books.journal", "pmi"), 2, "pmi pmi-drops"),
+            (("books.journal", "x"), 2, ""),
+            (("books.journal", ""), 2, " ".join(words_of_program()))):
+        ran = subprocess.run(["bash", "-c", script, "bash", os.path.join(DEPLOY, "completion.bash"), *given, str(at)],
+                             cwd=room, capture_output=True, env={**os.environ, "PATH": f"{room}:{PLACES}"})
+        same((0, wanted, b""), (ran.returncode, ran.stdout.decode().strip(), ran.stderr), given)
+
+
+def words_of_program():
+    """The first words of the table of docs/PROGRAM.md, in its order."""
+    return re.findall(r"^\| `<journal> ([a-z-]+)", read(TOP, "docs", "PROGRAM.md").decode(), re.M)
+
+
+# Many journals
+
+JOBS = ("kubernetes.yaml", "jaqhendulu.nomad.hcl")
+
+
+@case("jobs: their programs are those of the units, one task a journal, and come again after their connections")
+def jobs(room):
+    needs("sh")
+    os.symlink(program.find(), os.path.join(room, "jaqhendulu"))
+    write(generate.journal_of([]), room, "books.journal")
+    port = replay.free_port()
+    wanted = " ".join(unit(UNITS[0], "books", room)[0]).replace(program.find(), "jaqhendulu")
+    for name, ones in zip(JOBS, ("replicas: 1\n", "count = 1\n")):
+        text = text_of("jobs", name)
+        same((1, 1), (text.count(ones), text.count(wanted)))
+        same(1, text.count(f"/usr/libexec/jaqhendulu/day {SETTINGS['PORT']};"), name)
+        same(1, text.count(f"/usr/libexec/jaqhendulu/backup /data/books.journal /copies {SETTINGS['KEEP']};"), name)
+        line = re.search(r'"(while jaqhendulu.*?)"', text)[1]
+        line = changed(line, ("18080 1000000", f"{port} 2"))
+        it = start_words(["sh", "-c", f"echo $$ > shell; {line}"], cwd=room, start_new_session=True,
+                         env={**os.environ, "PATH": f"{room}:{PLACES}"})
+        try:
+            replay.connect(port).close()
+            for number in range(1, 6):
+                same(ok(number), sent_until_answered(port, body_of_day(number)))
+        finally:
+            os.killpg(it.pid, signal.SIGKILL)
+            it.wait()
+
+
+@case("jobs: the file for Kubernetes is YAML of a set of one pod whose volume one pod may mount")
+def yaml_of_kubernetes(room):
+    try:
+        import yaml
+    except ImportError:
+        raise Skipped("python3-yaml is not installed") from None
+    service, pods = yaml.safe_load_all(text_of("jobs", JOBS[0]))
+    same(("Service", "StatefulSet", 1), (service["kind"], pods["kind"], pods["spec"]["replicas"]))
+    same([["ReadWriteOncePod"]] * 2, [it["spec"]["accessModes"] for it in pods["spec"]["volumeClaimTemplates"]])
+    containers = pods["spec"]["template"]["spec"]["containers"]
+    same(["program", "morning", "copies", "nginx"], [it["name"] for it in containers])
+    same([["/data"], [], ["/data", "/copies"]],
+         [[at["mountPath"] for at in it.get("volumeMounts", [])] for it in containers[:3]])
+
+
+LOANS, PARTS = 12000, 10
+
+
+def part_of(lines, part):
+    """The lines of a part's loans, and those of all loans."""
+    for line in lines:
+        words = line.split(" ")
+        if words[1] in ("day", "close", "remit") or (int(words[2]) - 1) * PARTS // LOANS == part:
+            yield line
+
+
+def send_all(port, lines):
+    """Sends commands over one connection, some hundred at a time, and sees that each is accepted."""
+    link = replay.connect(port)
+    answers = link.makefile("rb")
+    for at in range(0, len(lines), 200):
+        some = [bodies.body_of(it) for it in lines[at:at + 200]]
+        link.sendall(b"".join(b"POST %s HTTP/1.1\r\nContent-Length: %d\r\n\r\n%s" % (COMMANDS.encode(), len(it), it)
+                              for it in some))
+        for body in some:
+            same(b"HTTP/1.1 200 OK\r\n", answers.readline(), body)
+            length = int(answers.readline().split(b" ")[1])
+            answers.read(len(b"Content-Type: application/json\r\n\r\n") + length)
+    link.close()
+
+
+def work_part(root, name, lines):
+    """Works a journal through the commands of its units: the service, the days, a copy."""
+    instance(root, name)
+    port = replay.free_port()
+    with contextlib.closing(kept_unit(root, name, PORT=port)):
+        waiting = []
+        for line in lines:
+            words = line.split(" ")
+            if words[1] != "day":
+                waiting.append(line)
+                continue
+            send_all(port, waiting)
+            waiting = []
+            ran = subprocess.run([*unit("jaqhendulu-day@.service", name, root, PORT=port)[0], words[2]],
+                                 capture_output=True, timeout=60)
+            same((0, b"ok"), (ran.returncode, ran.stdout[:2]), name)
+        send_all(port, waiting)
+        same(0, run_unit(BACKUP, name, root)[0])
+
+
+def statement_of(path):
+    """A statement's day, loans and lines, and its totals in cents."""
+    status, text, _ = run(path, "statement")
+    head, *loans, total, end = text.decode().splitlines()
+    same((0, "end"), (status, end))
+    _, day, _, count = head.split(" ")
+    same(len(loans), int(count))
+    return day, loans, [cents(it) for it in re.findall(r"[TP] (\S+)", total)]
+
+
+def cents(amount):
+    return int(amount.replace(".", ""))
+
+
+def custodial_of(path):
+    """The figures of the custodial line in cents."""
+    return [cents(it) for it in re.findall(r"-?\d+\.\d\d", run(path, "custodial")[1].decode())]
+
+
+@case("ten journals of 1,200 loans beside each other add up to one of 12,000, to the cent")
+def ten(room):
+    root = "/dev/shm" if os.access("/dev/shm", os.W_OK) else room
+    with tempfile.TemporaryDirectory(prefix="jaqhendulu-", dir=root) as root:
+        lines = list(generate.year(LOANS, 2, 62))
+        lines += [f"e{loan} deposit {loan} 2024-03-01 {loan % 97}.{loan % 100:02}" for loan in range(1, LOANS + 1, 5)]
+        at_once([functools.partial(work_part, root, f"part{it}", list(part_of(lines, it))) for it in range(PARTS)])
+        one = os.path.join(root, "one.journal")
+        run(one, "init")
+        replies = run(one, "apply", given="".join(f"{it}\n" for it in lines).encode())[1]
+        same(len(lines), replies.count(b"ok "))
+        day, loans, totals = statement_of(one)
+        same(LOANS, len(loans))
+        paths = [os.path.join(root, "var/lib/jaqhendulu", f"part{it}", "books.journal") for it in range(PARTS)]
+        parts = [statement_of(it) for it in paths]
+        same([day] * PARTS, [it[0] for it in parts])
+        same([1200] * PARTS, [len(it[1]) for it in parts])
+        same(loans, [line for it in parts for line in it[1]])
+        same(totals, [sum(it) for it in zip(*(it[2] for it in parts))])
+        same(custodial_of(one), [sum(it) for it in zip(*map(custodial_of, paths))])
+        same(True, min(totals) > 0)
 
 
 if __name__ == "__main__":
