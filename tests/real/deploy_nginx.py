@@ -5,7 +5,6 @@ import http.client
 import json
 import os
 import shutil
-import signal
 import socket
 import ssl
 import subprocess
@@ -48,15 +47,15 @@ http {{
 class Front:
     """nginx with the site of deploy/ before a port, under other ports and files and with shorter times."""
 
-    def __init__(self, room, behind, wait="10s"):
+    def __init__(self, room, behind, wait="10s", changes=()):
         needs("nginx", "openssl")
         self.room, self.port, waiting = room, replay.free_port(), replay.free_port()
         site = changed(text_of("nginx", "jaqhendulu.conf"), ("443", str(self.port)), ("18079", str(waiting)),
                        ("127.0.0.1:18080", f"127.0.0.1:{behind}"), ("/etc/jaqhendulu/", room + "/"),
                        ("/var/log/nginx/", room + "/"), ("timeout 10s", "timeout 1s"),
-                       ("keepalive_timeout 30s", "keepalive_timeout 2s"), ("read_timeout 30s", f"read_timeout {wait}"))
-        self.path = os.path.join(room, "site.conf")
-        write(site.encode(), self.path)
+                       ("keepalive_timeout 30s", "keepalive_timeout 2s"), ("read_timeout 30s", f"read_timeout {wait}"),
+                       *changes)
+        write(site.encode(), room, "site.conf")
         write(MAIN.format(room=room, user="user root;" if os.getuid() == 0 else "").encode(), room, "main.conf")
         write(f"{USER}:{{PLAIN}}{PASSWORD}\n".encode(), room, "users")
         self.certificate()
@@ -101,14 +100,14 @@ class Front:
 
 
 @contextlib.contextmanager
-def before(room, path, connections=100000, pause=0.3):
+def before(room, path, connections=100000, pause=0.3, changes=()):
     """nginx before a program that is kept; both are ended."""
     needs("nginx", "openssl")
     port = replay.free_port()
     kept = Kept([program.find(), path, "serve", str(port), str(connections)], room, port, pause)
     front = None
     try:
-        front = Front(room, kept.port)
+        front = Front(room, kept.port, changes=changes)
         yield kept, front
     finally:
         if front:
@@ -169,19 +168,11 @@ def kept_out(room):
 
 @case("nginx: a web page that has a row may send requests")
 def named_page(room):
-    with before(room, new_journal(room)) as (kept, front):
-        site = read(front.path).decode()
-        write(changed(site, ('""         0;', '"" 0; "https://desk.example" 0;')).encode(), front.path)
-        front.it.send_signal(signal.SIGHUP)
-        status = 403
-        for _ in range(100):
-            status, got = front.ask("POST", COMMANDS, body_of_day(1), {**JSON, "Origin": "https://desk.example"})
-            if status != 403:
-                break
-            time.sleep(0.02)
-        same(ok(1), (status, got))
-        same(403, front.ask("POST", COMMANDS, body_of_day(1), {**JSON, "Origin": "https://desk.example.evil"})[0])
-        kept.close()
+    row = ('""         0;', '"" 0; "https://desk.example" 0;')
+    with before(room, new_journal(room), changes=[row]) as (kept, front):
+        for origin, status in (("https://desk.example", 200), ("https://desk.example.evil", 403),
+                               ("http://desk.example", 403)):
+            same(status, front.ask("POST", COMMANDS, body_of_day(1), {**JSON, "Origin": origin})[0], origin)
 
 
 @case("nginx: the log has the user, the command and what came of it")
