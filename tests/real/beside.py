@@ -24,7 +24,7 @@ def needs(*names):
     """Skips a case where a program is not installed."""
     missing = [it for it in names if not shutil.which(it, path=PLACES)]
     if missing:
-        raise Skipped(f"{', '.join(missing)} is not installed")
+        raise Skipped(f"not installed: {', '.join(missing)}")
 
 
 def text_of(*path):

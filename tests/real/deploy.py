@@ -97,24 +97,50 @@ def calls_of_group(name):
     return calls.union(*(calls_of_group(it) for it in words if it.startswith("@")))
 
 
-@case("units: the program makes no call of the system that its unit forbids")
-def calls(room):
-    needs("strace", "systemd-analyze")
+def end_group(it):
+    """Ends a process that began a session, and what it started."""
+    with contextlib.suppress(ProcessLookupError):
+        os.killpg(it.pid, signal.SIGKILL)
+    it.wait()
+
+
+def allowed_calls(name):
+    """The calls that a unit allows."""
     allowed = set()
-    for line in re.findall(r"^SystemCallFilter=(.*)$", text_of("systemd", UNITS[0]), re.M):
+    for line in re.findall(r"^SystemCallFilter=(.*)$", text_of("systemd", name), re.M):
         groups = set().union(*(calls_of_group(it) for it in line.lstrip("~").split(" ")))
         allowed = allowed - groups if line.startswith("~") else allowed | groups
-    path = instance(room, "books")
-    words, place = unit(UNITS[0], "books", room, PORT=replay.free_port(), CONNECTIONS=2)
-    it = start_words(["strace", "-f", "-o", os.path.join(room, "calls"), *words], cwd=place)
-    replay.connect(int(words[3])).close()
-    link = bodies.link_to(int(words[3]))
-    same(ok(1), bodies.ask(link, "POST", COMMANDS, body_of_day(1)))
-    link.close()
-    it.wait(timeout=20)
-    made = set(re.findall(r"^\d+ +(\w+)\(", read(room, "calls").decode(), re.M))
-    same(True, "flock" in made and "accept4" in made)
-    same(set(), made - allowed - {"execve"})
+    return allowed
+
+
+def calls_made(file):
+    """The calls of a log of strace, and the families of the sockets."""
+    text = read(file).decode()
+    return set(re.findall(r"^\d+ +(\w+)\(", text, re.M)), set(re.findall(r"socket\((\w+)", text))
+
+
+@case("units: what they start makes no call of the system, and no socket, that they forbid")
+def calls(room):
+    needs("strace", "systemd-analyze")
+    path, port = instance(room, "books"), replay.free_port()
+    logs = [os.path.join(room, it) for it in UNITS[:3]]
+    traced = {name: ["strace", "-f", "-o", log, *unit(name, "books", room, PORT=port, CONNECTIONS=3)[0]]
+              for name, log in zip(UNITS, logs)}
+    it = start_words(traced[UNITS[0]], cwd=os.path.dirname(path), start_new_session=True)
+    try:
+        replay.connect(port).close()
+        for name in UNITS[1:3]:  # the day takes two connections
+            same(0, subprocess.run(traced[name], capture_output=True, timeout=60,
+                                   env={**os.environ, "JAQHENDULU": program.find()}).returncode, name)
+        same(0, it.wait(timeout=20))
+    finally:
+        end_group(it)
+    for name, log in zip(UNITS, logs):
+        made, families = calls_made(log)
+        same(set(), made - allowed_calls(name), name)
+        family = re.search(r"^RestrictAddressFamilies=(.*)$", text_of("systemd", name), re.M)[1]
+        same(set() if family == "none" else {family}, families, name)
+    same(True, "flock" in calls_made(logs[0])[0])
     same(1, len(reckon.lines_of_journal(read(path))))
 
 
@@ -401,15 +427,14 @@ def jobs(room):
         same(1, text.count(f"/usr/libexec/jaqhendulu/backup /data/books.journal /copies {SETTINGS['KEEP']};"), name)
         line = re.search(r'"(while jaqhendulu.*?)"', text)[1]
         line = changed(line, ("18080 1000000", f"{port} 2"))
-        it = start_words(["sh", "-c", f"echo $$ > shell; {line}"], cwd=room, start_new_session=True,
+        it = start_words(["sh", "-c", line], cwd=room, start_new_session=True,
                          env={**os.environ, "PATH": f"{room}:{PLACES}"})
         try:
             replay.connect(port).close()
             for number in range(1, 6):
                 same(ok(number), sent_until_answered(port, body_of_day(number)))
         finally:
-            os.killpg(it.pid, signal.SIGKILL)
-            it.wait()
+            end_group(it)
 
 
 @case("jobs: the file for Kubernetes is YAML of a set of one pod whose volume one pod may mount")
@@ -417,7 +442,7 @@ def yaml_of_kubernetes(room):
     try:
         import yaml
     except ImportError:
-        raise Skipped("python3-yaml is not installed") from None
+        raise Skipped("not installed: python3-yaml") from None
     service, pods = yaml.safe_load_all(text_of("jobs", JOBS[0]))
     same(("Service", "StatefulSet", 1), (service["kind"], pods["kind"], pods["spec"]["replicas"]))
     same([["ReadWriteOncePod"]] * 2, [it["spec"]["accessModes"] for it in pods["spec"]["volumeClaimTemplates"]])
@@ -494,6 +519,7 @@ def custodial_of(path):
 
 @case("ten journals of 1,200 loans beside each other add up to one of 12,000, to the cent")
 def ten(room):
+    # Each command is synced: in memory where that is possible, for the disk's sake.
     root = "/dev/shm" if os.access("/dev/shm", os.W_OK) else room
     with tempfile.TemporaryDirectory(prefix="jaqhendulu-", dir=root) as root:
         lines = list(generate.year(LOANS, 2, 62))

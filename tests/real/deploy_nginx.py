@@ -34,6 +34,7 @@ pid {room}/nginx.pid;
 error_log {room}/error.log;
 events {{ worker_connections 2048; }}
 http {{
+    access_log off;
     client_body_temp_path {room}/body;
     proxy_temp_path {room}/proxy;
     fastcgi_temp_path {room}/fastcgi;
@@ -52,7 +53,7 @@ class Front:
         self.room, self.port, waiting = room, replay.free_port(), replay.free_port()
         site = changed(text_of("nginx", "jaqhendulu.conf"), ("443", str(self.port)), ("18079", str(waiting)),
                        ("127.0.0.1:18080", f"127.0.0.1:{behind}"), ("/etc/jaqhendulu/", room + "/"),
-                       ("/var/log/nginx/", room + "/"), ("timeout 10s", "timeout 1s"),
+                       ("/var/log/nginx/", room + "/"), ("timeout 10s", "timeout 2s"),
                        ("keepalive_timeout 30s", "keepalive_timeout 2s"), ("read_timeout 30s", f"read_timeout {wait}"),
                        *changes)
         write(site.encode(), room, "site.conf")
@@ -274,7 +275,7 @@ def never(room):
     def client():
         began = time.monotonic()
         same(504, front.ask("GET", CUSTODIAL)[0])
-        if not 1.5 < time.monotonic() - began < 5:
+        if not 1.5 < time.monotonic() - began < 8:
             raise AssertionError(time.monotonic() - began)
 
     try:
@@ -309,7 +310,7 @@ def halves(room):
         peers.append(socket.create_connection(("127.0.0.1", front.port)))
         began = time.monotonic()
         same((200, EMPTY), front.ask("GET", CUSTODIAL))
-        if time.monotonic() - began > 1:
+        if time.monotonic() - began > 1.9:
             raise AssertionError("held up")
         for peer in peers:
             same(True, is_let_go(peer))
@@ -330,9 +331,9 @@ def deaf(room):
         status, report = front.ask("GET", "/v1/months/2024-01/report")
         same((200, 3000), (status, report.count(b"\\nline ")))
         same(ok(3004), front.ask("POST", COMMANDS, bodies.body_of("d2 day 2024-02-02"), JSON))
-        if time.monotonic() - began > 1.5:
+        if time.monotonic() - began > 1.9:
             raise AssertionError("held up")
-        time.sleep(2.5)
+        time.sleep(3)
         same(True, is_let_go(peer))
         kept.close()
 
