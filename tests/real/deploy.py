@@ -307,6 +307,18 @@ def make_package(room):
     return made.stdout.decode().strip()
 
 
+@case("package: a program of another version is refused")
+def other_version(room):
+    needs("dpkg-deb", "git")
+    other = os.path.join(room, "other")
+    write(b"#!/bin/sh\necho status 2 Usage >&2\necho jaqhendulu 0.0.1 >&2\nexit 2\n", other)
+    os.chmod(other, 0o755)
+    made = subprocess.run([os.path.join(DEPLOY, "package.sh"), room], capture_output=True,
+                          env={**os.environ, "JAQHENDULU": other})
+    same((1, b"", True), (made.returncode, made.stdout, b"jaqhendulu 0.0.1" in made.stderr))
+    same(["other"], os.listdir(room))
+
+
 def version():
     """The program's version, as it says it."""
     return run("books", "frob")[2].split(b"\n")[1].decode()

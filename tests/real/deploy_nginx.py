@@ -1,6 +1,7 @@
 """Tests of the site of deploy/nginx with a real nginx; deploy.py runs them."""
 import base64
 import contextlib
+import functools
 import http.client
 import json
 import os
@@ -58,7 +59,8 @@ class Front:
                        *changes)
         write(site.encode(), room, "site.conf")
         write(MAIN.format(room=room, user="user root;" if os.getuid() == 0 else "").encode(), room, "main.conf")
-        write(f"{USER}:{{PLAIN}}{PASSWORD}\n".encode(), room, "users")
+        hashed = subprocess.run(["openssl", "passwd", "-apr1", PASSWORD], capture_output=True, check=True).stdout
+        write(f"{USER}:{{PLAIN}}{PASSWORD}\nauditor:".encode() + hashed, room, "users")
         self.certificate()
         words = [shutil.which("nginx", path=PLACES), "-p", room, "-c", os.path.join(room, "main.conf")]
         checked = subprocess.run([*words, "-t"], capture_output=True)
@@ -73,10 +75,15 @@ class Front:
              os.path.join(self.room, "tls.key"), "-out", os.path.join(self.room, "tls.crt")], capture_output=True)
         same(0, made.returncode, made.stderr)
 
-    def plain(self, name=NAME):
-        """A TLS connection to a name."""
-        trusts = ssl.create_default_context(cafile=os.path.join(self.room, "tls.crt"))
-        return trusts.wrap_socket(socket.create_connection(("127.0.0.1", self.port), timeout=20), server_hostname=name)
+    @functools.cached_property
+    def trusts(self):
+        """What a client trusts: this site's certificate."""
+        return ssl.create_default_context(cafile=os.path.join(self.room, "tls.crt"))
+
+    def plain(self):
+        """A TLS connection."""
+        link = socket.create_connection(("127.0.0.1", self.port), timeout=20)
+        return self.trusts.wrap_socket(link, server_hostname=NAME)
 
     def link(self):
         """The same by `http.client`."""
@@ -140,6 +147,18 @@ def routes(room):
         same(2, len(reckon.lines_of_journal(read(room, "books.journal"))))
 
 
+def has_no_handshake(front, name):
+    """Whether nginx ends the handshake of a client that asks for a name, and would take any certificate."""
+    takes_all = ssl.SSLContext(ssl.PROTOCOL_TLS_CLIENT)
+    takes_all.check_hostname, takes_all.verify_mode = False, ssl.CERT_NONE
+    with socket.create_connection(("127.0.0.1", front.port), timeout=20) as link:
+        try:
+            takes_all.wrap_socket(link, server_hostname=name).close()
+            return False
+        except ssl.SSLError as error:
+            return "UNRECOGNIZED_NAME" in str(error)
+
+
 @case("nginx: no user, a foreign web page, another type, another name and long bodies do not reach the program")
 def kept_out(room):
     with before(room, new_journal(room)) as (kept, front):
@@ -156,15 +175,25 @@ def kept_out(room):
                 (421, {**JSON, "Host": "evil.example"})):
             same(status, front.ask("POST", COMMANDS, body, headers)[0], headers)
         same(413, front.ask("POST", COMMANDS, body + b" " * 2048, JSON)[0])
-        for name in ("evil.example", None):
-            try:
-                front.plain(name)
-            except (ssl.SSLError, ValueError):
-                continue
-            raise AssertionError(f"a handshake with the name {name}")
+        same([True, True, False], [has_no_handshake(front, it) for it in ("evil.example", None, NAME)])
         same([], reckon.lines_of_journal(read(room, "books.journal")))
         same(ok(1), front.ask("POST", COMMANDS, body, {**JSON, "Content-Type": "Application/JSON; charset=utf-8"}))
         kept.close()
+
+
+@case("nginx: a word kept as README.md has it is asked for; certificates of clients may stand in the place of words")
+def ways_in(room):
+    def word(given):
+        return {"Authorization": "Basic " + base64.b64encode(f"auditor:{given}".encode()).decode()}
+
+    with before(room, new_journal(room)) as (_, front):
+        same([200, 401], [front.ask("GET", CUSTODIAL, headers=word(it))[0] for it in (PASSWORD, PASSWORD + "x")])
+    certified = [('auth_basic "Jaqhendulu";', f"ssl_client_certificate {room}/tls.crt;"),
+                 (f"auth_basic_user_file {room}/users;", "ssl_verify_client on;")]
+    with before(room, os.path.join(room, "books.journal"), changes=certified) as (_, front):
+        same(400, front.ask("GET", CUSTODIAL, headers={})[0])
+        front.trusts.load_cert_chain(os.path.join(room, "tls.crt"), os.path.join(room, "tls.key"))
+        same((200, EMPTY), front.ask("GET", CUSTODIAL, headers={}))
 
 
 @case("nginx: a web page that has a row may send requests")
@@ -280,6 +309,17 @@ def never(room):
 
     try:
         at_once([client] * 5)
+    finally:
+        front.end()
+
+
+@case("nginx: 70 requests at once, of which 64 may wait: six are answered with 503")
+def crowd(room):
+    needs("nginx", "openssl")
+    front, statuses = Front(room, replay.free_port(), wait="4s"), []
+    try:
+        at_once([lambda: statuses.append(front.ask("GET", CUSTODIAL)[0])] * 70)
+        same([503] * 6 + [504] * 64, sorted(statuses))
     finally:
         front.end()
 
