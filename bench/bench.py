@@ -135,7 +135,7 @@ def session_large(room):
 
 BOOKKEEPERS = (("ledger", generate.as_ledger, ("-f", "FILE", "balance", "--depth", "1")),
                ("hledger", generate.as_ledger, ("-f", "FILE", "balance", "--depth", "1")),
-               ("bean-check", generate.as_beancount, ("FILE",)))
+               ("bean-check", generate.as_beancount, ("--no-cache", "FILE")))
 
 
 def bookkeeper_rows(room):
