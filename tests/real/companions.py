@@ -67,17 +67,17 @@ def helps(room):
 # tidy.py
 
 # A bank's sheets that say one and the same, with the words that read them.
-PAYMENTS = (b"key,do,loan,day,amount,line\nT1,pay,101,2024-02-01,1199.10,\nT2,pay,102,2024-12-31,1200.00,\n"
-            b"T3,pay,103,2024-02-29,500.50,\n")
+PAYMENTS = (b"key,do,loan,day,amount,line\nQ1,pay,101,2024-02-01,1199.10,\nQ2,pay,102,2024-12-31,1200.00,\n"
+            b"Q3,pay,103,2024-02-29,500.50,\n")
 SHEETS = [
-    ("Trace;Loan;Date;Amount\r\nT1;101;2024-02-01;1199.1\r\nT2;102;2024-12-31;1,200.00\r\n"
-     "T3;103;2024-02-29;$500.50\r\n",
+    ("Trace;Loan;Date;Amount\r\nQ1;101;2024-02-01;1199.1\r\nQ2;102;2024-12-31;1,200.00\r\n"
+     "Q3;103;2024-02-29;$500.50\r\n",
      "--set do=pay"),
-    ("Amount\tLOAN NUMBER\tNote\tEffective Date\tkey\n$1,199.10\t101\ta, b\t2/1/2024\tT1\n"
-     "1200.0\t102\t\t12/31/2024\tT2\n500.5\t103\t\t02/29/2024\tT3", "--set do=pay --dates mdy"),
-    ("\ufeffloan,day,amount,key,do\n101,1.2.24,\"1,199.10\",T1,Wire\n,,,,\n\n102,31.12.2024,\"$1,200.00\",T2,pay\n"
-     "0103,29.02.2024,$ 500.50,T3,WIRE\n", "--dates dmy --word wire=pay"),
-    ("Sum,Loan,Date,Id,line\n1199.10,101,2024/2/1,T1,\n1200,102,2024/12/31,T2,\n500.50,103,2024-02-29,T3,\n",
+    ("Amount\tLOAN NUMBER\tNote\tEffective Date\tkey\n$1,199.10\t101\ta, b\t2/1/2024\tQ1\n"
+     "1200.0\t102\t\t12/31/2024\tQ2\n500.5\t103\t\t02/29/2024\tQ3", "--set do=pay --dates mdy"),
+    ("\ufeffloan,day,amount,key,do\n101,1.2.24,\"1,199.10\",Q1,Wire\n,,,,\n\n102,31.12.2024,\"$1,200.00\",Q2,pay\n"
+     "0103,29.02.2024,$ 500.50,Q3,WIRE\n", "--dates dmy --word wire=pay"),
+    ("Sum,Loan,Date,Id,line\n1199.10,101,2024/2/1,Q1,\n1200,102,2024/12/31,Q2,\n500.50,103,2024-02-29,Q3,\n",
      "--set do=pay --dates ymd --whole --column amount=sum --column key=ID"),
 ]
 
@@ -90,38 +90,38 @@ def sheets_read(room):
 
 # A row that is refused below `key,do,loan,day,amount,line`, the words, and what the reason has in it.
 DOUBTS = [
-    ("T1,pay,101,2024-02-01,1199,", "", "amount '1199' has no point"),
-    ("T1,pay,101,2024-02-01,\"1,199\",", "", "amount '1,199' has no point"),
-    ("T1,pay,101,2024-02-01,\"1199,10\",", "", "amount '1199,10' is no amount"),
-    ("T1,pay,101,2024-02-01,1.199,", "", "amount '1.199' is no amount"),
-    ("T1,pay,101,2024-02-01,\"1,19.10\",", "--whole", "amount '1,19.10' is no amount"),
-    ("T1,pay,101,2024-02-01,-5.00,", "", "amount '-5.00' is below zero"),
-    ("T1,pay,101,2024-02-01,(5.00),", "", "amount '(5.00)' is below zero"),
-    ("T1,pay,101,2024-02-01,,", "", "amount is empty"),
-    ("T1,pay,101,2/1/2024,5.00,", "", "day '2/1/2024' may be read in several orders"),
-    ("T1,pay,101,2/1/94,5.00,", "--dates mdy", "day '2/1/94' may be of 1994 or 2094"),
-    ("T1,pay,101,2/1/202,5.00,", "--dates mdy", "day '2/1/202' is no day in the order mdy"),
-    ("T1,pay,101,2/1/24,5.00,", "--dates ymd", "day '2/1/24' is no day in the order ymd"),
-    ("T1,pay,101,31/1/2024,5.00,", "--dates mdy", "day '31/1/2024' is no day of the calendar in the order mdy"),
-    ("T1,pay,101,2023-02-29,5.00,", "", "day '2023-02-29' is no day of the calendar"),
-    ("T1,pay,101,1989-12-31,5.00,", "", "day '1989-12-31' is not of the years 1990 to 2099"),
-    ("T1,pay,101,45323,5.00,", "--dates mdy", "day '45323' is no day"),
-    ("T1,pay,1O1,2024-02-01,5.00,", "", "loan '1O1' is no whole number"),
-    ("T1,pay,4294967296,2024-02-01,5.00,", "", "loan '4294967296' is above 4294967295"),
-    ("T1,Wire,101,2024-02-01,5.00,", "", "do 'Wire' is none of pay, curtail, payoff, deposit, disburse"),
+    ("Q1,pay,101,2024-02-01,1199,", "", "amount '1199' has no point"),
+    ("Q1,pay,101,2024-02-01,\"1,199\",", "", "amount '1,199' has no point"),
+    ("Q1,pay,101,2024-02-01,\"1199,10\",", "", "amount '1199,10' is no amount"),
+    ("Q1,pay,101,2024-02-01,1.199,", "", "amount '1.199' is no amount"),
+    ("Q1,pay,101,2024-02-01,\"1,19.10\",", "--whole", "amount '1,19.10' is no amount"),
+    ("Q1,pay,101,2024-02-01,-5.00,", "", "amount '-5.00' is below zero"),
+    ("Q1,pay,101,2024-02-01,(5.00),", "", "amount '(5.00)' is below zero"),
+    ("Q1,pay,101,2024-02-01,,", "", "amount is empty"),
+    ("Q1,pay,101,2/1/2024,5.00,", "", "day '2/1/2024' may be read in several orders"),
+    ("Q1,pay,101,2/1/94,5.00,", "--dates mdy", "day '2/1/94' may be of 1994 or 2094"),
+    ("Q1,pay,101,2/1/202,5.00,", "--dates mdy", "day '2/1/202' is no day in the order mdy"),
+    ("Q1,pay,101,2/1/24,5.00,", "--dates ymd", "day '2/1/24' is no day in the order ymd"),
+    ("Q1,pay,101,31/1/2024,5.00,", "--dates mdy", "day '31/1/2024' is no day of the calendar in the order mdy"),
+    ("Q1,pay,101,2023-02-29,5.00,", "", "day '2023-02-29' is no day of the calendar"),
+    ("Q1,pay,101,1989-12-31,5.00,", "", "day '1989-12-31' is not of the years 1990 to 2099"),
+    ("Q1,pay,101,45323,5.00,", "--dates mdy", "day '45323' is no day"),
+    ("Q1,pay,1O1,2024-02-01,5.00,", "", "loan '1O1' is no whole number"),
+    ("Q1,pay,4294967296,2024-02-01,5.00,", "", "loan '4294967296' is above 4294967295"),
+    ("Q1,Wire,101,2024-02-01,5.00,", "", "do 'Wire' is none of pay, curtail, payoff, deposit, disburse"),
     ("4.02E+15,pay,101,2024-02-01,5.00,", "", "key '4.02E+15' was rounded by the spreadsheet"),
     ("a b,pay,101,2024-02-01,5.00,", "", "key 'a b' is no key"),
-    ("T0,pay,101,2024-02-01,5.00,", "", "key 'T0' is that of row 2 too"),
-    ("T1,curtail,101,2024-02-01,5.00,principal", "", "line 'principal' does not go with curtail"),
-    ("T1,disburse,101,2024-02-01,5.00,", "", "line '' is no whole number"),
-    ("T1,pay,101,2024-02-01,1,199.10,", "", "has 7 fields where row 1 has 6"),
+    ("Q0,pay,101,2024-02-01,5.00,", "", "key 'Q0' is that of row 2 too"),
+    ("Q1,curtail,101,2024-02-01,5.00,principal", "", "line 'principal' does not go with curtail"),
+    ("Q1,disburse,101,2024-02-01,5.00,", "", "line '' is no whole number"),
+    ("Q1,pay,101,2024-02-01,1,199.10,", "", "has 7 fields where row 1 has 6"),
     ("Total,,,,5.00,", "", "do is empty"),
 ]
 
 
 @case(f"tidy: {len(DOUBTS)} rows in doubt are refused with row and reason, and nothing is written")
 def doubts(room):
-    head = "key,do,loan,day,amount,line\nT0,pay,101,2024-02-01,5.00,\n"
+    head = "key,do,loan,day,amount,line\nQ0,pay,101,2024-02-01,5.00,\n"
     for row, words, reason in DOUBTS:
         found = tidy.tidy(head + row + "\n", tidy.words_of(words.split()))[1]
         if len(found) != 1 or not found[0].startswith("row 3: " + reason):
@@ -136,15 +136,15 @@ HEADERS = [
     ("key,do,loan,date,amount,effective date\n", "row 1: several columns may be day: 'date', 'effective date'"),
     ("key,do,loan,amount\n", "row 1: no column is day"),
     ("key;do,loan;day,amount\n", "row 1: no column is"),
-    ("key,do,loan,day,amount\n\"T1\"x,pay,101,2024-02-01,5.00\n", "line 2:"),
-    ("key,do,loan,day,amount\n\"T1,pay,101,2024-02-01,5.00\n", "line 2:"),
-    ("key,do,loan,day,amount\nT1,pay,101,2024-02-01,5.00\xff", "byte 49 is not UTF-8"),
+    ("key,do,loan,day,amount\n\"Q1\"x,pay,101,2024-02-01,5.00\n", "line 2:"),
+    ("key,do,loan,day,amount\n\"Q1,pay,101,2024-02-01,5.00\n", "line 2:"),
+    ("key,do,loan,day,amount\nQ1,pay,101,2024-02-01,5.00\xff", "byte 49 is not UTF-8"),
 ]
 
 
 @case("tidy: an amount that is cut at its comma is not taken for whole dollars")
 def cut_at_comma(room):
-    text = "key,do,loan,day,amount,\nT1,pay,101,2024-02-01,1,199.10\n"
+    text = "key,do,loan,day,amount,\nQ1,pay,101,2024-02-01,1,199.10\n"
     found = tidy.tidy(text, tidy.words_of(["--whole"]))[1]
     same(["row 2: '199.10' stands in a column without a name"], found)
 
@@ -245,8 +245,8 @@ def saved(room, path, options, *words):
 def from_libreoffice(room):
     kinds = ("string", "date", "float", "string", "currency")
     rows = [("Trace", "Date", "Loan", "Payer", "Amount"),
-            ("T1", "2024-02-01", "101", "Alvarez, &quot;M&quot;", "1199.1"),
-            ("T2", "2024-12-31", "102", "", "1200"), ("T3", "2024-02-29", "103", "\u00c5se", "500.5")]
+            ("Q1", "2024-02-01", "101", "Alvarez, &quot;M&quot;", "1199.1"),
+            ("Q2", "2024-12-31", "102", "", "1200"), ("Q3", "2024-02-29", "103", "\u00c5se", "500.5")]
     write(opened(kinds, rows).encode(), room, "sheet.fods")
     for options in ("44,34,76,1,,0,false,true", "59,34,76,1,,0,true,true", "9,34,76,1,,0,false,false"):
         data = saved(room, f"{room}/sheet.fods", options)
