@@ -37,6 +37,12 @@ done
 for file in deploy/systemd/books.conf deploy/nginx/jaqhendulu.conf; do
     put 644 "$file" "usr/share/doc/jaqhendulu/examples/$(basename "$file")"
 done
+for file in desk/*.html desk/*.css desk/*.js desk/*.svg; do
+    put 644 "$file" "usr/share/jaqhendulu/$file"
+done
+for file in desk/README.md desk/pictures/*.png; do
+    put 644 "$file" "usr/share/doc/jaqhendulu/$file"
+done
 for file in deploy/jobs/*; do
     sed "s/@VERSION@/$version/" "$file" > "$room/job"
     put 644 "$room/job" "usr/share/doc/jaqhendulu/examples/$(basename "$file")"

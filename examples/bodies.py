@@ -2,7 +2,7 @@
 import http.client
 import json
 
-import reckon
+from spellings import COMMANDS
 
 DATED = "loan day amount"
 FIELDS = {
@@ -15,6 +15,8 @@ FIELDS = {
 PATHS = {
     "books": "loans/{}/books", "at": "loans/{}/books/{}", "payoff": "loans/{}/payoff/{}", "escrow": "loans/{}/escrow",
     "report": "months/{}/report", "trial": "months/{}/trial", "custodial": "custodial", "rows": "rows/{}",
+    "loan": "loans/{}", "history": "loans/{}/history", "quote": "loans/{}/quote/{}", "arrears": "loans/{}/arrears",
+    "aging": "aging", "status": "status", "command": "commands/{}", "key": "keys/{}",
 }
 
 
@@ -22,7 +24,7 @@ def body_of(line):
     """The JSON body of a command's line."""
     key, word, *values = line.split(" ")
     members = {"key": key, "do": word}
-    kinds = reckon.COMMANDS[word].split() + ["rest"]
+    kinds = COMMANDS[word].split() + ["rest"]
     for name, kind, value in zip(FIELDS[word].split(), kinds, values):
         members[name] = int(value) if kind == "number" else value
     return json.dumps(members, separators=(",", ":")).encode()

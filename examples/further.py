@@ -9,6 +9,7 @@ import io
 import re
 
 import reckon
+import spellings
 from reckon import first_day, money, month_interest, month_of, text_of_month
 
 
@@ -95,11 +96,11 @@ def read_statement(text):
         return value
 
     head = words_of(1, ["statement", "", "loans", ""])
-    day, count = checked(1, reckon.read_day(head[1])), checked(1, reckon.read_number(head[3]))
+    day, count = checked(1, spellings.read_day(head[1])), checked(1, spellings.read_number(head[3]))
     rows, number = [], 2
     while len(rows) < count:
         words = words_of(number, sum(([it, ""] for it in NAMES), ["loan", ""]))
-        values = [checked(number, reckon.read_number(words[1]))]
+        values = [checked(number, spellings.read_number(words[1]))]
         for name, word in zip(NAMES, words[3::2]):
             values.append(checked(number, (read_following if name == "next" else read_signed)(word)))
         if rows and values[0] <= rows[-1][0]:
@@ -184,7 +185,7 @@ def insured(data):
     """For each row what it says, or the row and column of its fault."""
     for row, fields in rows_of_csv(data, ["loan", "value", "line", "asked"]):
         values = [read(it) for read, it in zip(
-            (reckon.read_number, reckon.read_amount, reckon.read_number, read_asked), fields)]
+            (spellings.read_number, spellings.read_amount, spellings.read_number, read_asked), fields)]
         if len(fields) == 4 and values[1] == 0:
             values[1] = None
         bad = 5 if len(fields) != 4 else values.index(None) + 1 if None in values else None
@@ -192,7 +193,7 @@ def insured(data):
 
 
 def read_asked(text):
-    return reckon.read_day(text) if text else False
+    return spellings.read_day(text) if text else False
 
 
 def pmi(servicer, data):
@@ -248,7 +249,7 @@ def bank_items(data):
         if len(fields) != 4:
             return row, 5
         cents = read_signed(fields[3]) if len(fields[3].lstrip("-")) <= 19 else None
-        tests = (fields[0] in found, fields[1] in ("T", "P"), reckon.read_number(fields[2]) is not None, bool(cents))
+        tests = (fields[0] in found, fields[1] in ("T", "P"), spellings.read_number(fields[2]) is not None, bool(cents))
         if not all(tests):
             return row, tests.index(False) + 1
         found[fields[0]].append((fields[1], int(fields[2]), cents))

@@ -9,146 +9,13 @@ It keeps nothing but the accepted commands and folds every loan anew for each an
 check of a small servicer's books that shares no code with the program. Python's standard library alone.
 """
 import datetime
-import re
 import struct
 import sys
 
-TOP = 10**10  # the greatest amount, in cents
-
-
-# Values and their spellings
-
-def month_of(day):
-    return day.year * 12 + day.month - 1
-
-
-def first_day(month):
-    return datetime.date(month // 12, month % 12 + 1, 1)
-
-
-def last_day(month):
-    return first_day(month + 1) - datetime.timedelta(1)
-
-
-def text_of_month(month):
-    return f"{month // 12:04}-{month % 12 + 1:02}"
-
-
-def money(cents):
-    sign = "-" if cents < 0 else ""
-    return f"{sign}{abs(cents) // 100}.{abs(cents) % 100:02}"
-
-
-def read_key(text):
-    return text if re.fullmatch(r"[A-Za-z0-9._:-]{1,32}", text) else None
-
-
-def read_number(text):
-    fits = re.fullmatch(r"0|[1-9][0-9]*", text) and int(text) < 2**32
-    return int(text) if fits else None
-
-
-def read_amount(text):
-    fits = re.fullmatch(r"(0|[1-9][0-9]{0,10})\.[0-9]{2}", text)
-    return int(text.replace(".", "")) if fits else None
-
-
-def read_day(text):
-    if not re.fullmatch(r"[0-9]{4}-[0-9]{2}-[0-9]{2}", text) or not 1990 <= int(text[:4]) <= 2099:
-        return None
-    try:
-        return datetime.date(int(text[:4]), int(text[5:7]), int(text[8:]))
-    except ValueError:
-        return None
-
-
-def read_month(text):
-    day = read_day(text + "-01") if re.fullmatch(r"[0-9]{4}-[0-9]{2}", text) else None
-    return None if day is None else month_of(day)
-
-
-def read_part(text):
-    if text in ("-", "leave", "within30"):
-        return (text, 0)
-    count = read_number(text[7:]) if text.startswith("spread:") else None
-    return None if count is None else ("spread", count)
-
-
-def one_of(*words):
-    return lambda text: text if text in words else None
-
-
-READERS = {
-    "day": read_day, "month": read_month, "amount": read_amount, "number": read_number,
-    "type": one_of("AA", "SA", "SS"), "kind": one_of("tax", "hazard", "flood", "other"),
-    "surplus": one_of("-", "refund", "credit", "retain"), "part": read_part,
-    "rest": one_of("principal", "escrow"),
-}
-DATED = "number day amount"
-COMMANDS = {
-    "day": "day", "pay": DATED, "curtail": DATED, "payoff": DATED, "deposit": DATED,
-    "board": "number day amount number number amount number month number number number amount type",
-    "disburse": DATED + " number", "refund": "number amount", "waive": "number amount",
-    "reverse": "number number", "line": "number number kind number number amount", "drop": "number number",
-    "analyse": "number surplus part part", "close": "month", "remit": "month", "retype": "number month type",
-}
-QUERIES = {
-    "books": "number", "at": "number day", "payoff": "number day", "escrow": "number", "report": "month",
-    "trial": "month", "custodial": "", "rows": "number",
-}
-
-
-class NoRequest(Exception):
-    """A line that is no request, with its place."""
-
-
-class Refused(Exception):
-    """A request that a rule refuses, with the rule's text."""
-
-
-def read_line(line):
-    """The key (`?` of a query), the word and the values of a line."""
-    if len(line) > 512:
-        raise NoRequest(512)
-    words = line.split(" ")
-    places = [sum(len(it) + 1 for it in words[:i]) for i in range(len(words))]
-    if words[0] != "?" and read_key(words[0]) is None:
-        raise NoRequest(0)
-    forms = QUERIES if words[0] == "?" else COMMANDS
-    if len(words) < 2:
-        raise NoRequest(len(line))
-    if words[1] not in forms:
-        raise NoRequest(places[1])
-    fields = forms[words[1]].split()
-    values = []
-    for i, field in enumerate(fields, 2):
-        if i >= len(words):
-            raise NoRequest(len(line))
-        values.append(READERS[field](words[i]))
-        if values[-1] is None:
-            raise NoRequest(places[i])
-    rest = words[len(fields) + 2:]
-    if words[1] == "pay" and rest:
-        values.append(READERS["rest"](rest[0]))
-        rest = rest[1:] if values[-1] else rest
-    if rest:
-        raise NoRequest(places[len(words) - len(rest)])
-    return words[0], words[1], values
-
-
-# Numbers
-
-def half_up(a, b):
-    return (2 * a + b) // (2 * b)
-
-
-def month_interest(balance, rate):
-    return half_up(balance * rate, 1_200_000)
-
-
-def days360(a, b):
-    return max(0, 360 * (b.year - a.year) + 30 * (b.month - a.month) + min(b.day, 30) - min(a.day, 30))
-
+from desk import Desk
+from spellings import (
+    TOP, NoRequest, Refused, days360, first_day, half_up, last_day, money, month_interest, month_of, read_line,
+    text_of_month)
 
 # One loan
 
@@ -316,7 +183,8 @@ class Loan:
         self.number, self.terms = number, terms
         self.entries, self.reversed, self.lines, self.types = [], {}, {}, []
 
-    def books(self, day):
+    def events(self, day):
+        """The events up to a day in their order: the day, its rank on it, the number, what happened, and its values."""
         boarded = self.terms["boarded"]
         events = [(first_day(m), 0, 0, "month", ()) for m in range(month_of(boarded) + 1, month_of(day) + 1)]
         for k in range(1, self.terms["term"] + 1):
@@ -326,8 +194,14 @@ class Loan:
             events.append((marked, 1, k, "late", (k,)))
         events += [(at, 2, number, what, values) for number, at, what, values in self.entries
                    if number not in self.reversed and at <= day]
-        books = Books(self.terms)
-        for at, _, _, what, values in sorted(events, key=lambda it: it[:3]):
+        return sorted(events, key=lambda it: it[:3])
+
+    def start(self):
+        return Books(self.terms)
+
+    def books(self, day):
+        books = self.start()
+        for at, _, _, what, values in self.events(day):
             books.happen(at, what, values)
         books.day = day
         return books
@@ -424,7 +298,7 @@ PARTS = {
 
 # The whole servicer
 
-class Servicer:
+class Servicer(Desk):
     """All accepted commands, their replies and what they make."""
 
     def __init__(self):
@@ -449,6 +323,19 @@ class Servicer:
 
     def closed(self):
         return self.reports[-1]["month"] if self.reports else None
+
+    def next_close(self):
+        """The month that `close` expects."""
+        if self.reports:
+            return self.closed() + 1
+        boarded = [month_of(it.terms["boarded"]) for it in self.loans.values()]
+        return min(boarded, default=month_of(self.today))
+
+    def next_remit(self):
+        """The month that `remit` expects; none before the first is closed."""
+        if not self.reports:
+            return None
+        return self.reports[0]["month"] if self.remitted is None else self.remitted + 1
 
     def loan(self, number):
         if number not in self.loans:
@@ -633,11 +520,7 @@ class Servicer:
                               else "18 BadPlan 3 MustSpread Deficient")
 
     def do_close(self, month):
-        expected = month_of(self.today)
-        if self.reports:
-            expected = self.closed() + 1
-        elif self.loans:
-            expected = min(month_of(it.terms["boarded"]) for it in self.loans.values())
+        expected = self.next_close()
         if month != expected:
             raise Refused("21 WrongPeriod " + text_of_month(expected))
         if self.today <= last_day(month):
@@ -662,7 +545,7 @@ class Servicer:
 
     def do_remit(self, month):
         self.check_closed(month)
-        expected = self.reports[0]["month"] if self.remitted is None else self.remitted + 1
+        expected = self.next_remit()
         if month != expected:
             raise Refused("24 WrongRemit " + text_of_month(expected))
         self.remitted = month

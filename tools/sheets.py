@@ -4,6 +4,7 @@
     jaqhendulu books.journal report 2024-03 | sheets.py > report.csv
     jaqhendulu books.journal report 2024-03 | sheets.py --of adjust > adjustments.csv
     for month in 2024-01 2024-02; do jaqhendulu books.journal trial $month; done | sheets.py > trials.csv
+    echo '? history 101' | jaqhendulu books.journal apply | sheets.py > history.csv
 
 The input is one text or several of one kind; each row begins with what its text's first line says. Amounts, days
 and months are as the program writes them, and nothing is added up. These are the kinds of texts, with the words that
@@ -32,12 +33,26 @@ KINDS = {
                 " escrow-advance {escrow advance} held {held} pi-advance {pi advance}",
         "total": "total T {T} P {P}"}),
     "rows": ("rows {command} count {}", {"row": "row {loan} {part} {from} {to} {amount}"}),
+    "history": ("history {loan} {business day} events {}", {
+        "event": "event {day} {command} {event} {amount} interest {interest} principal {principal} escrow {escrow}"
+                 " late {late} charges {charges} suspense {suspense} upb {balance} next {next}",
+        "reversed": "reversed {command} {reversed by}"}),
+    "aging": ("aging {day} loans {}", {
+        "late": "late {loan} next {next} days {days} installments {installments} due {due} suspense {suspense}"
+                " pay {pay} late {late}",
+        "total": "total current {current} late1 {late 1 to 29} late30 {late 30 to 59} late60 {late 60 to 89}"
+                 " late90 {late 90 on} satisfied {satisfied}"}),
     "escrow": ("escrow {loan} from {from} base {base} cushion {cushion} opening {opening} balance {balance}"
                " surplus {surplus} short {short} deficient {deficient} pay {pay}", {
                    "month": "month {month} paid {paid} trial {trial} target {target}"}),
     "books": ("books {loan} {day} upb {balance} next {next} escrow {escrow} suspense {suspense} late {late}"
               " interest {interest} fee {fee} principal {principal} charges {charges} pay {pay}", {}),
     "payoff": ("payoff {loan} {day} {amount}", {}),
+    "quote": ("quote {loan} {day} {amount} perday {per day}", {}),
+    "arrears": ("arrears {loan} {day} installments {installments} due {due} suspense {suspense} pay {pay} late {late}",
+                {}),
+    "status": ("status {day} loans {loans} commands {commands} closed {closed} remitted {remitted} close {close}"
+               " remit {remit} pending {pending} adjustments {adjustments}", {}),
     "custodial": ("custodial T {T} P {P} suspense {suspense} escrow {escrow} escrow-advance {escrow advance}"
                   " held {held} pi-advance {pi advance}", {}),
 }

@@ -100,6 +100,7 @@ job "jaqhendulu-books" {
         volumes = [
           "/etc/jaqhendulu/jaqhendulu.conf:/etc/nginx/conf.d/jaqhendulu.conf:ro",
           "/etc/jaqhendulu:/etc/jaqhendulu:ro",
+          "/usr/share/jaqhendulu:/usr/share/jaqhendulu:ro",
         ]
       }
     }

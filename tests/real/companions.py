@@ -11,46 +11,17 @@ import csv
 import os
 import random
 import re
-import shutil
 import subprocess
 import sys
 
-from harness import TOP, Skipped, case, read, run, run_all, same, write
-sys.path[:0] = [os.path.join(TOP, "tools"), os.path.join(TOP, "bench")]
-import generate  # noqa: E402
-import pair  # noqa: E402
-import plot  # noqa: E402
-import reckon  # noqa: E402
-import sheets  # noqa: E402
-import tidy  # noqa: E402
-import verify  # noqa: E402
-
-EXAMPLES = os.path.join(TOP, "examples")
-
-
-def tool(name, *words, given=b"", status=0):
-    """Runs a companion to its end and gives its output and log, where it ends with that status."""
-    ran = subprocess.run([sys.executable, os.path.join(TOP, "tools", name), *words], input=given, capture_output=True,
-                         timeout=120)
-    same(status, ran.returncode, f"{name} {' '.join(words)}: {ran.stderr.decode()[-300:]}")
-    return ran.stdout, ran.stderr
-
-
-def without_tool(name):
-    """Skips a case where a program is not installed."""
-    if not shutil.which(name):
-        raise Skipped(f"{name} is not installed")
-
-
-def quarter(room):
-    """The path of a journal of the worked quarter."""
-    path = os.path.join(room, "books.journal")
-    same((0, b"", b""), run(path, "init"), "init")
-    for step in sorted(os.listdir(os.path.join(EXAMPLES, "quarter"))):
-        if step.endswith((".lines", ".csv")):
-            words = "import" if step.endswith(".csv") else "apply"
-            same(0, run(path, words, given=read(EXAMPLES, "quarter", step))[0], step)
-    return path
+from harness import TOP, case, read, run, run_all, same, write
+from tooling import EXAMPLES, quarter, tool, without_tool
+import companions_sheets  # noqa: F401, whose cases are run too
+import generate
+import pair
+import reckon
+import tidy
+import verify
 
 
 @case("help: each companion says what it takes, and refuses words that it does not know")
@@ -314,6 +285,11 @@ TOLD = [
      "a shortage over fewer than 12 months, a deficiency over fewer than 2; spread it longer"),
     ("k3 line 1 1 tax 1 1 1.00", "no 2 Full Lines",
      "the loan has 16 escrow lines; `drop` one that has ended, or set the line under the number of one"),
+    ("? history 7", "no 5 NoSuchLoan", "no loan has that number; look at the number; board the loan first"),
+    ("? quote 1 2023-12-14", "no 10 BeforeBoarding 2023-12-15", "date it on or after the boarded day"),
+    ("? command 9", "no 28 NoSuchCommand", "it was not booked: send it, under that key"),
+    ("? key k9", "no 28 NoSuchCommand",
+     "no command has that number or that key; it was not booked: send it, under that key"),
     ("", "bad 0", "a word is missing at the end"),
     ("k1", "bad 2", "a word is missing at the end"),
     ("k1  day 2024-02-01", "bad 3", "there is a space too many"),
@@ -331,7 +307,7 @@ def in_words(room):
     wanted = [it for row in TOLD for it in (row[1], row[2]) if it]
     got = [it[-len(wanted[at]):] for at, it in enumerate(out[:-1])]
     same(wanted, got)
-    same("12 sent: 1 ok, 0 answered, 4 refused, 7 bad, 0 without a reply", out[-1])
+    same("16 sent: 1 ok, 0 answered, 8 refused, 7 bad, 0 without a reply", out[-1])
     for name in ("refusals", "full"):
         folder = os.path.join(EXAMPLES, "refusals")
         paired(room, "apply", read(folder, name + ".lines"), read(folder, name + ".txt"), status=1)
@@ -353,6 +329,33 @@ def not_whole(room):
     same(b"", paired(room, "import", head + b"a,pay,1,2024-02-01,1,\n", b"bad row 3 column 5\n", status=2)[0])
     out = paired(room, "import", head[:-4] + b"x\na,pay,1,2024-02-01,1.00,\n", b"bad row 1 column 1\n", status=1)[0]
     same(b"the first row is not key,do,loan,day,amount,line", out.splitlines()[1].strip())
+
+
+# The desk's queries over the quarter, with what is said of each.
+DESK = """\
+line 1  ?  loan 102              loan 102 boarded 2023-12-15 principal 150000.00 rate 6875 fee 250 pi 985.39 term 360 \
+first 2024-01 grace 15 late 500 cushion 2 escrow 250.00 type AA .. and 3 lines
+line 2  ?  history 102           history 102 2024-04-01 events 8 .. and 10 lines
+line 3  ?  quote 102 2024-04-30  quote 102 2024-04-30 151354.88 perday 28.57
+line 4  ?  arrears 102           arrears 102 2024-04-01 installments 1 due 1235.39 suspense 0.00 pay 1235.39 late 0.00
+line 5  ?  aging                 aging 2024-04-01 loans 0 .. and 2 lines
+line 6  ?  status                status 2024-04-01 loans 6 commands 62 closed 2024-03 remitted 2024-03 close 2024-04 \
+remit 2024-04 pending 0 adjustments 2
+line 7  ?  command 40            command 40 .. and 3 lines
+line 8  ?  key back-102          command 40 .. and 3 lines
+line 9  ?  command 63            no 28 NoSuchCommand
+        a question about a command that was not accepted: no command has that number or that key; it was not booked: \
+send it, under that key
+9 sent: 0 ok, 8 answered, 1 refused, 0 bad, 0 without a reply
+"""
+
+
+@case("pair: the desk's queries have their answers, the long ones to their end, and one of them its refusal")
+def desk(room):
+    path = quarter(room)
+    lines = [" ".join(it[8:31].split()) for it in DESK.splitlines() if it.startswith("line ")]
+    sent = "".join(f"{it}\n" for it in lines).encode()
+    same((DESK.encode(), b""), paired(room, "apply", sent, run(path, "apply", given=sent)[1], status=1))
 
 
 def messy(draws, number):
@@ -616,89 +619,6 @@ def rows_not_whole(room):
         write(data, room, "cut")
         same(b"", tool("ledger.py", f"{room}/commands", f"{room}/cut", status=1)[0])
     tool("ledger.py", "--investor", "a b", f"{room}/commands", f"{room}/rows", status=2)
-
-
-# sheets.py
-
-# Texts of docs/FORMATS.md, and their sheets.
-TEXTS = [
-    ("report 2024-04 lines 1\nline 1 due 0.00 0.00 adjusted 957.37 200.10 upb 199600.80 balance 199600.80\n"
-     "adjust 13 1 2024-03 957.37 200.10\ntotal interest 957.37 principal 200.10\nend\n", None,
-     "month,loan,interest due,principal due,interest adjusted,principal adjusted,balance,investor balance\n"
-     "2024-04,1,0.00,0.00,957.37,200.10,199600.80,199600.80\n"),
-    ("report 2024-04 lines 0\nadjust 13 1 2024-03 957.37 -200.10\ntotal interest 957.37 principal 200.10\nend\n",
-     "adjust", "month,command,loan,of month,interest,principal\n2024-04,13,1,2024-03,957.37,-200.10\n"),
-    ("trial 2024-03 loans 0\nend\ntrial 2024-04 loans 1\nloan 1 upb 199600.80 balance 199600.80\n"
-     "total upb 199600.80 balance 199600.80\nend\n", None,
-     "month,loan,balance,investor balance\n2024-04,1,199600.80,199600.80\n"),
-    ("statement 2024-07-01 loans 1\nloan 2 upb 200000.00 next 2024-07 escrow 100.00 suspense 0.00 late 0.00 "
-     "escrow-advance 0.00 held 0.00 pi-advance 0.00\ntotal T 100.00 P 0.00\nend\n", None,
-     "day,loan,balance,next,escrow,suspense,late,escrow advance,held,pi advance\n"
-     "2024-07-01,2,200000.00,2024-07,100.00,0.00,0.00,0.00,0.00,0.00\n"),
-    ("rows 13 count 2\nrow 1 Received Borrower T 1199.10\nrow 1 PiAdvance Servicer P -1157.47\nend\n", None,
-     "command,loan,part,from,to,amount\n13,1,Received,Borrower,T,1199.10\n13,1,PiAdvance,Servicer,P,-1157.47\n"),
-    ("books 1 2024-02-01 upb 0.00 next - escrow 0.00 suspense -0.01 late 0.00 interest 1000.00 fee 41.67 "
-     "principal 199.10 charges 0.00 pay 1199.10\n" * 2, None,
-     "loan,day,balance,next,escrow,suspense,late,interest,fee,principal,charges,pay\n"
-     + "1,2024-02-01,0.00,-,0.00,-0.01,0.00,1000.00,41.67,199.10,0.00,1199.10\n" * 2),
-    ("custodial T 0.00 P 1.00 suspense 2.00 escrow 3.00 escrow-advance 4.00 held 5.00 pi-advance 1157.47\n", None,
-     "T,P,suspense,escrow,escrow advance,held,pi advance\n0.00,1.00,2.00,3.00,4.00,5.00,1157.47\n"),
-]
-
-
-@case("sheets: texts of docs/FORMATS.md as sheets; texts that are not whole, mixed or none are refused")
-def sheets_of_texts(room):
-    for text, of, wanted in TEXTS:
-        rows = sheets.sheet(text, of)
-        same(wanted, "".join(",".join(it) + "\n" for it in rows), text)
-    for text in (TEXTS[0][0][:-4], TEXTS[4][0].replace("count 2", "count 3"), TEXTS[5][0][:-9], TEXTS[5][0][:-1],
-                 TEXTS[2][0] + "end\n"):
-        same(b"", tool("sheets.py", given=text.encode(), status=1)[0])
-    for text in (b"", b"no 5 NoSuchLoan\n", (TEXTS[2][0] + TEXTS[0][0]).encode(), b"trial 2024-04 loans 1\nend\n"):
-        same(b"", tool("sheets.py", given=text, status=1)[0])
-    tool("sheets.py", "--of", "row", given=TEXTS[2][0].encode(), status=1)
-
-
-@case("sheets: report, trial, statement, rows, books and custodial of the quarter as the program writes them")
-def sheets_of_quarter(room):
-    path = quarter(room)
-    for words, rows in (("report 2024-03", 6), ("trial 2024-03", 6), ("statement", 6), ("custodial", 1)):
-        out = tool("sheets.py", given=run(path, *words.split())[1])[0]
-        same(rows + 1, len(out.splitlines()), words)
-    for line, rows in (("? rows 40", 3), ("? books 106", 1), ("? escrow 106", 12), ("? payoff 101 2024-04-01", 1)):
-        out = tool("sheets.py", given=run(path, "apply", given=line.encode())[1])[0]
-        same(rows + 1, len(out.splitlines()), line)
-
-
-# plot.py
-
-TRIALS = ("trial 2023-12 loans 1\nloan 7 upb 200000.00 balance 200000.00\ntotal upb 200000.00 balance 200000.00\nend\n"
-          "trial 2024-01 loans 1\nloan 7 upb 199800.90 balance 199601.00\ntotal upb 199800.90 balance 199601.00\nend\n")
-
-
-@case("plot: balances by month from trials; texts that are not whole or not in a row are refused")
-def balances(room):
-    wanted = [("2023-12", 20000000, 20000000), ("2024-01", 19980090, 19960100)]
-    same(wanted, plot.balances_of(TRIALS))
-    same(wanted, plot.balances_of(TRIALS, "7"))
-    first = TRIALS[:TRIALS.index("trial 2024")]
-    for text, words in (("", []), (TRIALS[:-4], []), (TRIALS + "x", []), (first + first, []), (TRIALS, ["--loan", "8"]),
-                        ("no 23 NotClosed -\n", []), (TRIALS.replace("trial 2023-12", "report 2023-12"), [])):
-        tool("plot.py", *words, f"{room}/a.png", given=text.encode(), status=1)
-    same([], os.listdir(room))
-
-
-@case("plot: the quarter's balances and a loan's are PNG files")
-def pictures(room):
-    python = next((it for it in (sys.executable, "/usr/bin/python3") if os.path.exists(it) and subprocess.run(
-        [it, "-c", "import matplotlib"], capture_output=True).returncode == 0), None)
-    if python is None:
-        raise Skipped("matplotlib is not installed")
-    path = quarter(room)
-    texts = b"".join(run(path, "trial", month)[1] for month in ("2023-12", "2024-01", "2024-02", "2024-03"))
-    for words in ([], ["--loan", "105"]):
-        subprocess.run([python, f"{TOP}/tools/plot.py", *words, f"{room}/a.png"], input=texts, check=True)
-        same(b"\x89PNG\r\n\x1a\n", read(room, "a.png")[:8])
 
 
 if __name__ == "__main__":

@@ -334,6 +334,9 @@ def package(room):
     root = os.path.join(room, "root")
     same(0, subprocess.run(["dpkg-deb", "-x", path, root]).returncode)
     same(read(program.find()), read(root, "usr/bin/jaqhendulu"))
+    served = [it for it in os.listdir(os.path.join(TOP, "desk")) if it.endswith((".html", ".css", ".js", ".svg"))]
+    same(sorted(served), sorted(os.listdir(os.path.join(root, "usr/share/jaqhendulu/desk"))))
+    same([], [it for it in served if read(TOP, "desk", it) != read(root, "usr/share/jaqhendulu/desk", it)])
     number = version().split(" ")[1]
     same(True, f"## {number}\n" in read(TOP, "CHANGELOG.md").decode())
     for name in os.listdir(os.path.join(DEPLOY, "jobs")):
@@ -458,7 +461,10 @@ def yaml_of_kubernetes(room):
     service, pods = yaml.safe_load_all(text_of("jobs", JOBS[0]))
     same(("Service", "StatefulSet", 1), (service["kind"], pods["kind"], pods["spec"]["replicas"]))
     same([["ReadWriteOncePod"]] * 2, [it["spec"]["accessModes"] for it in pods["spec"]["volumeClaimTemplates"]])
-    containers = pods["spec"]["template"]["spec"]["containers"]
+    pod = pods["spec"]["template"]["spec"]
+    same(["cp", "-r", "/usr/share/jaqhendulu/desk", "/served"], pod["initContainers"][0]["command"])
+    same([1000] * 4, [it["securityContext"]["runAsUser"] for it in pod["initContainers"] + pod["containers"][:3]])
+    containers = pod["containers"]
     same(["program", "morning", "copies", "nginx"], [it["name"] for it in containers])
     same([["/data"], [], ["/data", "/copies"]],
          [[at["mountPath"] for at in it.get("volumeMounts", [])] for it in containers[:3]])

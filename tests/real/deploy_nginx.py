@@ -1,126 +1,23 @@
 """Tests of the site of deploy/nginx with a real nginx; deploy.py runs them."""
 import base64
-import contextlib
-import functools
-import http.client
 import json
 import os
-import shutil
 import socket
 import ssl
-import subprocess
 import threading
 import time
 
-from beside import COMMANDS, PLACES, Kept, at_once, boarded, body_of_day, changed, needs, new_journal, ok, text_of
-from harness import case, read, same, write
+from beside import COMMANDS, at_once, boarded, body_of_day, needs, new_journal, ok
+from front import ACCESS, JSON, NAME, PASSWORD, USER, Front, before
+from harness import TOP, case, read, same
 import bodies
-import program
 import reckon
 import replay
 
-NAME = "books.example"
-USER, PASSWORD = "cashier", "a-word"
-ACCESS = {"Authorization": "Basic " + base64.b64encode(f"{USER}:{PASSWORD}".encode()).decode()}
-JSON = {"Content-Type": "application/json", **ACCESS}
 EMPTY = (b'{"code":0,"text":"custodial T 0.00 P 0.00 suspense 0.00 escrow 0.00 escrow-advance 0.00 held 0.00 '
          b'pi-advance 0.00"}')
 REUSED = 409, b'{"code":1,"text":"no 1 KeyReused 1"}'
 CUSTODIAL = "/v1/custodial"
-
-MAIN = """daemon off;
-{user}
-worker_processes 2;
-pid {room}/nginx.pid;
-error_log {room}/error.log;
-events {{ worker_connections 2048; }}
-http {{
-    access_log off;
-    client_body_temp_path {room}/body;
-    proxy_temp_path {room}/proxy;
-    fastcgi_temp_path {room}/fastcgi;
-    uwsgi_temp_path {room}/uwsgi;
-    scgi_temp_path {room}/scgi;
-    include {room}/site.conf;
-}}
-"""
-
-
-class Front:
-    """nginx with the site of deploy/ before a port, under other ports and files and with shorter times."""
-
-    def __init__(self, room, behind, wait="10s", changes=()):
-        needs("nginx", "openssl")
-        self.room, self.port, waiting = room, replay.free_port(), replay.free_port()
-        site = changed(text_of("nginx", "jaqhendulu.conf"), ("443", str(self.port)), ("18079", str(waiting)),
-                       ("127.0.0.1:18080", f"127.0.0.1:{behind}"), ("/etc/jaqhendulu/", room + "/"),
-                       ("/var/log/nginx/", room + "/"), ("timeout 10s", "timeout 2s"),
-                       ("keepalive_timeout 30s", "keepalive_timeout 2s"), ("read_timeout 30s", f"read_timeout {wait}"),
-                       *changes)
-        write(site.encode(), room, "site.conf")
-        write(MAIN.format(room=room, user="user root;" if os.getuid() == 0 else "").encode(), room, "main.conf")
-        hashed = subprocess.run(["openssl", "passwd", "-apr1", PASSWORD], capture_output=True, check=True).stdout
-        write(f"{USER}:{{PLAIN}}{PASSWORD}\nauditor:".encode() + hashed, room, "users")
-        self.certificate()
-        words = [shutil.which("nginx", path=PLACES), "-p", room, "-c", os.path.join(room, "main.conf")]
-        checked = subprocess.run([*words, "-t"], capture_output=True)
-        same(0, checked.returncode, checked.stderr)
-        self.it = subprocess.Popen(words, stderr=subprocess.DEVNULL)
-        replay.connect(self.port).close()
-
-    def certificate(self):
-        made = subprocess.run(
-            ["openssl", "req", "-x509", "-newkey", "ec", "-pkeyopt", "ec_paramgen_curve:prime256v1", "-nodes", "-days",
-             "2", "-subj", f"/CN={NAME}", "-addext", f"subjectAltName=DNS:{NAME}", "-keyout",
-             os.path.join(self.room, "tls.key"), "-out", os.path.join(self.room, "tls.crt")], capture_output=True)
-        same(0, made.returncode, made.stderr)
-
-    @functools.cached_property
-    def trusts(self):
-        """What a client trusts: this site's certificate."""
-        return ssl.create_default_context(cafile=os.path.join(self.room, "tls.crt"))
-
-    def plain(self):
-        """A TLS connection."""
-        link = socket.create_connection(("127.0.0.1", self.port), timeout=20)
-        return self.trusts.wrap_socket(link, server_hostname=NAME)
-
-    def link(self):
-        """The same by `http.client`."""
-        link = http.client.HTTPConnection(NAME, timeout=20)
-        link.sock = self.plain()
-        return link
-
-    def ask(self, method, target, body=None, headers=None):
-        """A request over a connection of its own: status and body."""
-        link = self.link()
-        try:
-            link.request(method, target, body, ACCESS if headers is None else headers)
-            got = link.getresponse()
-            return got.status, got.read()
-        finally:
-            link.close()
-
-    def end(self):
-        """Ends it, by a signal that its workers hear of."""
-        self.it.terminate()
-        self.it.wait(timeout=20)
-
-
-@contextlib.contextmanager
-def before(room, path, connections=100000, pause=0.3, changes=()):
-    """nginx before a program that is kept; both are ended."""
-    needs("nginx", "openssl")
-    port = replay.free_port()
-    kept = Kept([program.find(), path, "serve", str(port), str(connections)], room, port, pause)
-    front = None
-    try:
-        front = Front(room, kept.port, changes=changes)
-        yield kept, front
-    finally:
-        if front:
-            front.end()
-        kept.close()
 
 
 @case("nginx: the routes, HEAD as GET, chunked bodies; the program's own refusals come through")
@@ -203,6 +100,44 @@ def named_page(room):
         for origin, status in (("https://desk.example", 200), ("https://desk.example.evil", 403),
                                ("http://desk.example", 403)):
             same(status, front.ask("POST", COMMANDS, body_of_day(1), {**JSON, "Origin": origin})[0], origin)
+
+
+@case("nginx: a page of the server's own origin may send requests, one of the same name at another port may not")
+def own_page(room):
+    with before(room, new_journal(room)) as (kept, front):
+        own = f"{NAME}:{front.port}"
+        for origin, host, status in ((f"https://{own}", own, 200), (f"http://{own}", own, 403),
+                                     (f"https://{NAME}", own, 403), (f"https://{own}1", own, 403),
+                                     (f"https://x{own}", own, 403), (f"https://{NAME}", NAME, 200)):
+            same(status, front.ask("POST", COMMANDS, body_of_day(1), {**JSON, "Origin": origin, "Host": host})[0],
+                 (origin, host))
+
+
+@case("nginx: the desk's files for users alone, with their types and what a browser may load; nothing beside them")
+def desk_files(room):
+    with before(room, new_journal(room)) as (kept, front):
+        for name, kind in (("", "text/html; charset=utf-8"), ("desk.css", "text/css; charset=utf-8"),
+                           ("main.js", "text/javascript; charset=utf-8"),
+                           ("icon.svg", "image/svg+xml; charset=utf-8")):
+            link = front.link()
+            link.request("GET", "/desk/" + name, headers=ACCESS)
+            got = link.getresponse()
+            same((200, kind), (got.status, got.getheader("Content-Type")), name)
+            same(read(TOP, "desk", name or "index.html"), got.read())
+            policy = got.getheader("Content-Security-Policy")
+            same(("default-src 'none'", "nosniff", "no-cache"),
+                 (policy.split(";")[0], got.getheader("X-Content-Type-Options"), got.getheader("Cache-Control")))
+            same([], [it for it in policy.split() if ":" in it or "*" in it or "unsafe" in it])
+            link.close()
+        for method, target, headers, status in (
+                ("GET", "/", ACCESS, 302), ("GET", "/desk/", {}, 401),
+                ("GET", "/desk/main.js", {}, 401), ("GET", "/desk/nothing.js", ACCESS, 404),
+                ("GET", "/desk/../README.md", ACCESS, 404), ("GET", "/desk/%2e%2e/README.md", ACCESS, 404),
+                ("GET", "/desk../README.md", ACCESS, 404), ("GET", "/desk/pictures/", ACCESS, 403),
+                ("GET", "/desk/", {**ACCESS, "Origin": "https://evil.example"}, 403),
+                ("DELETE", "/desk/main.js", ACCESS, 403)):
+            same(status, front.ask(method, target, headers=headers)[0], (method, target, headers))
+        same(415, front.ask("POST", "/desk/", b"x=1", ACCESS)[0])
 
 
 @case("nginx: the log has the user, the command and what came of it")

@@ -14,6 +14,7 @@ from harness import case, named, run, run_all, same
 import further
 import histories
 import reckon
+import spellings
 
 CASES = 12
 
@@ -119,7 +120,7 @@ def insured(room):
         draws = random.Random(seed)
         rows = ["loan,value,line,asked"]
         for _ in range(30):
-            day = reckon.first_day(reckon.month_of(servicer.today) - draws.randint(-1, 14))
+            day = spellings.first_day(reckon.month_of(servicer.today) - draws.randint(-1, 14))
             asked = draws.choice(["", "", f"{day}", f"{day:%Y-%m}-15", "2024-02-30", "x"])
             value = reckon.money(draws.choice([0, 1, 150_000, 119_000, 25_000_000, 20_000_000, 1_000_000, 24_900_000]))
             rows.append(f"{draws.randint(0, 7)},{value},{draws.randint(0, 3)},{asked}" + ",x" * (draws.random() < 0.05))

@@ -90,7 +90,14 @@ class Draws:
         return "? " + self.one(f"books {self.loan()}", f"at {self.loan()} {self.entry_day()}", "custodial",
                                f"payoff {self.loan()} {self.entry_day()}", f"escrow {self.loan()}",
                                f"report {self.month()}", f"trial {self.month()}",
-                               f"rows {self.random.randint(0, count)}")
+                               f"rows {self.random.randint(0, count)}", *self.desk(count))
+
+    def desk(self, count):
+        """What the desk asks, each query once."""
+        later = self.day + datetime.timedelta(self.one(0, 1, 9, 30, 61, 400, -3, -40))
+        return (f"loan {self.loan()}", f"history {self.loan()}", f"quote {self.loan()} {later}",
+                f"arrears {self.loan()}", "aging", "status", f"command {self.random.randint(0, count)}",
+                f"key k{self.random.randint(0, count)}")
 
 
 WORDS = ("day day board pay pay pay pay curtail payoff payoff deposit disburse refund waive reverse reverse line line "
@@ -99,13 +106,8 @@ WORDS = ("day day board pay pay pay pay curtail payoff payoff deposit disburse r
 
 def next_month(servicer, word):
     """The month that is to be closed or remitted next."""
-    if word == "close" and servicer.reports:
-        return servicer.closed() + 1
-    if word == "close" and servicer.loans:
-        return min(reckon.month_of(it.terms["boarded"]) for it in servicer.loans.values())
-    if word == "remit" and servicer.reports:
-        return servicer.reports[0]["month"] if servicer.remitted is None else servicer.remitted + 1
-    return reckon.month_of(servicer.today)
+    month = servicer.next_close() if word == "close" else servicer.next_remit()
+    return reckon.month_of(servicer.today) if month is None else month
 
 
 def history(seed, count):

@@ -48,6 +48,13 @@ impl Lines {
         self.kept.len()
     }
 
+    /// The lines, as they stand.
+    pub fn slice(&self) -> &[Line]
+        ensures { result.now ≡ self.now }
+    {
+        &self.kept
+    }
+
     /// Whether there are none.
     pub fn is_empty(&self) -> bool
         ensures { IsTrue result ↔ (self.now ≡ []) }

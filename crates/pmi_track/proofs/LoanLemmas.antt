@@ -15,12 +15,12 @@ use Rattle.svc_spec.specs.Books.{AreBooks}
 use Rattle.svc_spec.proofs.AccountLemmas.{account_books}
 use Rattle.custodial_book.specs.declared.row.Row.{Row}
 use Rattle.svc_world.specs.declared.answer.Answer.{Answer}
-use Rattle.svc_world.specs.Answers.{answer_to, books_answer}
+use Rattle.svc_world.specs.Answers.{answer_from, answer_to, books_answer, query_refusal, refusal_from}
 use Rattle.svc_world.specs.Held.{Held, find_loan}
 use Rattle.svc_world.specs.World.{World, Accepted, world}
 use Rattle.svc_world.specs.Worlds.{IsHeld}
 use Rattle.svc_world.specs.Judging.{IsHistory}
-use Rattle.svc_world.specs.Refusals.{case, first_of, on_loan, day_cases, query_refusal}
+use Rattle.svc_world.specs.Refusals.{case, first_of, on_loan, day_cases}
 use Rattle.svc_world.proofs.HistoryLemmas.{is_world}
 use Rattle.svc_world.proofs.LoanListLemmas.{found_all}
 use Rattle.pmi_track.specs.Loans.{OfLoan, terms_in, day_refusal, books_in, IsLater}
@@ -71,14 +71,14 @@ loan_books h id t day b k is =
 
 -- ---- the books of a day
 
-pub refusal_at : (n : ℕ) (w : World) (id day : ℕ) → query_refusal n w (query.At id day) ≡ first_of (on_loan w id (day_cases w day))
-unfolding query_refusal
-refusal_at n w id day = refl
+pub refusal_at : (h : List Accepted) (id day : ℕ) → query_refusal h (query.At id day) ≡ first_of (on_loan (world h) id (day_cases (world h) day))
+unfolding refusal_from
+refusal_at h id day = refl
 
-pub books_told : (w : World) (rows : List Row) (id day : ℕ) (x : Answer) (b : Books) (l : Held) → answer_to w rows (query.At id day) ≡ Some x → books_in x ≡ Some b
-    → find_loan id w.loans ≡ Some l → b ≡ books_of l.account day
-unfolding answer_to
-books_told w rows id day x b l e is found =
+pub books_told : (h : List Accepted) (id day : ℕ) (x : Answer) (b : Books) (l : Held) → answer_to h (query.At id day) ≡ Some x → books_in x ≡ Some b
+    → find_loan id (world h).loans ≡ Some l → b ≡ books_of l.account day
+unfolding answer_from
+books_told h id day x b l e is found =
     let whole : option_map (λ (k : Held). books_answer k (books_of k.account day)) (Some l) ≡ Some x = ap (option_map (λ (k : Held). books_answer k (books_of k.account day))) (sym found) ∙ e in
     let same : books_answer l (books_of l.account day) ≡ x = cc in
     let told : Some (books_of l.account day) ≡ Some b = ap books_in same ∙ is in
@@ -87,10 +87,10 @@ books_told w rows id day x b l e is found =
     the_same : (p q : Books) → Some p ≡ Some q → p ≡ q
     the_same p q r = cc
 
-pub books_some : (w : World) (rows : List Row) (id day : ℕ) (x : Answer) → answer_to w rows (query.At id day) ≡ Some x → books_in x ≡ None → ⊥
-unfolding answer_to
-books_some w rows id day x e absent =
-    elim (find_loan id w.loans) as (λ o. option_map (λ (k : Held). books_answer k (books_of k.account day)) o ≡ Some x → ⊥) [
+pub books_some : (h : List Accepted) (id day : ℕ) (x : Answer) → answer_to h (query.At id day) ≡ Some x → books_in x ≡ None → ⊥
+unfolding answer_from
+books_some h id day x e absent =
+    elim (find_loan id (world h).loans) as (λ o. option_map (λ (k : Held). books_answer k (books_of k.account day)) o ≡ Some x → ⊥) [
       | None ↦ λ at. cc
       | Some l ↦ λ at.
           let same : books_answer l (books_of l.account day) ≡ x = cc in

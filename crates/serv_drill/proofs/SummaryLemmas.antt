@@ -7,8 +7,8 @@ use Rattle.svc_world.specs.declared.answer.Answer.{Answer}
 use Rattle.svc_world.specs.declared.answer.Answer.TheVariants as answer
 use Rattle.svc_world.specs.Held.{Held, find_loan, books_now}
 use Rattle.svc_world.specs.World.{Accepted, world}
-use Rattle.svc_world.specs.Answers.{answer_to, books_answer}
-use Rattle.svc_world.specs.Refusals.{query_refusal, first_of, case}
+use Rattle.svc_world.specs.Answers.{answer_from, answer_to, books_answer, query_refusal, refusal_from}
+use Rattle.svc_world.specs.Refusals.{first_of, case}
 use Rattle.svc_types.specs.declared.replies.Refusal.TheVariants.{NoSuchLoan}
 use Rattle.std.specs.Option.{option_map, option_map_or}
 use Rattle.svc_world.specs.Custody.{rows_in, custody_of}
@@ -21,19 +21,19 @@ refused_at : (h : List Accepted) (id : ℕ) (why : Refusal) (o : Option Held) �
 refused_at h id why None e = refl
 refused_at h id why (Some l) e = cc
 
-pub late_refused : (h : List Accepted) (id : ℕ) (why : Refusal) → query_refusal (length h) (world h) (query.Books id) ≡ Some why → pos 0 ≡ late_of h id
-unfolding query_refusal answer_to
+pub late_refused : (h : List Accepted) (id : ℕ) (why : Refusal) → query_refusal h (query.Books id) ≡ Some why → pos 0 ≡ late_of h id
+unfolding refusal_from answer_from
 late_refused h id why e = refused_at h id why (find_loan id (world h).loans) e
 
 -- the custodial accounts
-custody_is : (h : List Accepted) (a : Answer) → answer_to (world h) (rows_in h) query.Custodial ≡ Some a → answer.Custodial (custody_of (world h)) ≡ a
-unfolding answer_to
+custody_is : (h : List Accepted) (a : Answer) → answer_to h query.Custodial ≡ Some a → answer.Custodial (custody_of (world h)) ≡ a
+unfolding answer_from
 custody_is h a e = cc
 
-pub custody_spelled : (h : List Accepted) (a : Answer) → answer_to (world h) (rows_in h) query.Custodial ≡ Some a → IsSpellable a
+pub custody_spelled : (h : List Accepted) (a : Answer) → answer_to h query.Custodial ≡ Some a → IsSpellable a
 custody_spelled h a e = subst IsSpellable (custody_is h a e) tt
 
-pub custody_text : (h : List Accepted) (a : Answer) → answer_to (world h) (rows_in h) query.Custodial ≡ Some a → text_of_answer a ≡ text_of_custody (custody_of (world h))
+pub custody_text : (h : List Accepted) (a : Answer) → answer_to h query.Custodial ≡ Some a → text_of_answer a ≡ text_of_custody (custody_of (world h))
 custody_text h a e = sym (ap text_of_answer (custody_is h a e))
 
 pub late_more : (h : List Accepted) (n : ℕ) → late_owed h (n + 1) ≡ late_owed h n +ℤ late_of h (n + 1)

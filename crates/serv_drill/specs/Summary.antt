@@ -18,7 +18,7 @@ late_in (Some (answer.Books loan books next pay)) = books.late_owed
 late_in o = pos 0
 
 abbrev pub late_of : List Accepted → ℕ → ℤ
-late_of h loan = late_in (answer_to (world h) (rows_in h) (query.Books loan))
+late_of h loan = late_in (answer_to h (query.Books loan))
 
 -- the sum over the loans 1 to n
 unfoldable pub late_owed : List Accepted → ℕ → ℤ

@@ -6,8 +6,7 @@ ghost use Rattle.svc_spec.specs.Accounts.{Account};
 ghost use Rattle.svc_spec.specs.Months.{cost_of_month};
 ghost use Rattle.svc_world.specs.World.{Accepted, accepted, world};
 ghost use Rattle.svc_world.specs.Judging.{Judgement, judged, history_after, IsHistory};
-ghost use Rattle.svc_world.specs.Refusals.{query_refusal};
-ghost use Rattle.svc_world.specs.Answers.{answer_to};
+ghost use Rattle.svc_world.specs.Answers.{answer_to, query_refusal};
 ghost use Rattle.svc_world.specs.Custody.{rows_in};
 ghost use Rattle.svc_core.specs.Bound.{step_bound, query_bound};
 ghost use Rattle.svc_core.specs.Core.{IsReplyTo};
@@ -190,12 +189,9 @@ impl<B: LoanBooks> Engine<B> {
     /// Answers a query over the history, or with the first rule that refuses it.
     pub fn ask<L: Ledger>(&self, query: &Query, steps: &mut Steps<L>) -> Result<Answer, EngineFault>
         requires { IsQuery query.now }
-        ensures asked { OnOk result
-            (query_refusal (length self.now.history) (world self.now.history) query.now ≡ None) }
-        ensures answer { IfOk result (λ a.
-            answer_to (world self.now.history) (rows_in self.now.history) query.now ≡ Some a) }
-        ensures fault { IfErr result (IsAskFault
-            (query_refusal (length self.now.history) (world self.now.history) query.now)) }
+        ensures asked { OnOk result (query_refusal self.now.history query.now ≡ None) }
+        ensures answer { IfOk result (λ a. answer_to self.now.history query.now ≡ Some a) }
+        ensures fault { IfErr result (IsAskFault (query_refusal self.now.history query.now)) }
         ensures bound { ((a : Account) (m : ℕ) → B.cost a m ≡ cost_of_month a m)
             → steps.new ≤ steps.old + query_bound (world self.now.history) query.now }
     {

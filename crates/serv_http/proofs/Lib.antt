@@ -17,3 +17,4 @@ pub mod PushLemmas
 pub mod MatchLemmas
 pub mod TableLemmas
 pub mod RouteLemmas
+pub mod OwnPathLemmas

@@ -1,12 +1,13 @@
 -- Texts that stand in a path, and the questions that it spells.
-use Rattle.std.proofs.Common.{◌≡◌, ◌≢◌, ℕ, ◌-◌, ◌^◌, ◌<◌, ◌≤◌, List, [], ◌++◌, length, take, drop, refl, sym, ap, ◌∙◌, arith, append_assoc, append-nil, length-append, length-drop, Option, Some, None, codes}
+use Rattle.std.proofs.Common.{◌≡◌, ◌≢◌, ℕ, ◌-◌, ◌^◌, ◌<◌, ◌≤◌, List, [], ◌++◌, length, take, drop, refl, sym, ap, ◌∙◌, arith, subst, append_assoc, append-nil, length-append, length-drop, Option, Some, None, codes}
 use Rattle.std.specs.Borrow.{Bor}
-use Rattle.std.specs.Prelude.{MatchOption, IfSome, IfNone}
+use Rattle.std.specs.Prelude.{MatchOption, SomeIff, IfSome, IfNone}
 use Rattle.std.proofs.lemmas.List.{append_cancel_left, take-append-drop}
 use Rattle.svc_base.specs.Calendar.{IsReadDay}
 use Rattle.svc_base.specs.Text.{text_of_number, text_of_day, text_of_month, IsReadMonth}
+use Rattle.svc_types.specs.Keys.{IsKey}
 use Rattle.svc_types.specs.declared.requests.Query.{Query}
-use Rattle.svc_types.specs.declared.requests.Query.TheVariants.{Books, At, Payoff, Escrow, Report, Trial, Custodial, Rows}
+use Rattle.svc_types.specs.declared.requests.Query.TheVariants.{Books, At, Payoff, Escrow, Report, Trial, Custodial, Rows, Loan, History, Quote, Arrears, Aging, Status, Command, Key}
 use Rattle.serv_http.specs.declared.route.Route.TheVariants as route
 use Rattle.serv_http.specs.Routes.{path_of_query, Spells}
 use Rattle.serv_http.proofs.QueryLemmas.{between, same-ends, length-day}
@@ -144,6 +145,111 @@ pub no-custodial : (path : List ℕ) → path ≢ codes "/v1/custodial" → (q :
 unfolding path_of_query
 no-custodial path h Custodial x = h x.spelled
 no-custodial path h q x = absurd (let e = x.routed in cc e)
+
+pub loan-spells : (path : List ℕ) (l : ℕ) → l < 2 ^ 32 → path ≡ codes "/v1/loans/" ++ (text_of_number l ++ [])
+    → Spells route.Loan path (Loan l)
+unfolding path_of_query
+loan-spells path l small e = record {
+  formed = small;
+  routed = refl;
+  spelled = e ∙ ap (λ (t : List ℕ). codes "/v1/loans/" ++ t) (append-nil (text_of_number l));
+}
+
+pub no-loan : (path : List ℕ) → ((l : ℕ) → l < 2 ^ 32 → path ≢ codes "/v1/loans/" ++ (text_of_number l ++ []))
+    → (q : Query) → ¬ (Spells route.Loan path q)
+unfolding path_of_query
+no-loan path h (Loan l) x =
+    h l x.formed (x.spelled ∙ ap (λ (t : List ℕ). codes "/v1/loans/" ++ t) (sym (append-nil (text_of_number l))))
+no-loan path h q x = absurd (let e = x.routed in cc e)
+
+pub history-spells : (path : List ℕ) (l : ℕ) → l < 2 ^ 32 → path ≡ codes "/v1/loans/" ++ (text_of_number l ++ codes "/history")
+    → Spells route.History path (History l)
+unfolding path_of_query
+history-spells path l small e = record { formed = small; routed = refl; spelled = e }
+
+pub no-history : (path : List ℕ) → ((l : ℕ) → l < 2 ^ 32 → path ≢ codes "/v1/loans/" ++ (text_of_number l ++ codes "/history"))
+    → (q : Query) → ¬ (Spells route.History path q)
+unfolding path_of_query
+no-history path h (History l) x = h l x.formed x.spelled
+no-history path h q x = absurd (let e = x.routed in cc e)
+
+pub arrears-spells : (path : List ℕ) (l : ℕ) → l < 2 ^ 32 → path ≡ codes "/v1/loans/" ++ (text_of_number l ++ codes "/arrears")
+    → Spells route.Arrears path (Arrears l)
+unfolding path_of_query
+arrears-spells path l small e = record { formed = small; routed = refl; spelled = e }
+
+pub no-arrears : (path : List ℕ) → ((l : ℕ) → l < 2 ^ 32 → path ≢ codes "/v1/loans/" ++ (text_of_number l ++ codes "/arrears"))
+    → (q : Query) → ¬ (Spells route.Arrears path q)
+unfolding path_of_query
+no-arrears path h (Arrears l) x = h l x.formed x.spelled
+no-arrears path h q x = absurd (let e = x.routed in cc e)
+
+pub command-spells : (path : List ℕ) (l : ℕ) → l < 2 ^ 32 → path ≡ codes "/v1/commands/" ++ (text_of_number l ++ [])
+    → Spells route.Command path (Command l)
+unfolding path_of_query
+command-spells path l small e = record {
+  formed = small;
+  routed = refl;
+  spelled = e ∙ ap (λ (t : List ℕ). codes "/v1/commands/" ++ t) (append-nil (text_of_number l));
+}
+
+pub no-command : (path : List ℕ) → ((l : ℕ) → l < 2 ^ 32 → path ≢ codes "/v1/commands/" ++ (text_of_number l ++ []))
+    → (q : Query) → ¬ (Spells route.Command path q)
+unfolding path_of_query
+no-command path h (Command l) x =
+    h l x.formed (x.spelled ∙ ap (λ (t : List ℕ). codes "/v1/commands/" ++ t) (sym (append-nil (text_of_number l))))
+no-command path h q x = absurd (let e = x.routed in cc e)
+
+pub quote-spells : (path : List ℕ) (l d : ℕ) → l < 2 ^ 32 → IsReadDay d
+    → path ≡ codes "/v1/loans/" ++ (text_of_number l ++ (codes "/quote/" ++ text_of_day d)) → Spells route.Quote path (Quote l d)
+unfolding path_of_query
+quote-spells path l d small is e = record { formed = (small, is); routed = refl; spelled = e }
+
+pub no-quote : (path : List ℕ)
+    → ((l d : ℕ) → l < 2 ^ 32 → IsReadDay d → path ≢ codes "/v1/loans/" ++ (text_of_number l ++ (codes "/quote/" ++ text_of_day d)))
+    → (q : Query) → ¬ (Spells route.Quote path q)
+unfolding path_of_query
+no-quote path h (Quote l d) x = h l d x.formed.0 x.formed.1 x.spelled
+no-quote path h q x = absurd (let e = x.routed in cc e)
+
+pub aging-spells : (path : List ℕ) → path ≡ codes "/v1/aging" → Spells route.Aging path Aging
+unfolding path_of_query
+aging-spells path e = record { formed = tt; routed = refl; spelled = e }
+
+pub no-aging : (path : List ℕ) → path ≢ codes "/v1/aging" → (q : Query) → ¬ (Spells route.Aging path q)
+unfolding path_of_query
+no-aging path h Aging x = h x.spelled
+no-aging path h q x = absurd (let e = x.routed in cc e)
+
+pub status-spells : (path : List ℕ) → path ≡ codes "/v1/status" → Spells route.Status path Status
+unfolding path_of_query
+status-spells path e = record { formed = tt; routed = refl; spelled = e }
+
+pub no-status : (path : List ℕ) → path ≢ codes "/v1/status" → (q : Query) → ¬ (Spells route.Status path q)
+unfolding path_of_query
+no-status path h Status x = h x.spelled
+no-status path h q x = absurd (let e = x.routed in cc e)
+
+pub key-none : (path before text : List ℕ) (r : Option (List ℕ)) → path ≡ before ++ text → SomeIff r (IsKey text) text
+    → IfNone r ((key : List ℕ) → IsKey key → path ≢ before ++ key)
+key-none path before text None e h =
+    λ key is f. h (subst IsKey (sym (append_cancel_left before text key (sym e ∙ f))) is)
+key-none path before text (Some x) e h = tt
+
+pub key-read : (path before text : List ℕ) (r : Option (List ℕ)) → path ≡ before ++ text → SomeIff r (IsKey text) text
+    → IfSome r (λ key. path ≡ before ++ key)
+key-read path before text None e h = tt
+key-read path before text (Some x) e h = e ∙ ap (λ (t : List ℕ). before ++ t) (sym h.1)
+
+pub key-spells : (path key : List ℕ) → IsKey key → path ≡ codes "/v1/keys/" ++ key → Spells route.Key path (Key key)
+unfolding path_of_query
+key-spells path key is e = record { formed = is; routed = refl; spelled = e }
+
+pub no-key : (path : List ℕ) → ((key : List ℕ) → IsKey key → path ≢ codes "/v1/keys/" ++ key)
+    → (q : Query) → ¬ (Spells route.Key path q)
+unfolding path_of_query
+no-key path h (Key key) x = h key x.formed x.spelled
+no-key path h q x = absurd (let e = x.routed in cc e)
 
 pub no-commands : (path : List ℕ) (q : Query) → ¬ (Spells route.Commands path q)
 no-commands path (Books l) x = absurd (let e = x.routed in cc e)

@@ -7,7 +7,7 @@ use Rattle.svc_base.specs.Text.{text_of_number, text_of_day, text_of_month, IsRe
 use Rattle.svc_base.proofs.TextLemmas.{number_injective, month_injective, day_injective}
 use Rattle.svc_types.specs.Requests.{IsQuery}
 use Rattle.svc_types.specs.declared.requests.Query.{Query}
-use Rattle.svc_types.specs.declared.requests.Query.TheVariants.{Books, At, Payoff, Escrow, Report, Trial, Custodial, Rows}
+use Rattle.svc_types.specs.declared.requests.Query.TheVariants.{Books, At, Payoff, Escrow, Report, Trial, Custodial, Rows, Loan, History, Quote, Arrears, Aging, Status, Command, Key}
 use Rattle.serv_http.specs.declared.ask.Plan.{Plan}
 use Rattle.serv_http.specs.declared.ask.Plan.TheVariants.{Pass}
 use Rattle.serv_http.specs.declared.ask.Due.TheVariants.{Get}
@@ -72,6 +72,21 @@ query-unique (Trial m) (Trial n) p q r e =
 query-unique Custodial Custodial p q r e = refl
 query-unique (Rows m) (Rows n) p q r e =
     ap Rows (same-number m n p q (append_cancel_left (codes "/v1/rows/") (text_of_number m) (text_of_number n) e))
+query-unique (Loan m) (Loan n) p q r e =
+    ap Loan (same-number m n p q (append_cancel_left (codes "/v1/loans/") (text_of_number m) (text_of_number n) e))
+query-unique (Command m) (Command n) p q r e =
+    ap Command (same-number m n p q (append_cancel_left (codes "/v1/commands/") (text_of_number m) (text_of_number n) e))
+query-unique (History l) (History m) p q r e =
+    ap History (same-number l m p q (between (codes "/v1/loans/") (text_of_number l) (text_of_number m) (codes "/history") e))
+query-unique (Arrears l) (Arrears m) p q r e =
+    ap Arrears (same-number l m p q (between (codes "/v1/loans/") (text_of_number l) (text_of_number m) (codes "/arrears") e))
+query-unique (Quote l c) (Quote m d) p q r e =
+    let t = two-between (codes "/v1/loans/") (text_of_number l) (text_of_number m) (codes "/quote/") (text_of_day c) (text_of_day d)
+    (length-day c ∙ sym (length-day d)) e in
+    ap (λ (n : ℕ). Quote n c) (same-number l m p.0 q.0 t.0) ∙ ap (Quote m) (same-day c d p.1 q.1 t.1)
+query-unique Aging Aging p q r e = refl
+query-unique Status Status p q r e = refl
+query-unique (Key a) (Key b) p q r e = ap Key (append_cancel_left (codes "/v1/keys/") a b e)
 query-unique a b _ _ r _ = absurd (cc r)
 
 spells-unique : (r : Route) (path : List ℕ) (p q : Query) → Spells r path p → Spells r path q → p ≡ q

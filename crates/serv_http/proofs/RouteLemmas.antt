@@ -136,6 +136,14 @@ form-path route.Report p f = one-read (codes "/v1/months/") (codes "/report") p 
 form-path route.Trial p f = one-read (codes "/v1/months/") (codes "/trial") p refl refl f
 form-path route.Custodial p f = literal-only (codes "/v1/custodial") p refl f
 form-path route.Rows p f = one-read (codes "/v1/rows/") (codes "") p refl refl f
+form-path route.Loan p f = one-read (codes "/v1/loans/") (codes "") p refl refl f
+form-path route.History p f = one-read (codes "/v1/loans/") (codes "/history") p refl refl f
+form-path route.Quote p f = two-read (codes "/v1/loans/") (codes "/quote/") p refl refl f
+form-path route.Arrears p f = one-read (codes "/v1/loans/") (codes "/arrears") p refl refl f
+form-path route.Aging p f = literal-only (codes "/v1/aging") p refl f
+form-path route.Status p f = literal-only (codes "/v1/status") p refl f
+form-path route.Command p f = one-read (codes "/v1/commands/") (codes "") p refl refl f
+form-path route.Key p f = one-read (codes "/v1/keys/") (codes "") p refl refl f
 
 path-form : (r : Route) (p : List ℕ) → IsPathOf r p → fits (form_of r) p ≡ true
 path-form route.Commands p x = literal-same (codes "/v1/commands") p refl x
@@ -147,6 +155,14 @@ path-form route.Report p x = one-made (codes "/v1/months/") (codes "/report") p 
 path-form route.Trial p x = one-made (codes "/v1/months/") (codes "/trial") p refl refl refl x
 path-form route.Custodial p x = literal-same (codes "/v1/custodial") p refl x
 path-form route.Rows p x = one-made (codes "/v1/rows/") (codes "") p refl refl refl x
+path-form route.Loan p x = one-made (codes "/v1/loans/") (codes "") p refl refl refl x
+path-form route.History p x = one-made (codes "/v1/loans/") (codes "/history") p refl refl refl x
+path-form route.Quote p x = two-made (codes "/v1/loans/") (codes "/quote/") p refl refl (λ q. refl) x
+path-form route.Arrears p x = one-made (codes "/v1/loans/") (codes "/arrears") p refl refl refl x
+path-form route.Aging p x = literal-same (codes "/v1/aging") p refl x
+path-form route.Status p x = literal-same (codes "/v1/status") p refl x
+path-form route.Command p x = one-made (codes "/v1/commands/") (codes "") p refl refl refl x
+path-form route.Key p x = one-made (codes "/v1/keys/") (codes "") p refl refl refl x
 
 bytes : (p : List ℕ) → All (λ b. b < 256) p → IsText p
 bytes [] all = tt

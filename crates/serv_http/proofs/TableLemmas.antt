@@ -23,6 +23,14 @@ form_of route.Report = codes "/v1/months/" ++ 256 ∷ codes "/report"
 form_of route.Trial = codes "/v1/months/" ++ 256 ∷ codes "/trial"
 form_of route.Custodial = codes "/v1/custodial"
 form_of route.Rows = codes "/v1/rows/" ++ 256 ∷ []
+form_of route.Loan = codes "/v1/loans/" ++ 256 ∷ []
+form_of route.History = codes "/v1/loans/" ++ 256 ∷ codes "/history"
+form_of route.Quote = codes "/v1/loans/" ++ 256 ∷ (codes "/quote/" ++ 256 ∷ [])
+form_of route.Arrears = codes "/v1/loans/" ++ 256 ∷ codes "/arrears"
+form_of route.Aging = codes "/v1/aging"
+form_of route.Status = codes "/v1/status"
+form_of route.Command = codes "/v1/commands/" ++ 256 ∷ []
+form_of route.Key = codes "/v1/keys/" ++ 256 ∷ []
 
 -- rows with their values alone
 abbrev Values : Type 0
@@ -38,8 +46,9 @@ forms_of routes = map (λ r. (form_of r, r)) routes
 -- all routes, as their forms are ordered
 abbrev ordered : List Route
 ordered =
-    route.Commands ∷ route.Custodial ∷ route.BooksAt ∷ route.Books ∷ route.Escrow ∷ route.Payoff
-    ∷ route.Report ∷ route.Trial ∷ route.Rows ∷ []
+    route.Aging ∷ route.Command ∷ route.Commands ∷ route.Custodial ∷ route.Key ∷ route.Arrears ∷ route.BooksAt
+    ∷ route.Books ∷ route.Escrow ∷ route.History ∷ route.Payoff ∷ route.Quote ∷ route.Loan ∷ route.Report
+    ∷ route.Trial ∷ route.Rows ∷ route.Status ∷ []
 
 table-is : values_of table ≡ forms_of ordered
 unfolding matchit_on_literals table
@@ -77,15 +86,23 @@ table-simple : AreSimple table
 table-simple t e h = simple-at ordered t e.value refl (table-row t e h)
 
 row-of : (r : Route) → HasRow (form_of r) r (forms_of ordered)
-row-of route.Commands = inl (refl, refl)
-row-of route.Custodial = inr (inl (refl, refl))
-row-of route.BooksAt = inr (inr (inl (refl, refl)))
-row-of route.Books = inr (inr (inr (inl (refl, refl))))
-row-of route.Escrow = inr (inr (inr (inr (inl (refl, refl)))))
-row-of route.Payoff = inr (inr (inr (inr (inr (inl (refl, refl))))))
-row-of route.Report = inr (inr (inr (inr (inr (inr (inl (refl, refl)))))))
-row-of route.Trial = inr (inr (inr (inr (inr (inr (inr (inl (refl, refl))))))))
-row-of route.Rows = inr (inr (inr (inr (inr (inr (inr (inr (inl (refl, refl)))))))))
+row-of route.Aging = inl (refl, refl)
+row-of route.Command = inr (inl (refl, refl))
+row-of route.Commands = inr (inr (inl (refl, refl)))
+row-of route.Custodial = inr (inr (inr (inl (refl, refl))))
+row-of route.Key = inr (inr (inr (inr (inl (refl, refl)))))
+row-of route.Arrears = inr (inr (inr (inr (inr (inl (refl, refl))))))
+row-of route.BooksAt = inr (inr (inr (inr (inr (inr (inl (refl, refl)))))))
+row-of route.Books = inr (inr (inr (inr (inr (inr (inr (inl (refl, refl))))))))
+row-of route.Escrow = inr (inr (inr (inr (inr (inr (inr (inr (inl (refl, refl)))))))))
+row-of route.History = inr (inr (inr (inr (inr (inr (inr (inr (inr (inl (refl, refl))))))))))
+row-of route.Payoff = inr (inr (inr (inr (inr (inr (inr (inr (inr (inr (inl (refl, refl)))))))))))
+row-of route.Quote = inr (inr (inr (inr (inr (inr (inr (inr (inr (inr (inr (inl (refl, refl))))))))))))
+row-of route.Loan = inr (inr (inr (inr (inr (inr (inr (inr (inr (inr (inr (inr (inl (refl, refl)))))))))))))
+row-of route.Report = inr (inr (inr (inr (inr (inr (inr (inr (inr (inr (inr (inr (inr (inl (refl, refl))))))))))))))
+row-of route.Trial = inr (inr (inr (inr (inr (inr (inr (inr (inr (inr (inr (inr (inr (inr (inl (refl, refl)))))))))))))))
+row-of route.Rows = inr (inr (inr (inr (inr (inr (inr (inr (inr (inr (inr (inr (inr (inr (inr (inl (refl, refl))))))))))))))))
+row-of route.Status = inr (inr (inr (inr (inr (inr (inr (inr (inr (inr (inr (inr (inr (inr (inr (inr (inl (refl, refl)))))))))))))))))
 
 -- no path has both forms
 abbrev clash : List ℕ → List ℕ → Bool

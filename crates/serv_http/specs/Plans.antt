@@ -59,6 +59,14 @@ method_of route.Report = allow.Get
 method_of route.Trial = allow.Get
 method_of route.Custodial = allow.Get
 method_of route.Rows = allow.Get
+method_of route.Loan = allow.Get
+method_of route.History = allow.Get
+method_of route.Quote = allow.Get
+method_of route.Arrears = allow.Get
+method_of route.Aging = allow.Get
+method_of route.Status = allow.Get
+method_of route.Command = allow.Get
+method_of route.Key = allow.Get
 
 abbrev pub method_name : Allow → List ℕ
 method_name allow.Get = codes "GET"
@@ -79,6 +87,14 @@ is_command route.Report = false
 is_command route.Trial = false
 is_command route.Custodial = false
 is_command route.Rows = false
+is_command route.Loan = false
+is_command route.History = false
+is_command route.Quote = false
+is_command route.Arrears = false
+is_command route.Aging = false
+is_command route.Status = false
+is_command route.Command = false
+is_command route.Key = false
 
 -- a test, and the plan of a head where it is the first that holds
 abbrev pub Step : Type 0

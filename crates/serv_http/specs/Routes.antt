@@ -30,6 +30,14 @@ routes =
     ∷ (codes "/v1/months/{period}/trial", route.Trial)
     ∷ (codes "/v1/custodial", route.Custodial)
     ∷ (codes "/v1/rows/{number}", route.Rows)
+    ∷ (codes "/v1/loans/{loan}", route.Loan)
+    ∷ (codes "/v1/loans/{loan}/history", route.History)
+    ∷ (codes "/v1/loans/{loan}/quote/{day}", route.Quote)
+    ∷ (codes "/v1/loans/{loan}/arrears", route.Arrears)
+    ∷ (codes "/v1/aging", route.Aging)
+    ∷ (codes "/v1/status", route.Status)
+    ∷ (codes "/v1/commands/{number}", route.Command)
+    ∷ (codes "/v1/keys/{key}", route.Key)
     ∷ []
 
 -- the rows with a route more
@@ -64,6 +72,14 @@ route_of_query (query.Report m) = route.Report
 route_of_query (query.Trial m) = route.Trial
 route_of_query query.Custodial = route.Custodial
 route_of_query (query.Rows n) = route.Rows
+route_of_query (query.Loan l) = route.Loan
+route_of_query (query.History l) = route.History
+route_of_query (query.Quote l d) = route.Quote
+route_of_query (query.Arrears l) = route.Arrears
+route_of_query query.Aging = route.Aging
+route_of_query query.Status = route.Status
+route_of_query (query.Command n) = route.Command
+route_of_query (query.Key key) = route.Key
 
 -- the path that asks it
 unfoldable pub path_of_query : Query → List ℕ
@@ -76,6 +92,15 @@ path_of_query (query.Report m) = codes "/v1/months/" ++ (text_of_month m ++ code
 path_of_query (query.Trial m) = codes "/v1/months/" ++ (text_of_month m ++ codes "/trial")
 path_of_query query.Custodial = codes "/v1/custodial"
 path_of_query (query.Rows n) = codes "/v1/rows/" ++ text_of_number n
+path_of_query (query.Loan l) = codes "/v1/loans/" ++ text_of_number l
+path_of_query (query.History l) = codes "/v1/loans/" ++ (text_of_number l ++ codes "/history")
+path_of_query (query.Quote l d) =
+    codes "/v1/loans/" ++ (text_of_number l ++ (codes "/quote/" ++ text_of_day d))
+path_of_query (query.Arrears l) = codes "/v1/loans/" ++ (text_of_number l ++ codes "/arrears")
+path_of_query query.Aging = codes "/v1/aging"
+path_of_query query.Status = codes "/v1/status"
+path_of_query (query.Command n) = codes "/v1/commands/" ++ text_of_number n
+path_of_query (query.Key key) = codes "/v1/keys/" ++ key
 
 -- a path of this route asks the question
 pub record Spells (r : Route) (path : List ℕ) (q : Query) : Type 0 where

@@ -3,11 +3,13 @@
 ghost use Rattle.std.specs.Prelude.{◌≡◌, ℕ, ◌<◌, ◌≤◌, ◌==◌, ◌↔◌, ◌++◌, List, length, All, Option, Some, None, false};
 ghost use Rattle.std.specs.List.{list_any};
 ghost use Rattle.httparse.specs.Grammar.{RequestHead, print_request, ReadsRequest};
+ghost use Rattle.svc_types.specs.Requests.{IsQuery};
+ghost use Rattle.svc_types.specs.declared.requests.Query.{Query};
 ghost use Rattle.serv_http.specs.declared.ask.Ask.{Ask};
 ghost use Rattle.serv_http.specs.declared.route.Route.{Route};
 ghost use Rattle.serv_http.specs.Heads.{head_limit, line_limit, IsRefused, IsTooLong};
 ghost use Rattle.serv_http.specs.Paths.{IsPathOf};
-ghost use Rattle.serv_http.specs.Routes.{route_of};
+ghost use Rattle.serv_http.specs.Routes.{route_of, route_of_query, path_of_query};
 ghost use Rattle.serv_http.specs.Streams.{AsksTo};
 
 /// A stream has one list of requests, and one rest.
@@ -44,4 +46,9 @@ pub fn route_paths()
     ensures { (route : Route) (target : List ℕ) → All (λ b. b < 256) target
         → (route_of target ≡ Some route)
         ↔ ((list_any (λ b. b == 63) target ≡ false) × IsPathOf route target) }
+{}
+
+/// The path of a question finds the question's route.
+pub fn query_paths()
+    ensures { (q : Query) → IsQuery q → route_of (path_of_query q) ≡ Some (route_of_query q) }
 {}

@@ -25,7 +25,7 @@ mod window;
 
 pub use ask::{Allow, Ask, Body, Due, Plan};
 pub use conn::Conn;
-pub use laws::{any_cutting, first_of, one_list, route_paths, within_limits};
+pub use laws::{any_cutting, first_of, one_list, query_paths, route_paths, within_limits};
 pub use plan::BODY_LIMIT;
 pub use response::respond;
 pub use route::{ContentLength, Route};

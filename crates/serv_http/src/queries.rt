@@ -3,13 +3,14 @@
 ghost use Rattle.std.specs.Prelude.{◌≡◌, ◌≢◌, ℕ, ◌^◌, ◌<◌, ◌++◌, List, IfSome, IfNone, codes};
 ghost use Rattle.svc_base.specs.Calendar.{IsReadDay};
 ghost use Rattle.svc_base.specs.Text.{IsReadMonth, text_of_number, text_of_day, text_of_month};
+ghost use Rattle.svc_types.specs.Keys.{IsKey};
 ghost use Rattle.svc_types.specs.declared.requests.Query.{Query};
 ghost use Rattle.serv_http.specs.Routes.{Spells};
 
 use crate::fields::is_text;
 use crate::route::Route;
 use svc_base::{Day, Month, read_day, read_month, read_number};
-use svc_types::Query;
+use svc_types::{Key, Query, read_key};
 
 /// What stands between two texts.
 fn between<'a>(path: &'a [u8], before: &[u8], after: &[u8]) -> Option<&'a [u8]>
@@ -48,6 +49,18 @@ fn month_between(path: &[u8], before: &[u8], after: &[u8]) -> Option<Month>
     match read_month(text) {
         Ok(month) => Some(month),
         Err(_) => None,
+    }
+}
+
+/// The key after a text.
+fn key_after(path: &[u8], before: &[u8]) -> Option<Key>
+    ensures read { IfSome result (λ key. path.now ≡ before.now ++ key) }
+    ensures formed { IfSome result IsKey }
+    ensures none { IfNone result ((key : List ℕ) → IsKey key → path.now ≢ before.now ++ key) }
+{
+    match path.strip_prefix(before) {
+        Some(text) => read_key(text),
+        None => None,
     }
 }
 
@@ -180,6 +193,96 @@ fn rows(path: &[u8]) -> Option<Query>
     }
 }
 
+/// The question of a loan's terms, escrow lines and changes of remittance type.
+fn loan(path: &[u8]) -> Option<Query>
+    ensures read { IfSome result (Spells Route.Loan path.now) }
+    ensures none { IfNone result ((q : Query) → ¬ (Spells Route.Loan path.now q)) }
+{
+    match number_between(path, b"/v1/loans/", b"") {
+        Some(loan) => Some(Query::Loan(loan)),
+        None => None,
+    }
+}
+
+/// The question of a loan's history.
+fn history(path: &[u8]) -> Option<Query>
+    ensures read { IfSome result (Spells Route.History path.now) }
+    ensures none { IfNone result ((q : Query) → ¬ (Spells Route.History path.now q)) }
+{
+    match number_between(path, b"/v1/loans/", b"/history") {
+        Some(loan) => Some(Query::History(loan)),
+        None => None,
+    }
+}
+
+/// The question of what pays a loan off on a day, also one to come.
+fn quote(path: &[u8]) -> Option<Query>
+    ensures read { IfSome result (Spells Route.Quote path.now) }
+    ensures none { IfNone result ((q : Query) → ¬ (Spells Route.Quote path.now q)) }
+{
+    match loan_and_day(path, b"/quote/") {
+        Some(of) => Some(Query::Quote(of.loan, of.day)),
+        None => None,
+    }
+}
+
+/// The question of what brings a loan current.
+fn arrears(path: &[u8]) -> Option<Query>
+    ensures read { IfSome result (Spells Route.Arrears path.now) }
+    ensures none { IfNone result ((q : Query) → ¬ (Spells Route.Arrears path.now q)) }
+{
+    match number_between(path, b"/v1/loans/", b"/arrears") {
+        Some(loan) => Some(Query::Arrears(loan)),
+        None => None,
+    }
+}
+
+/// The question of all loans by how late they are.
+fn aging(path: &[u8]) -> Option<Query>
+    ensures read { IfSome result (Spells Route.Aging path.now) }
+    ensures none { IfNone result ((q : Query) → ¬ (Spells Route.Aging path.now q)) }
+{
+    if is_text(path, b"/v1/aging") {
+        Some(Query::Aging)
+    } else {
+        None
+    }
+}
+
+/// The question of where the days, the months and the counts stand.
+fn status(path: &[u8]) -> Option<Query>
+    ensures read { IfSome result (Spells Route.Status path.now) }
+    ensures none { IfNone result ((q : Query) → ¬ (Spells Route.Status path.now q)) }
+{
+    if is_text(path, b"/v1/status") {
+        Some(Query::Status)
+    } else {
+        None
+    }
+}
+
+/// The question of an accepted command, by its number.
+fn command(path: &[u8]) -> Option<Query>
+    ensures read { IfSome result (Spells Route.Command path.now) }
+    ensures none { IfNone result ((q : Query) → ¬ (Spells Route.Command path.now q)) }
+{
+    match number_between(path, b"/v1/commands/", b"") {
+        Some(number) => Some(Query::Command(number)),
+        None => None,
+    }
+}
+
+/// The question of an accepted command, by its key.
+fn key(path: &[u8]) -> Option<Query>
+    ensures read { IfSome result (Spells Route.Key path.now) }
+    ensures none { IfNone result ((q : Query) → ¬ (Spells Route.Key path.now q)) }
+{
+    match key_after(path, b"/v1/keys/") {
+        Some(key) => Some(Query::Key(key)),
+        None => None,
+    }
+}
+
 /// The question that a path of a route spells, where it spells one.
 pub(crate) fn query_of(route: Route, path: &[u8]) -> Option<Query>
     ensures read { IfSome result (Spells route path.now) }
@@ -195,5 +298,13 @@ pub(crate) fn query_of(route: Route, path: &[u8]) -> Option<Query>
         Route::Trial => trial(path),
         Route::Custodial => custodial(path),
         Route::Rows => rows(path),
+        Route::Loan => loan(path),
+        Route::History => history(path),
+        Route::Quote => quote(path),
+        Route::Arrears => arrears(path),
+        Route::Aging => aging(path),
+        Route::Status => status(path),
+        Route::Command => command(path),
+        Route::Key => key(path),
     }
 }

@@ -21,6 +21,22 @@ pub enum Route {
     Custodial,
     /// The custodial rows of a command.
     Rows,
+    /// A loan's terms, escrow lines and changes of remittance type.
+    Loan,
+    /// What each event did to a loan's books.
+    History,
+    /// What pays a loan off on a day, also one to come.
+    Quote,
+    /// What brings a loan current.
+    Arrears,
+    /// All loans by how late they are.
+    Aging,
+    /// Where the days, the months and the counts stand.
+    Status,
+    /// An accepted command and its reply, by its number.
+    Command,
+    /// An accepted command and its reply, by its key.
+    Key,
 }
 
 /// What the `Content-Length` lines of a head say.

@@ -22,6 +22,14 @@ fn routes_in(router: &mut Router<Route>) -> Result<(), InsertError>
     router.insert("/v1/months/{period}/trial", Route::Trial)?;
     router.insert("/v1/custodial", Route::Custodial)?;
     router.insert("/v1/rows/{number}", Route::Rows)?;
+    router.insert("/v1/loans/{loan}", Route::Loan)?;
+    router.insert("/v1/loans/{loan}/history", Route::History)?;
+    router.insert("/v1/loans/{loan}/quote/{day}", Route::Quote)?;
+    router.insert("/v1/loans/{loan}/arrears", Route::Arrears)?;
+    router.insert("/v1/aging", Route::Aging)?;
+    router.insert("/v1/status", Route::Status)?;
+    router.insert("/v1/commands/{number}", Route::Command)?;
+    router.insert("/v1/keys/{key}", Route::Key)?;
     Ok(())
 }
 

@@ -3,7 +3,7 @@
 use serv_http::{Allow, Ask, Conn};
 use std::alloc::Global;
 use std::test::Fail;
-use svc_base::OutOfMemory;
+use svc_base::{OutOfMemory, write_day};
 use svc_types::Query;
 
 /// The exchange of a day.
@@ -15,7 +15,25 @@ fn post_line(alloc: Global, size: usize, last: bool) -> Result<String, OutOfMemo
 }
 
 fn get_line(alloc: Global, query: &Query, last: bool) -> Result<String, OutOfMemory> {
-    Ok(format!(in alloc; "get {:?} {}\n", query, last)?)
+    match query {
+        Query::Key(key) => key_line(alloc, key.bytes(), last),
+        Query::Quote(loan, day) => quote_line(alloc, *loan, &write_day(*day), last),
+        _ => Ok(format!(in alloc; "get {:?} {}\n", query, last)?),
+    }
+}
+
+fn key_line(alloc: Global, key: &[u8], last: bool) -> Result<String, OutOfMemory> {
+    match str::from_utf8(key) {
+        Ok(text) => Ok(format!(in alloc; "get key {} {}\n", text, last)?),
+        Err(_) => Err(OutOfMemory),
+    }
+}
+
+fn quote_line(alloc: Global, loan: u32, day: &[u8], last: bool) -> Result<String, OutOfMemory> {
+    match str::from_utf8(day) {
+        Ok(text) => Ok(format!(in alloc; "get quote {} {} {}\n", loan, text, last)?),
+        Err(_) => Err(OutOfMemory),
+    }
 }
 
 fn fault_line(
@@ -178,6 +196,56 @@ const QUERIES: [(&str, &str); 8] = [
         "404 false None\n",
     ),
 ];
+
+const DESK: [(&str, &str); 15] = [
+    ("GET /v1/status HTTP/1.1\r\n\r\n", "get Status false\n"),
+    ("GET /v1/aging HTTP/1.1\r\n\r\n", "get Aging false\n"),
+    ("GET /v1/loans/12 HTTP/1.1\r\n\r\n", "get Loan(12) false\n"),
+    (
+        "GET /v1/loans/12/history HTTP/1.1\r\n\r\n",
+        "get History(12) false\n",
+    ),
+    (
+        "GET /v1/loans/12/arrears HTTP/1.1\r\n\r\n",
+        "get Arrears(12) false\n",
+    ),
+    (
+        "GET /v1/commands/8 HTTP/1.1\r\n\r\n",
+        "get Command(8) false\n",
+    ),
+    (
+        "POST /v1/commands/8 HTTP/1.1\r\n\r\n",
+        "405 false Some(Get)\n",
+    ),
+    (
+        "GET /v1/keys/A.z_0:9- HTTP/1.1\r\n\r\n",
+        "get key A.z_0:9- false\n",
+    ),
+    ("GET /v1/keys/k%38 HTTP/1.1\r\n\r\n", "400 false None\n"),
+    ("GET /v1/keys/ HTTP/1.1\r\n\r\n", "404 false None\n"),
+    ("GET /v1/keys/k/8 HTTP/1.1\r\n\r\n", "404 false None\n"),
+    ("GET /v1/loans/012 HTTP/1.1\r\n\r\n", "400 false None\n"),
+    ("GET /v1/loans/ HTTP/1.1\r\n\r\n", "404 false None\n"),
+    (
+        "GET /v1/loans/12/quote/2024-06-30 HTTP/1.1\r\n\r\n",
+        "get quote 12 2024-06-30 false\n",
+    ),
+    (
+        "GET /v1/loans/12/quote/2024-02-30 HTTP/1.1\r\n\r\n",
+        "400 false None\n",
+    ),
+];
+
+#[test]
+fn queries_of_the_desk_are_asked(rt: HostRuntime) -> Result<(), Fail> {
+    for (bytes, want) in DESK.iter() {
+        assert!(rt;
+            asks(rt.alloc(), bytes.as_bytes(), (1, 1), want)?,
+            "{bytes}"
+        );
+    }
+    Ok(())
+}
 
 #[test]
 fn queries_are_asked(rt: HostRuntime) -> Result<(), Fail> {

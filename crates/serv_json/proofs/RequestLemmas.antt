@@ -44,6 +44,7 @@ text_back (value.Kind k) = refl
 text_back (value.Surplus s) = refl
 text_back (value.Part p) = refl
 text_back (value.Designation over) = refl
+text_back (value.Key key) = refl
 
 same_json : (k : FieldKind) (v w : Value) → IsValueOf k v → IsValueOf k w → json_of v ≡ json_of w → v ≡ w
 same_json k v w a b e = same_value k v w a b (sym (text_back v) ∙ ap json_text e ∙ text_back w)

@@ -185,6 +185,7 @@ value_word (value.Kind k) h = kind_word k
 value_word (value.Surplus s) h = surplus_word s
 value_word (value.Part p) h = part_word p h
 value_word (value.Designation d) h = over_word d h
+value_word (value.Key key) h = key_word key h
 
 form_word : (f : Form) → IsWord (word_of f)
 unfolding is_visible
@@ -215,6 +216,14 @@ question_word question.Report = plain (word_of_question question.Report) refl (o
 question_word question.Trial = plain (word_of_question question.Trial) refl (omega arith)
 question_word question.Custodial = plain (word_of_question question.Custodial) refl (omega arith)
 question_word question.Rows = plain (word_of_question question.Rows) refl (omega arith)
+question_word question.Loan = plain (word_of_question question.Loan) refl (omega arith)
+question_word question.History = plain (word_of_question question.History) refl (omega arith)
+question_word question.Quote = plain (word_of_question question.Quote) refl (omega arith)
+question_word question.Arrears = plain (word_of_question question.Arrears) refl (omega arith)
+question_word question.Aging = plain (word_of_question question.Aging) refl (omega arith)
+question_word question.Status = plain (word_of_question question.Status) refl (omega arith)
+question_word question.Command = plain (word_of_question question.Command) refl (omega arith)
+question_word question.Key = plain (word_of_question question.Key) refl (omega arith)
 
 -- ---- words joined are split again, and are not long
 
@@ -299,6 +308,14 @@ few_query_values (queries.Report m) = omega arith
 few_query_values (queries.Trial m) = omega arith
 few_query_values queries.Custodial = omega arith
 few_query_values (queries.Rows n) = omega arith
+few_query_values (queries.Loan l) = omega arith
+few_query_values (queries.History l) = omega arith
+few_query_values (queries.Quote l d) = omega arith
+few_query_values (queries.Arrears l) = omega arith
+few_query_values queries.Aging = omega arith
+few_query_values queries.Status = omega arith
+few_query_values (queries.Command n) = omega arith
+few_query_values (queries.Key key) = omega arith
 
 -- it is short
 pub line_short : (r : Request) → IsRequest r → length (line_of r) ≤ 512

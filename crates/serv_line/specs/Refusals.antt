@@ -43,6 +43,7 @@ code_of (refusal.NotClosed m) = 23
 code_of (refusal.WrongRemit m) = 24
 code_of (refusal.AdjustmentsFull n) = 25
 code_of (refusal.ClosedMonth m) = 27
+code_of refusal.NoSuchCommand = 28
 
 -- the name of a refusal
 abbrev pub name_of_refusal : Refusal → List ℕ
@@ -72,6 +73,7 @@ name_of_refusal (refusal.NotClosed m) = codes "NotClosed"
 name_of_refusal (refusal.WrongRemit m) = codes "WrongRemit"
 name_of_refusal (refusal.AdjustmentsFull n) = codes "AdjustmentsFull"
 name_of_refusal (refusal.ClosedMonth m) = codes "ClosedMonth"
+name_of_refusal refusal.NoSuchCommand = codes "NoSuchCommand"
 
 -- what there is no more room for
 abbrev pub text_of_limit : Limit → List ℕ
@@ -150,6 +152,7 @@ text_of_cause (refusal.NotClosed m) = 32 ∷ text_of_closed m
 text_of_cause (refusal.WrongRemit m) = 32 ∷ text_of_month m
 text_of_cause (refusal.AdjustmentsFull n) = 32 ∷ text_of_number n
 text_of_cause (refusal.ClosedMonth m) = 32 ∷ text_of_month m
+text_of_cause refusal.NoSuchCommand = []
 
 -- the code and the name of a refusal
 abbrev pub text_of_named : Refusal → List ℕ

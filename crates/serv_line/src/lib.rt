@@ -20,4 +20,5 @@ pub use refusals::{push_refusal, refusal_code, write_refusal};
 pub use replies::{
     push_bad, push_found, push_full, push_parts, push_reply, write_bad, write_full, write_reply,
 };
+pub use values::{push_value, push_values};
 pub use writing::{push_line, write_line};

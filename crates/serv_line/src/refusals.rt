@@ -53,7 +53,7 @@ fn push_named(out: &mut Vec<u8>, refusal: &Refusal) -> Result<(), OutOfMemory>
     push_bytes(out, name(refusal))
 }
 
-/// The code of a refusal, which its line and its JSON body begin with: 1 to 25 and 27.
+/// The code of a refusal, which its line and its JSON body begin with: 1 to 25, 27 and 28.
 pub fn refusal_code(refusal: &Refusal) -> u32
     ensures code { result ≡ code_of refusal.now }
 {
@@ -84,6 +84,7 @@ pub fn refusal_code(refusal: &Refusal) -> u32
         Refusal::WrongRemit(_) => 24,
         Refusal::AdjustmentsFull(_) => 25,
         Refusal::ClosedMonth(_) => 27,
+        Refusal::NoSuchCommand => 28,
     }
 }
 
@@ -118,6 +119,7 @@ fn name(refusal: &Refusal) -> &'static [u8]
         Refusal::WrongRemit(_) => b"WrongRemit",
         Refusal::AdjustmentsFull(_) => b"AdjustmentsFull",
         Refusal::ClosedMonth(_) => b"ClosedMonth",
+        Refusal::NoSuchCommand => b"NoSuchCommand",
     }
 }
 
@@ -141,7 +143,8 @@ fn push_cause(out: &mut Vec<u8>, refusal: &Refusal) -> Result<(), OutOfMemory>
         | Refusal::BadAmount
         | Refusal::NoSuchEntry
         | Refusal::NotReversible
-        | Refusal::NoSuchLine => Ok(()),
+        | Refusal::NoSuchLine
+        | Refusal::NoSuchCommand => Ok(()),
         Refusal::BadTerms(fault) => push_spaced(out, term_fault_text(*fault)),
         Refusal::BoardedLate(month)
         | Refusal::WrongPeriod(month)

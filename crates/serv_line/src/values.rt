@@ -14,7 +14,7 @@ use svc_types::{Designation, LineKind, PartPlan, RemitType, SurplusPlan};
 
 /// Appends values, a space before each.
 #[tactic(auto, using(crate::proofs::KeepLemmas::keeps))]
-pub(crate) fn push_values(out: &mut Vec<u8>, values: &[Value]) -> Result<(), OutOfMemory>
+pub fn push_values(out: &mut Vec<u8>, values: &[Value]) -> Result<(), OutOfMemory>
     ensures pushed { OnOk result (out.new.items ≡ out.old.items ++ text_of_values values.now) }
     ensures kept { OnErr result (Keeps out.old.items out.new.items) }
 {
@@ -36,7 +36,7 @@ fn push_spaced_value(out: &mut Vec<u8>, value: &Value) -> Result<(), OutOfMemory
 
 /// Appends a value.
 #[tactic(auto, using(crate::proofs::KeepLemmas::keeps))]
-fn push_value(out: &mut Vec<u8>, value: &Value) -> Result<(), OutOfMemory>
+pub fn push_value(out: &mut Vec<u8>, value: &Value) -> Result<(), OutOfMemory>
     ensures pushed { OnOk result (out.new.items ≡ out.old.items ++ text_of_value value.now) }
     ensures kept { OnErr result (Keeps out.old.items out.new.items) }
 {
@@ -50,6 +50,7 @@ fn push_value(out: &mut Vec<u8>, value: &Value) -> Result<(), OutOfMemory>
         Value::Surplus(plan) => push_bytes(out, surplus_text(*plan)),
         Value::Part(plan) => push_part(out, *plan),
         Value::Designation(over) => push_bytes(out, designation_text(*over)),
+        Value::Key(key) => push_bytes(out, key.bytes()),
     }
 }
 

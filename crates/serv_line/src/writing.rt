@@ -200,12 +200,17 @@ fn push_query(out: &mut Vec<u8>, query: &Query) -> Result<(), OutOfMemory>
     ensures kept { OnErr result (Keeps out.old.items out.new.items) }
 {
     match query {
-        Query::Books(loan) | Query::Escrow(loan) => push_values(out, &[Value::Number(*loan)]),
-        Query::At(loan, day) | Query::Payoff(loan, day) => {
+        Query::Books(loan)
+        | Query::Escrow(loan)
+        | Query::Loan(loan)
+        | Query::History(loan)
+        | Query::Arrears(loan) => push_values(out, &[Value::Number(*loan)]),
+        Query::At(loan, day) | Query::Payoff(loan, day) | Query::Quote(loan, day) => {
             push_values(out, &[Value::Number(*loan), Value::Day(*day)])
         }
         Query::Report(period) | Query::Trial(period) => push_values(out, &[Value::Month(*period)]),
-        Query::Custodial => Ok(()),
-        Query::Rows(number) => push_values(out, &[Value::Number(*number)]),
+        Query::Custodial | Query::Aging | Query::Status => Ok(()),
+        Query::Rows(number) | Query::Command(number) => push_values(out, &[Value::Number(*number)]),
+        Query::Key(key) => push_values(out, &[Value::Key(*key)]),
     }
 }

@@ -6,7 +6,7 @@ use std::test::Fail;
 use svc_base::OutOfMemory;
 
 /// Each form of a line.
-const LINES: [&str; 30] = [
+const LINES: [&str; 39] = [
     "k1 day 2024-02-01",
     "k2 board 1 2023-12-15 200000.00 6000 250 1199.10 360 2024-02 15 500 2 0.00 SS",
     "k3 pay 1 2024-02-01 1199.10",
@@ -37,6 +37,15 @@ const LINES: [&str; 30] = [
     "? trial 2024-04",
     "? custodial",
     "? rows 0",
+    "? loan 1",
+    "? history 4294967295",
+    "? quote 1 2024-06-30",
+    "? arrears 1",
+    "? aging",
+    "? status",
+    "? command 8",
+    "? key k8",
+    "? key A.z_0:9-",
 ];
 
 /// Whether a line is read, and written again as it was.
@@ -56,7 +65,7 @@ fn each_form_is_read_and_written(rt: HostRuntime) -> Result<(), Fail> {
 }
 
 /// Lines that are no request, with the place of the fault.
-const FAULTS: [(&str, u32); 32] = [
+const FAULTS: [(&str, u32); 39] = [
     ("k1 pay 1 2024-02-30 5.00", 9),
     ("k1 pay 1 2024-02-01", 19),
     ("k1 pay 1 2024-02-01 5.0", 20),
@@ -86,6 +95,13 @@ const FAULTS: [(&str, u32); 32] = [
     ("k1 line 1 2 taxes 7 12 5.00", 12),
     ("k1 analyse 1 - - spread:", 17),
     ("? custodial 1", 12),
+    ("? status 1", 9),
+    ("? quote 1", 9),
+    ("? quote 1 2024-06-31", 10),
+    ("? command k8", 10),
+    ("? key", 5),
+    ("? key k/8", 6),
+    ("? key k23456789012345678901234567890123", 6),
     ("k1 books 1", 3),
     ("? day 2024-02-01", 2),
     ("k23456789012345678901234567890123 day 2024-02-01", 0),

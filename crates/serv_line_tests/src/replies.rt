@@ -62,7 +62,7 @@ fn refusals_up_to_13_have_their_texts(rt: HostRuntime) -> Result<(), Fail> {
 
 #[test]
 fn refusals_from_14_on_have_their_texts(rt: HostRuntime) -> Result<(), Fail> {
-    let rows: [(Refusal, &str); 13] = [
+    let rows: [(Refusal, &str); 14] = [
         (Refusal::AlreadyReversed(14), "no 14 AlreadyReversed 14\n"),
         (Refusal::NotReversible, "no 15 NotReversible\n"),
         (Refusal::NoSuchLine, "no 16 NoSuchLine\n"),
@@ -88,6 +88,7 @@ fn refusals_from_14_on_have_their_texts(rt: HostRuntime) -> Result<(), Fail> {
             "no 25 AdjustmentsFull 4000000\n",
         ),
         (Refusal::ClosedMonth(month()), "no 27 ClosedMonth 2024-04\n"),
+        (Refusal::NoSuchCommand, "no 28 NoSuchCommand\n"),
     ];
     for (refusal, text) in rows {
         assert!(rt; is_refused(rt.alloc(), &refusal, text)?, "{text}");
@@ -215,6 +216,7 @@ fn other_replies_have_their_texts(rt: HostRuntime) -> Result<(), Fail> {
     assert!(rt; is_bad(rt.alloc(), 512, "bad 512\n")?);
     assert!(rt; is_full(rt.alloc(), 29, "no 26 JournalFull 29\n")?);
     assert_eq!(rt; refusal_code(&Refusal::ClosedMonth(month())), 27);
+    assert_eq!(rt; refusal_code(&Refusal::NoSuchCommand), 28);
     assert_eq!(rt; pushed(rt.alloc())?.as_slice(), PUSHED.as_bytes());
     Ok(())
 }

@@ -6,7 +6,7 @@ use Rattle.svc_types.specs.declared.requests.Request.TheVariants as request
 use Rattle.svc_types.specs.declared.replies.Refusal.{Refusal}
 use Rattle.svc_world.specs.World.{world}
 use Rattle.svc_world.specs.Judging.{next_reply}
-use Rattle.svc_world.specs.Refusals.{query_refusal}
+use Rattle.svc_world.specs.Answers.{query_refusal}
 use Rattle.serv_line.specs.Refusals.{code_of}
 use Rattle.serv_json.specs.Replies.{reply_text}
 use Rattle.serv_http.specs.Responses.{response}
@@ -29,7 +29,7 @@ status_of_refusal None = 200
 
 unfoldable pub status_of_request : History → Request → ℕ
 status_of_request h (request.Do key c) = status_of_decision (decided h key c)
-status_of_request h (request.Ask q) = status_of_refusal (query_refusal (length h.commands) (world h.commands) q)
+status_of_request h (request.Ask q) = status_of_refusal (query_refusal h.commands q)
 
 -- 0, or the code of the refusal; 26 is the journal's
 abbrev pub code_of_decision : Decision → ℕ
@@ -44,7 +44,7 @@ code_of_refusal None = 0
 
 unfoldable pub code_of_request : History → Request → ℕ
 code_of_request h (request.Do key c) = code_of_decision (decided h key c)
-code_of_request h (request.Ask q) = code_of_refusal (query_refusal (length h.commands) (world h.commands) q)
+code_of_request h (request.Ask q) = code_of_refusal (query_refusal h.commands q)
 
 -- the accepted command's number
 abbrev pub number_of_decision : History → Command → Decision → Option ℕ

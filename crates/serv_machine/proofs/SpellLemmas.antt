@@ -12,7 +12,7 @@ use Rattle.svc_world.specs.Custody.{rows_in}
 use Rattle.svc_world.specs.World.{Accepted, world}
 use Rattle.svc_world.specs.Worlds.{IsHeld}
 use Rattle.svc_world.specs.Judging.{IsHistory}
-use Rattle.svc_world.specs.Answers.{answer_to}
+use Rattle.svc_world.specs.Answers.{answer_from, answer_to}
 use Rattle.svc_world.proofs.HistoryLemmas.{is_world}
 use Rattle.svc_world.proofs.LoanListLemmas.{found_all}
 use Rattle.serv_report.specs.EscrowText.{HasYear}
@@ -36,8 +36,8 @@ loan_year h id l is found =
 there : {x a : Answer} → IsSpellable x → Some x ≡ Some a → IsSpellable a
 there {x} {a} is e = let same : x ≡ a = cc in subst IsSpellable same is
 
-pub spelled : (h : List Accepted) (q : Query) (a : Answer) → IsHistory h → answer_to (world h) (rows_in h) q ≡ Some a → IsSpellable a
-unfolding answer_to
+pub spelled : (h : List Accepted) (q : Query) (a : Answer) → IsHistory h → answer_to h q ≡ Some a → IsSpellable a
+unfolding answer_from
 spelled h (query.Books id) a is e = made _ _ a (λ l found. tt) e
 spelled h (query.At id d) a is e = made _ _ a (λ l found. tt) e
 spelled h (query.Payoff id d) a is e = made _ _ a (λ l found. tt) e
@@ -46,3 +46,11 @@ spelled h (query.Report p) a is e = made _ _ a (λ r found. tt) e
 spelled h (query.Trial p) a is e = made _ _ a (λ r found. tt) e
 spelled h query.Custodial a is e = there tt e
 spelled h (query.Rows number) a is e = there tt e
+spelled h (query.Loan id) a is e = made _ _ a (λ l found. tt) e
+spelled h (query.History id) a is e = made _ _ a (λ l found. tt) e
+spelled h (query.Quote id d) a is e = made _ _ a (λ l found. tt) e
+spelled h (query.Arrears id) a is e = made _ _ a (λ l found. tt) e
+spelled h query.Aging a is e = there tt e
+spelled h query.Status a is e = there tt e
+spelled h (query.Command number) a is e = made _ _ a (λ p found. tt) e
+spelled h (query.Key key) a is e = made _ _ a (λ p found. tt) e

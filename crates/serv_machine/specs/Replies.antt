@@ -12,8 +12,7 @@ use Rattle.svc_core.specs.Bound.{step_bound, query_bound}
 use Rattle.svc_world.specs.declared.answer.Answer.{Answer}
 use Rattle.svc_world.specs.World.{Accepted, accepted, world}
 use Rattle.svc_world.specs.Judging.{next_reply}
-use Rattle.svc_world.specs.Refusals.{query_refusal}
-use Rattle.svc_world.specs.Answers.{answer_to}
+use Rattle.svc_world.specs.Answers.{answer_to, query_refusal}
 use Rattle.svc_world.specs.Custody.{rows_in}
 use Rattle.serv_disk.specs.Faults.{HasRisen}
 use Rattle.serv_machine.specs.declared.faults.ActFault.{ActFault}
@@ -65,8 +64,7 @@ text_of_asked None None = []
 unfoldable pub reply_to_request : History → Request → List ℕ
 reply_to_request h (request.Do key c) = text_of_decision h c (decided h key c)
 reply_to_request h (request.Ask q) =
-    text_of_asked (query_refusal (length h.commands) (world h.commands) q)
-    (answer_to (world h.commands) (rows_in h.commands) q)
+    text_of_asked (query_refusal h.commands q) (answer_to h.commands q)
 
 -- ---- what is held after it
 

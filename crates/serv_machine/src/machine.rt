@@ -3,8 +3,7 @@
 ghost use Rattle.std.specs.Prelude.{◌≡◌, ◌≢◌, ◌+◌, ◌≤◌, None, Some, Err, length, IfErr, IfOk, OnErr, OnOk};
 ghost use Rattle.svc_types.specs.Requests.{IsCommand, IsQuery};
 ghost use Rattle.svc_world.specs.World.{accepted, world};
-ghost use Rattle.svc_world.specs.Refusals.{query_refusal};
-ghost use Rattle.svc_world.specs.Answers.{answer_to};
+ghost use Rattle.svc_world.specs.Answers.{answer_to, query_refusal};
 ghost use Rattle.svc_world.specs.Custody.{rows_in};
 ghost use Rattle.svc_core.specs.Bound.{query_bound, step_bound};
 ghost use Rattle.svc_core.specs.Core.{IsQueryFault};
@@ -65,13 +64,10 @@ pub trait Machine<D: Disk> {
     /// Answers a query.
     fn answer<L: Ledger>(&self, query: &Query, steps: &mut Steps<L>) -> Result<Answer, CoreFault>
         requires { IsQuery query.now }
-        ensures asked { OnOk result (query_refusal (length (history self.now).commands)
-            (world (history self.now).commands) query.now ≡ None) }
-        ensures answer { IfOk result (λ a. answer_to (world (history self.now).commands)
-            (rows_in (history self.now).commands) query.now ≡ Some a) }
+        ensures asked { OnOk result (query_refusal (history self.now).commands query.now ≡ None) }
+        ensures answer { IfOk result (λ a. answer_to (history self.now).commands query.now ≡ Some a) }
         ensures spelled { IfOk result IsSpellable }
-        ensures refused { IfErr result (IsQueryFault (query_refusal (length (history self.now).commands)
-            (world (history self.now).commands) query.now)) }
+        ensures refused { IfErr result (IsQueryFault (query_refusal (history self.now).commands query.now)) }
         ensures steps { steps.new ≤ steps.old + query_bound (world (history self.now).commands) query.now };
 
     /// Each image of a disk has the history.

@@ -1,5 +1,6 @@
 pub mod Texts
 pub mod ReportTexts
 pub mod EscrowText
+pub mod DeskTexts
 pub mod AnswerTexts
 pub mod Columns

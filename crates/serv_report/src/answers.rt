@@ -7,7 +7,10 @@ ghost use Rattle.serv_report.specs.AnswerTexts.{IsSpellable, text_of_answer};
 use crate::accounts::{append_custody, append_rows};
 use crate::analyses::append_escrow;
 use crate::books::{append_books, append_payoff};
+use crate::history::append_history;
+use crate::loans::{append_arrears, append_loan, append_quote};
 use crate::reports::{append_report, append_trial};
+use crate::standing::{append_aging, append_posting, append_status};
 use serv_line::undone;
 use std::alloc::Global;
 use svc_base::OutOfMemory;
@@ -58,5 +61,31 @@ fn append_answer(out: &mut Vec<u8>, answer: &Answer) -> Result<(), OutOfMemory>
         Answer::Trial(report) => append_trial(out, report),
         Answer::Custodial(custody) => append_custody(out, custody),
         Answer::Rows { number, rows } => append_rows(out, *number, rows.slice()),
+        Answer::Loan {
+            loan,
+            terms,
+            lines,
+            types,
+        } => append_loan(out, *loan, terms, lines.slice(), types.slice()),
+        Answer::History {
+            loan,
+            day,
+            lines,
+            reversed,
+        } => append_history(out, *loan, *day, lines.slice(), reversed.slice()),
+        Answer::Quote {
+            loan,
+            day,
+            cents,
+            perday,
+        } => append_quote(out, *loan, *day, *cents, *perday),
+        Answer::Arrears { loan, day, arrears } => append_arrears(out, *loan, *day, arrears),
+        Answer::Aging { day, late, counts } => append_aging(out, *day, late.slice(), counts),
+        Answer::Status(status) => append_status(out, status),
+        Answer::Command {
+            key,
+            command,
+            reply,
+        } => append_posting(out, key, command, reply),
     }
 }

@@ -44,7 +44,7 @@ fn push_balances(out: &mut Vec<u8>, books: &Books, next: Option<Month>) -> Resul
 
 /// Appends the month of the open installment, or a dash.
 #[tactic(auto, using(serv_line::proofs::KeepLemmas::keeps))]
-fn push_next(out: &mut Vec<u8>, next: Option<Month>) -> Result<(), OutOfMemory>
+pub(crate) fn push_next(out: &mut Vec<u8>, next: Option<Month>) -> Result<(), OutOfMemory>
     ensures pushed { OnOk result (out.new.items ≡ out.old.items ++ text_of_next next) }
     ensures kept { OnErr result (Keeps out.old.items out.new.items) }
 {
@@ -66,7 +66,12 @@ fn push_next_month(out: &mut Vec<u8>, month: Month) -> Result<(), OutOfMemory>
 
 /// Appends what a line begins with that speaks of a loan on a day.
 #[tactic(auto, using(serv_line::proofs::KeepLemmas::keeps))]
-fn push_on_day(out: &mut Vec<u8>, name: &[u8], loan: u32, day: Day) -> Result<(), OutOfMemory>
+pub(crate) fn push_on_day(
+    out: &mut Vec<u8>,
+    name: &[u8],
+    loan: u32,
+    day: Day,
+) -> Result<(), OutOfMemory>
     ensures pushed { OnOk result (out.new.items ≡ out.old.items ++ on_day name.now loan day) }
     ensures kept { OnErr result (Keeps out.old.items out.new.items) }
 {

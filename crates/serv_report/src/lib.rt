@@ -5,7 +5,10 @@ mod accounts;
 mod analyses;
 mod answers;
 mod books;
+mod history;
+mod loans;
 mod reports;
+mod standing;
 mod totals;
 mod words;
 

@@ -5,9 +5,11 @@ ghost use Rattle.svc_base.specs.Text.{text_of_amount, text_of_number, text_of_si
 ghost use Rattle.serv_line.specs.Pushed.{Keeps};
 ghost use Rattle.serv_line.specs.Replies.{number_field};
 ghost use Rattle.serv_report.specs.Texts.{end_line, numbered, spaced};
+ghost use Rattle.serv_report.specs.DeskTexts.{field};
 
-use serv_line::{push_amount, push_balance, push_bytes, push_number, push_wide};
+use serv_line::{push_amount, push_balance, push_bytes, push_number, push_value, push_wide};
 use svc_base::{Cents, OutOfMemory};
+use svc_forms::Value;
 
 /// Appends a word.
 #[tactic(auto, using(serv_line::proofs::KeepLemmas::keeps))]
@@ -72,6 +74,17 @@ pub(crate) fn push_count_field(
     push_word(out, name)?;
     push_bytes(out, b" ")?;
     push_wide(out, count as u64)
+}
+
+/// Appends a name and a value.
+#[tactic(auto, using(serv_line::proofs::KeepLemmas::keeps))]
+pub(crate) fn push_field(out: &mut Vec<u8>, name: &[u8], value: &Value) -> Result<(), OutOfMemory>
+    ensures pushed { OnOk result (out.new.items ≡ out.old.items ++ field name.now value.now) }
+    ensures kept { OnErr result (Keeps out.old.items out.new.items) }
+{
+    push_word(out, name)?;
+    push_bytes(out, b" ")?;
+    push_value(out, value)
 }
 
 /// Appends the last line of a text.

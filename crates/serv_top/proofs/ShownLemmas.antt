@@ -10,7 +10,8 @@ use Rattle.svc_types.specs.declared.replies.Refusal.TheVariants as refusal
 use Rattle.period_adjust.specs.Conditions.{first_month, last_month}
 use Rattle.svc_world.specs.World.{World, Accepted, world}
 use Rattle.svc_world.specs.Judging.{IsHistory}
-use Rattle.svc_world.specs.Refusals.{query_refusal, first_of, case, report_cases, is_closed_by, is_before_first}
+use Rattle.svc_world.specs.Answers.{refusal_from}
+use Rattle.svc_world.specs.Refusals.{first_of, case, report_cases, is_closed_by, is_before_first}
 use Rattle.serv_disk.specs.Faults.{HasRisen}
 use Rattle.serv_engine.specs.Histories.{IsGoodFound}
 use Rattle.serv_top.specs.declared.status.Status.{Status}
@@ -33,6 +34,14 @@ is_query (query.At l d) is = absurd is
 is_query (query.Payoff l d) is = absurd is
 is_query (query.Escrow l) is = absurd is
 is_query (query.Rows number) is = absurd is
+is_query (query.Loan l) is = absurd is
+is_query (query.History l) is = absurd is
+is_query (query.Quote l d) is = absurd is
+is_query (query.Arrears l) is = absurd is
+is_query query.Aging is = absurd is
+is_query query.Status is = absurd is
+is_query (query.Command number) is = absurd is
+is_query (query.Key key) is = absurd is
 
 -- no other rule refuses them
 only_cause : (b c : Bool) (r why : Refusal) → first_of (case b r ∷ case c r ∷ []) ≡ Some why → r ≡ why
@@ -45,7 +54,7 @@ report_only w m why e =
     only_cause (not (is_closed_by (last_month w.seals.reports) m)) (is_before_first (first_month w.seals.reports) m) (refusal.NotClosed (last_month w.seals.reports)) why e
 
 not_closed_only : (h : List Accepted) (q : Query) (why : Refusal) → IsShowing q → refusal_over h q ≡ Some why → (last : Option ℕ) × (refusal.NotClosed last ≡ why)
-unfolding query_refusal
+unfolding refusal_from
 not_closed_only h (query.Report m) why is e = (last_month (world h).seals.reports, report_only (world h) m why e)
 not_closed_only h (query.Trial m) why is e = (last_month (world h).seals.reports, report_only (world h) m why e)
 not_closed_only h query.Custodial why is e = absurd (cc)
@@ -54,6 +63,14 @@ not_closed_only h (query.At l d) why is e = absurd is
 not_closed_only h (query.Payoff l d) why is e = absurd is
 not_closed_only h (query.Escrow l) why is e = absurd is
 not_closed_only h (query.Rows number) why is e = absurd is
+not_closed_only h (query.Loan l) why is e = absurd is
+not_closed_only h (query.History l) why is e = absurd is
+not_closed_only h (query.Quote l d) why is e = absurd is
+not_closed_only h (query.Arrears l) why is e = absurd is
+not_closed_only h query.Aging why is e = absurd is
+not_closed_only h query.Status why is e = absurd is
+not_closed_only h (query.Command number) why is e = absurd is
+not_closed_only h (query.Key key) why is e = absurd is
 
 shows_refused : (h : List Accepted) (q : Query) (why : Refusal) (held : Option (List ℕ)) → IsShowing q → refusal_over h q ≡ Some why → Shows (status_of_refusal why) h q held held
 shows_refused h q why held is e =

@@ -7,8 +7,7 @@ use Rattle.svc_types.specs.declared.replies.Refusal.TheVariants as refusal
 use Rattle.svc_core.specs.Bound.{query_bound}
 use Rattle.svc_world.specs.declared.answer.Answer.{Answer}
 use Rattle.svc_world.specs.World.{Accepted, world}
-use Rattle.svc_world.specs.Refusals.{query_refusal}
-use Rattle.svc_world.specs.Answers.{answer_to}
+use Rattle.svc_world.specs.Answers.{answer_to, query_refusal}
 use Rattle.svc_world.specs.Custody.{rows_in}
 use Rattle.serv_disk.specs.Faults.{IsProperPrefix}
 use Rattle.serv_report.specs.AnswerTexts.{text_of_answer}
@@ -18,13 +17,13 @@ use Rattle.serv_top.specs.Journal.{IsOpened}
 
 -- why a query is refused over these commands
 abbrev pub refusal_over : List Accepted → Query → Option Refusal
-refusal_over h q = query_refusal (length h) (world h) q
+refusal_over h q = query_refusal h q
 
 -- a query over these commands is not refused, and this text is that of its answer
 pub record IsTextOf (h : List Accepted) (q : Query) (text : List ℕ) : Type 0 where
   pub asked : refusal_over h q ≡ None
   pub answer : Answer
-  pub is : answer_to (world h) (rows_in h) q ≡ Some answer
+  pub is : answer_to h q ≡ Some answer
   pub spelled : text ≡ text_of_answer answer
 
 -- of a query's text a part is written that does not reach its end

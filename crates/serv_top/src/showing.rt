@@ -83,7 +83,7 @@ fn show_by<D: Disk, M: Machine<D>, K: Sink, L: Ledger>(
 fn write_text<K: Sink>(alloc: Global, answer: &Answer, snk: &mut K) -> Status
     requires { IsSpellable answer.now }
     ensures shows { (h : List Accepted) (q : Query) → refusal_over h q ≡ None
-        → answer_to (world h) (rows_in h) q ≡ Some answer.now
+        → answer_to h q ≡ Some answer.now
         → Shows result h q (K.held snk.old) (K.held snk.new) }
     ensures idle { (last : Option ℕ) → result ≡ Status.NoReport last → snk.new ≡ snk.old }
     ensures write { result ≡ Status.WriteFault → HasRisen (K.faults snk.old) (K.faults snk.new) }

@@ -13,10 +13,12 @@ use Rattle.svc_world.specs.declared.answer.Answer.{Answer}
 use Rattle.svc_world.specs.declared.answer.Answer.TheVariants as answer
 use Rattle.svc_world.specs.declared.custody.Custody.{Custody}
 use Rattle.svc_world.specs.Held.{Held, find_loan, books_now}
-use Rattle.svc_world.specs.World.{World}
-use Rattle.svc_world.specs.Answers.{books_answer, answer_to}
-use Rattle.svc_world.specs.Custody.{custody_of}
-use Rattle.svc_world.specs.Refusals.{Case, query_refusal}
+use Rattle.svc_world.specs.World.{Accepted, world}
+use Rattle.svc_world.specs.Answers.{books_answer, answer_from, answer_to, query_refusal, refusal_from}
+use Rattle.svc_world.specs.Custody.{custody_of, rows_in}
+use Rattle.svc_world.specs.Desk.{postings}
+use Rattle.svc_world.specs.Refusals.{Case}
+use Rattle.svc_world.proofs.DeskLemmas.{postings_count}
 use Rattle.svc_core.specs.declared.fault.CoreFault.{CoreFault}
 use Rattle.svc_core.specs.declared.fault.CoreFault.TheVariants as fault
 use Rattle.svc_core.specs.Core.{IsQueryFault}
@@ -27,50 +29,52 @@ use Rattle.servicing_transfer.specs.StatementAnswers.{IsBooks, IsCustodial, IsCu
 
 -- ---- rows
 
-pub rows_not_refused : (n : ℕ) (w : World) (number : ℕ) (f : CoreFault) (why : Refusal) → 1 ≤ number → number ≤ n → IsQueryFault (query_refusal n w (query.Rows number)) f → f ≡ fault.Refused why → ⊥
-unfolding query_refusal
-rows_not_refused n w number f why some there h is =
+pub rows_not_refused : (h : List Accepted) (number : ℕ) (f : CoreFault) (why : Refusal) → 1 ≤ number → number ≤ length h → IsQueryFault (query_refusal h (query.Rows number)) f → f ≡ fault.Refused why → ⊥
+unfolding refusal_from
+rows_not_refused h number f why some there fails is =
+    let count = postings_count h in
+    let n = length (postings h) in
     let zero : (number == 0) ≡ false = grind (arith, nat_tests) in
     let past : nat_lt n number ≡ false = grind (arith, nat_tests) in
-    let refused = subst (IsQueryFault (query_refusal n w (query.Rows number))) is h in
+    let refused = subst (IsQueryFault (query_refusal h (query.Rows number))) is fails in
     let none = ap (λ a. option_map (λ (c : Case). c.why) (if a || nat_lt n number then Some (record { holds = a || nat_lt n number; why = why_is.NoSuchEntry }) else None)) zero ∙ ap (λ b. option_map (λ (c : Case). c.why) (if b then Some (record { holds = b; why = why_is.NoSuchEntry }) else None)) past in
     absurd (never why (sym none ∙ refused))
   where
     never : (x : Refusal) → None ≡ Some x → ⊥
     never x e = cc
 
-pub has_rows : (w : World) (rows : List Row) (number : ℕ) (a : Answer) → answer_to w rows (query.Rows number) ≡ Some a → HasRows a
-unfolding answer_to
-has_rows w rows number a e = let is : answer.Rows number (rows_of_command number rows) ≡ a = cc in subst HasRows is tt
+pub has_rows : (h : List Accepted) (number : ℕ) (a : Answer) → answer_to h (query.Rows number) ≡ Some a → HasRows a
+unfolding answer_from
+has_rows h number a e = let is : answer.Rows number (rows_of_command number (rows_in h)) ≡ a = cc in subst HasRows is tt
 
-pub are_rows : (w : World) (rows : List Row) (number : ℕ) (a : Answer) (r : List Row) → answer_to w rows (query.Rows number) ≡ Some a → AreRowsOf a r → r ≡ rows_of_command number rows
-unfolding answer_to
-are_rows w rows number a r e h = let is : answer.Rows number (rows_of_command number rows) ≡ a = cc in subst (λ x. AreRowsOf x r) (sym is) h
+pub are_rows : (h : List Accepted) (number : ℕ) (a : Answer) (r : List Row) → answer_to h (query.Rows number) ≡ Some a → AreRowsOf a r → r ≡ rows_of_command number (rows_in h)
+unfolding answer_from
+are_rows h number a r e are = let is : answer.Rows number (rows_of_command number (rows_in h)) ≡ a = cc in subst (λ x. AreRowsOf x r) (sym is) are
 
 -- ---- the custodial accounts
 
-pub custody_not_refused : (n : ℕ) (w : World) (f : CoreFault) (why : Refusal) → IsQueryFault (query_refusal n w query.Custodial) f → f ≡ fault.Refused why → ⊥
-unfolding query_refusal
-custody_not_refused n w f why h is = let refused = subst (IsQueryFault (query_refusal n w query.Custodial)) is h in never why refused
+pub custody_not_refused : (h : List Accepted) (f : CoreFault) (why : Refusal) → IsQueryFault (query_refusal h query.Custodial) f → f ≡ fault.Refused why → ⊥
+unfolding refusal_from
+custody_not_refused h f why fails is = let refused = subst (IsQueryFault (query_refusal h query.Custodial)) is fails in never why refused
   where
     never : (x : Refusal) → None ≡ Some x → ⊥
     never x e = cc
 
-pub is_custodial : (w : World) (rows : List Row) (a : Answer) → answer_to w rows query.Custodial ≡ Some a → IsCustodial a
-unfolding answer_to
-is_custodial w rows a e = let is : answer.Custodial (custody_of w) ≡ a = cc in subst IsCustodial is tt
+pub is_custodial : (h : List Accepted) (a : Answer) → answer_to h query.Custodial ≡ Some a → IsCustodial a
+unfolding answer_from
+is_custodial h a e = let is : answer.Custodial (custody_of (world h)) ≡ a = cc in subst IsCustodial is tt
 
-pub custody_is : (w : World) (rows : List Row) (a : Answer) (c : Custody) → answer_to w rows query.Custodial ≡ Some a → IsCustodyOf a c → c ≡ custody_of w
-unfolding answer_to
-custody_is w rows a c e h = let is : answer.Custodial (custody_of w) ≡ a = cc in subst (λ x. IsCustodyOf x c) (sym is) h
+pub custody_is : (h : List Accepted) (a : Answer) (c : Custody) → answer_to h query.Custodial ≡ Some a → IsCustodyOf a c → c ≡ custody_of (world h)
+unfolding answer_from
+custody_is h a c e of = let is : answer.Custodial (custody_of (world h)) ≡ a = cc in subst (λ x. IsCustodyOf x c) (sym is) of
 
 -- ---- books
 
-pub books_not_refused : (n : ℕ) (w : World) (id : ℕ) (f : CoreFault) (why : Refusal) → is_some (find_loan id w.loans) ≡ true → IsQueryFault (query_refusal n w (query.Books id)) f → f ≡ fault.Refused why → ⊥
-unfolding query_refusal
-books_not_refused n w id f why there h is =
-    let refused = subst (IsQueryFault (query_refusal n w (query.Books id))) is h in
-    found (find_loan id w.loans) there refused
+pub books_not_refused : (h : List Accepted) (id : ℕ) (f : CoreFault) (why : Refusal) → is_some (find_loan id (world h).loans) ≡ true → IsQueryFault (query_refusal h (query.Books id)) f → f ≡ fault.Refused why → ⊥
+unfolding refusal_from
+books_not_refused h id f why there fails is =
+    let refused = subst (IsQueryFault (query_refusal h (query.Books id))) is fails in
+    found (find_loan id (world h).loans) there refused
   where
     found : (o : Option Held) → is_some o ≡ true → option_map (λ (c : Case). c.why) (find (λ (c : Case). c.holds) (option_map_or (λ (l : Held). []) o (record { holds = true; why = why_is.NoSuchLoan } ∷ []))) ≡ Some why → ⊥
     found None some e = absurd (cc)
@@ -80,17 +84,17 @@ is_books_by : (o : Option Held) (a : Answer) → option_map (λ l. books_answer 
 is_books_by None a e = absurd (cc)
 is_books_by (Some l) a e = let is : books_answer l (books_now l) ≡ a = cc in subst IsBooks is tt
 
-pub is_books : (w : World) (rows : List Row) (id : ℕ) (a : Answer) → answer_to w rows (query.Books id) ≡ Some a → IsBooks a
-unfolding answer_to
-is_books w rows id a e = is_books_by (find_loan id w.loans) a e
+pub is_books : (h : List Accepted) (id : ℕ) (a : Answer) → answer_to h (query.Books id) ≡ Some a → IsBooks a
+unfolding answer_from
+is_books h id a e = is_books_by (find_loan id (world h).loans) a e
 
 line_by : (o : Option Held) (a : Answer) (s : RowSums) (line : StatementLine) → option_map (λ l. books_answer l (books_now l)) o ≡ Some a → IsLineOf a s line → line_found o s line
 line_by None a s line e h = absurd (cc)
 line_by (Some l) a s line e h = let is : books_answer l (books_now l) ≡ a = cc in subst (λ x. IsLineOf x s line) (sym is) h
 
-pub line_is : (w : World) (rows : List Row) (id : ℕ) (a : Answer) (s : RowSums) (line : StatementLine) → answer_to w rows (query.Books id) ≡ Some a → IsLineOf a s line → line_found (find_loan id w.loans) s line
-unfolding answer_to
-line_is w rows id a s line e h = line_by (find_loan id w.loans) a s line e h
+pub line_is : (h : List Accepted) (id : ℕ) (a : Answer) (s : RowSums) (line : StatementLine) → answer_to h (query.Books id) ≡ Some a → IsLineOf a s line → line_found (find_loan id (world h).loans) s line
+unfolding answer_from
+line_is h id a s line e of = line_by (find_loan id (world h).loans) a s line e of
 
 -- ---- rows one by one
 

@@ -1,5 +1,5 @@
 -- What a settling needs of the books, so that no sum leaves its type.
-use Rattle.std.specs.Prelude.{ℤ, pos, ◌+ℤ◌, ◌≤ℤ◌}
+use Rattle.std.specs.Prelude.{suc, ℤ, pos, ◌+ℤ◌, ◌-ℤ◌, ◌≤ℤ◌}
 use Rattle.svc_types.specs.declared.books.Books.{Books}
 use Rattle.svc_spec.specs.Books.{AreWithin}
 use Rattle.svc_types.specs.declared.books.Installment.{Installment}
@@ -61,3 +61,7 @@ pub record MayApply (x : ℤ) (b : Books) : Type 0 where
   pub principal : b.principal ≤ℤ pos 4_000_000_000_000_000_000
   pub curtailed : b.curtailed ≤ℤ pos 1_000_000_000_000_000_000
   pub escrow : (b.escrow +ℤ x) ≤ℤ pos 4_000_000_000_000_000_000
+
+-- the books that the installments after the open one look at: they are on the balance that it leaves
+abbrev pub left_behind : Installment → Books → Books
+left_behind i b = record b { upb = b.upb -ℤ i.principal; next = suc i.k }

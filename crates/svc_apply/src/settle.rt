@@ -81,7 +81,7 @@ fn movable(books: &Books, terms: &Terms, by: u32) -> Option<Installment>
 }
 
 /// All that an installment on a balance asks, in cents.
-fn sum_of(due: &Installment, upb: Cents) -> Cents
+pub(crate) fn sum_of(due: &Installment, upb: Cents) -> Cents
     requires { HasParts due.now upb }
     ensures { result ≡ due.now.interest +ℤ due.now.principal +ℤ due.now.escrow }
 {

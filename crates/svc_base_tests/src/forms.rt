@@ -2,7 +2,7 @@
 
 use svc_base::{Month, first_day};
 use svc_forms::{Field, FieldKind, Form, Question, Value, form_named, question_named, read_value};
-use svc_types::{Designation, LineKind, PartPlan, RemitType, SurplusPlan};
+use svc_types::{Designation, LineKind, PartPlan, RemitType, SurplusPlan, read_key};
 
 /// Whether fields have these names.
 fn have_names(fields: &[Field], names: &[&str]) -> bool {
@@ -103,13 +103,21 @@ fn each_form_of_queries_has_its_word_and_fields(rt: HostRuntime) {
     assert!(rt; is_question(Question::Trial, b"trial", &["period"]));
     assert!(rt; is_question(Question::Custodial, b"custodial", &[]));
     assert!(rt; is_question(Question::Rows, b"rows", &["number"]));
+    assert!(rt; is_question(Question::Loan, b"loan", &["loan"]));
+    assert!(rt; is_question(Question::History, b"history", &["loan"]));
+    assert!(rt; is_question(Question::Quote, b"quote", &["loan", "day"]));
+    assert!(rt; is_question(Question::Arrears, b"arrears", &["loan"]));
+    assert!(rt; is_question(Question::Aging, b"aging", &[]));
+    assert!(rt; is_question(Question::Status, b"status", &[]));
+    assert!(rt; is_question(Question::Command, b"command", &["number"]));
+    assert!(rt; is_question(Question::Key, b"key", &["key"]));
     assert_eq!(rt; question_named(b"frob"), None);
 }
 
 #[test]
 fn each_kind_of_value_is_read(rt: HostRuntime) {
     let january = Month::new(2024, 1);
-    let rows: [(FieldKind, &[u8], Option<Value>); 14] = [
+    let rows: [(FieldKind, &[u8], Option<Value>); 16] = [
         (FieldKind::Number, b"0", Some(Value::Number(0))),
         (FieldKind::Number, b"01", None),
         (FieldKind::Number, b"4294967296", None),
@@ -144,6 +152,12 @@ fn each_kind_of_value_is_read(rt: HostRuntime) {
             b"escrow",
             Some(Value::Designation(Designation::Escrow)),
         ),
+        (
+            FieldKind::Key,
+            b"k8",
+            read_key(b"k8").map(|key| Value::Key(key)),
+        ),
+        (FieldKind::Key, b"k/8", None),
     ];
     for (kind, text, value) in rows {
         assert_eq!(rt; read_value(kind, text), value);

@@ -9,7 +9,7 @@ use std::alloc::Global;
 use std::marker::Model;
 use std::sync::ledger::Ledger;
 use svc_base::{Day, Month, OutOfMemory, Steps, make_room, month_of};
-use svc_replay::{BookFault, LoanAccount, LoanBooks, facts_between, fold_last};
+use svc_replay::{BookFault, LoanAccount, LoanBooks, facts_between, fold_last, fold_on};
 use svc_types::{Books, Entry, MonthFacts, Terms};
 
 /// By how many months at least the list of their ends grows.
@@ -126,6 +126,10 @@ impl LoanBooks for Checked {
         Ok(())
     }
 
+    fn kept(&self) -> &LoanAccount {
+        &self.kept
+    }
+
     fn terms(&self) -> &Terms {
         self.kept.terms()
     }
@@ -148,6 +152,13 @@ impl LoanBooks for Checked {
 
     fn books_at<L: Ledger>(&self, day: Day, steps: &mut Steps<L>) -> Books {
         folded(&self.kept, &self.ends, day, steps)
+    }
+
+    fn books_ahead<L: Ledger>(&self, day: Day, steps: &mut Steps<L>) -> Books {
+        self.kept.is_account();
+        let mut books = self.now;
+        fold_on(&mut books, self.kept.terms(), &self.kept.live(), day, steps);
+        books
     }
 
     fn month<L: Ledger>(&self, month: Month, _steps: &mut Steps<L>) -> MonthFacts {

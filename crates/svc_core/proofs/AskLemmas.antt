@@ -1,6 +1,6 @@
 -- What the answers to queries stand on.
 use Rattle.std.proofs.Common.{◌≡◌, ℕ, suc, ◌+◌, ◌-◌, ◌≤◌, ◌<◌, true, false, cond, List, [], ◌∷◌, length, get_or, arith, refl, sym, ap, subst, ◌∙◌}
-use Rattle.std.specs.Prelude.{◌==◌, is_some, Option, Some, None, IfSome, pos, int_lt, if◌then◌else◌}
+use Rattle.std.specs.Prelude.{◌==◌, is_some, IfErr, Result, Ok, Err, Option, Some, None, IfSome, pos, int_lt, if◌then◌else◌}
 use Rattle.std.specs.Option.{option_map}
 use Rattle.std.proofs.lemmas.Int.{ints}
 use Rattle.std.proofs.lemmas.Bool.Decides.{nat_tests}
@@ -18,9 +18,15 @@ use Rattle.period_adjust.specs.Sealed.{Sealed, State}
 use Rattle.period_adjust.specs.Conditions.{first_month, last_month}
 use Rattle.period_adjust.specs.Kept.{AreConsecutive, month_after}
 use Rattle.period_adjust.proofs.KeptLemmas.{month_after-last}
+use Rattle.svc_world.specs.declared.answer.Answer.{Answer}
 use Rattle.svc_world.specs.Held.{Held, find_loan}
+use Rattle.svc_world.proofs.LoanListLemmas.{found_id}
 use Rattle.svc_world.specs.Judging.{report_for}
 use Rattle.svc_world.specs.Worlds.{IsHeld}
+use Rattle.svc_types.specs.declared.replies.Refusal.{Refusal}
+use Rattle.svc_core.specs.declared.fault.CoreFault.{CoreFault}
+use Rattle.svc_core.specs.declared.fault.CoreFault.TheVariants as fault
+use Rattle.svc_core.specs.Core.{IsQueryFault}
 use Rattle.svc_loan.specs.Kept.{KeptLoan}
 use Rattle.svc_loan.specs.Loans.{KeptLoans, find_kept, held_in}
 use Rattle.svc_core.specs.Asking.{AreOnDay, IsPayable}
@@ -124,3 +130,13 @@ held_found id ks k found = find-held ks id ∙ ap (option_map (λ (j : KeptLoan)
 
 pub held_missing : (id : ℕ) (ks : List KeptLoan) → find_kept id ks ≡ None → find_loan id (held_in ks) ≡ None
 held_missing id ks none = find-held ks id ∙ ap (option_map (λ (j : KeptLoan). j.held)) none
+
+-- what is told of the loan that is found, under the number that was asked for
+pub told : (id : ℕ) (loans : List Held) (k : Held) (f : ℕ → Held → Answer) (a : Answer) → find_loan id loans ≡ Some k → a ≡ f k.id k → option_map (f id) (find_loan id loans) ≡ Some a
+told id loans k f a found is = ap (option_map (f id)) found ∙ ap Some (ap (λ i. f i k) (sym (found_id id loans k found)) ∙ sym is)
+
+-- a fault of a query is the refusal, or want of memory
+pub query_fault : (o : Option Refusal) (r : Result Answer CoreFault) → IfErr r (λ f. (cause : Refusal) → f ≡ fault.Refused cause → o ≡ Some cause) → IfErr r (IsQueryFault o)
+query_fault o (Ok a) h = tt
+query_fault o (Err (fault.Refused why)) h = h why refl
+query_fault o (Err fault.OutOfMemory) h = tt

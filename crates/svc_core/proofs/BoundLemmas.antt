@@ -15,7 +15,7 @@ use Rattle.svc_types.specs.declared.requests.Query.{Query}
 use Rattle.svc_types.specs.declared.requests.Query.TheVariants as query
 use Rattle.svc_types.specs.declared.replies.Refusal.TheVariants.{KeyReused}
 use Rattle.svc_types.specs.Live.{is_before, placed}
-use Rattle.svc_spec.specs.Accounts.{Account, IsAccount, MayPost, begun, posted, live_of, entry_of}
+use Rattle.svc_spec.specs.Accounts.{Account, IsAccount, MayPost, advanced_to, begun, posted, live_of, entry_of}
 use Rattle.svc_spec.specs.Books.{IsAct}
 use Rattle.svc_spec.specs.Months.{books_at_end, entries_from, open_by, cost_of_month}
 use Rattle.svc_spec.proofs.AccountLemmas.{live_after_post}
@@ -35,6 +35,7 @@ use Rattle.svc_world.proofs.NamedLoans.{named_loan, asked}
 use Rattle.svc_world.proofs.EntryWorlds.{entered_sum}
 use Rattle.svc_world.proofs.HistoryLemmas.{is_world, fresh_none}
 use Rattle.svc_loan.specs.Closed.{months_cost}
+use Rattle.svc_desk.specs.Costs.{quote_cost}
 use Rattle.svc_core.specs.Costs.{asking_month, refusing_cost, preparing_cost, changing_cost, entering_cost, reversing_cost, advancing_cost, closing_cost, accepting_cost, asking_cost}
 use Rattle.svc_core.specs.Core.{unknown_cost, where_unknown, judging_cost, accepted_cost, where_fresh, submitting_cost}
 use Rattle.svc_core.proofs.PartsLemmas.{judged_known}
@@ -193,6 +194,15 @@ submitting_within cost mc h key c is free hist =
       | Some k ↦ λ e. omega (arith, known_kept h key c k (accepted_cost cost mc h c) e)
     ] refl
 
+quoting_is : (cost : Account → ℕ → ℕ) (w : World) (id d : ℕ) → ((b : Account) (p : ℕ) → cost b p ≡ cost_of_month b p) → option_map_or (quote_cost cost d) (find_loan id w.loans) 0 ≡ option_map_or (quote_cost cost_of_month d) (find_loan id w.loans) 0
+quoting_is cost w id d is = elim (find_loan id w.loans) as (λ o. option_map_or (quote_cost cost d) o 0 ≡ option_map_or (quote_cost cost_of_month d) o 0) [
+  | None ↦ refl
+  | Some l ↦ elim (nat_le d l.account.today) as (λ v. (if v then cost l.account (month_of d) else cost (advanced_to d l.account) (month_of l.account.today)) ≡ (if v then cost_of_month l.account (month_of d) else cost_of_month (advanced_to d l.account) (month_of l.account.today))) [
+    | true ↦ is l.account (month_of d)
+    | false ↦ is (advanced_to d l.account) (month_of l.account.today)
+  ]
+]
+
 pub asking_within : (cost : Account → ℕ → ℕ) (w : World) (q : Query) → ((b : Account) (p : ℕ) → cost b p ≡ cost_of_month b p) → asking_cost cost w q ≤ query_bound w q
 unfolding query_bound
 asking_within cost w (query.At id d) is = omega (arith, asking_is cost w id (month_of d) is)
@@ -203,6 +213,14 @@ asking_within cost w (query.Report p) is = omega arith
 asking_within cost w (query.Trial p) is = omega arith
 asking_within cost w query.Custodial is = omega arith
 asking_within cost w (query.Rows number) is = omega arith
+asking_within cost w (query.Loan id) is = omega arith
+asking_within cost w (query.History id) is = omega arith
+asking_within cost w (query.Quote id d) is = omega (arith, quoting_is cost w id d is)
+asking_within cost w (query.Arrears id) is = omega arith
+asking_within cost w query.Aging is = omega arith
+asking_within cost w query.Status is = omega arith
+asking_within cost w (query.Command number) is = omega arith
+asking_within cost w (query.Key key) is = omega arith
 
 -- what a command that is accepted was counted for, before it and by it
 pub fresh_counted : (cost mc : Account → ℕ → ℕ) (h h' : List Accepted) (key : List ℕ) (c : Command) (s s' s'' : ℕ) → judged h key c ≡ Fresh → h' ≡ h → s' ≤ s + judging_cost cost h key c → s'' ≤ s' + accepted_cost cost mc h' c → s'' ≤ s + submitting_cost cost mc h key c

@@ -29,3 +29,4 @@ pub mod PositionLemmas
 pub mod LineLemmas
 pub mod AcceptLemmas
 pub mod PlaceLemmas
+pub mod PostingLemmas

@@ -10,11 +10,13 @@ use Rattle.svc_types.specs.declared.requests.Command.TheVariants as command
 use Rattle.svc_types.specs.declared.requests.Query.{Query}
 use Rattle.svc_types.specs.declared.requests.Query.TheVariants as query
 use Rattle.svc_spec.specs.Accounts.{Account, begun, entry_of}
+use Rattle.svc_spec.specs.Months.{cost_of_month}
 use Rattle.period_adjust.specs.Conditions.{last_month}
 use Rattle.period_adjust.specs.Kept.{month_after}
 use Rattle.svc_world.specs.Held.{Held, find_loan, boarded_month}
 use Rattle.svc_world.specs.World.{World}
 use Rattle.svc_loan.specs.Closed.{months_cost}
+use Rattle.svc_desk.specs.Costs.{quote_cost, arrears_cost, aging_cost}
 
 -- a month of a loan; nothing where the loan is not there
 abbrev pub asking_month : (Account → ℕ → ℕ) → World → ℕ → ℕ → ℕ
@@ -79,8 +81,14 @@ accepting_cost cost month_cost w later (command.Close p) = closing_cost month_co
 accepting_cost cost month_cost w later (command.Remit p) = 0
 accepting_cost cost month_cost w later (command.Retype id from kind) = 0
 
--- a query: the books of a day cost their month
+-- a query: the books of a day cost their month, a history costs that of boarding, and arrears a step for each
+-- installment that is due
 abbrev pub asking_cost : (Account → ℕ → ℕ) → World → Query → ℕ
 asking_cost cost w (query.At id d) = asking_month cost w id (month_of d)
 asking_cost cost w (query.Payoff id d) = asking_month cost w id (month_of d)
+asking_cost cost w (query.History id) =
+    option_map_or (λ (l : Held). cost_of_month l.account (boarded_month l)) (find_loan id w.loans) 0
+asking_cost cost w (query.Quote id d) = option_map_or (quote_cost cost d) (find_loan id w.loans) 0
+asking_cost cost w (query.Arrears id) = option_map_or (arrears_cost w.today) (find_loan id w.loans) 0
+asking_cost cost w query.Aging = aging_cost w.today w.loans
 asking_cost cost w q = 0

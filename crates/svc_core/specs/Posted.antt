@@ -5,6 +5,7 @@ use Rattle.svc_types.specs.declared.replies.Extra.{Extra}
 use Rattle.svc_types.specs.declared.replies.Reply.{Reply}
 use Rattle.svc_world.specs.World.{World, Accepted, accepted, first_world, after}
 use Rattle.svc_world.specs.Judging.{Known, is_key, reply_of}
+use Rattle.svc_world.specs.Desk.{Posting}
 
 -- a history of accepted commands with the reply to each, and for how many more there is room
 pub record PostedCommands : Type 0 where
@@ -55,3 +56,9 @@ replies_from n w (a ∷ more) = reply_of (n + 1) w a.command ∷ replies_from (n
 -- the replies to a history
 abbrev pub replies_to : List Accepted → List Reply
 replies_to h = replies_from 0 first_world h
+
+-- the commands, each with its reply
+abbrev pub postings_in : List Accepted → List Reply → List Posting
+postings_in [] rs = []
+postings_in (a ∷ h) [] = []
+postings_in (a ∷ h) (r ∷ rs) = record { key = a.key; command = a.command; reply = r } ∷ postings_in h rs

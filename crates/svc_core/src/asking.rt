@@ -1,6 +1,6 @@
 //! What a query is answered.
 
-ghost use Rattle.std.specs.Prelude.{◌≡◌, ◌+◌, ◌≤◌, ◌<◌, ◌||◌, ◌==◌, nat_lt, pos, Some, None, IfOk, IfErr, OnOk, OnErr, IfSome, is_some, true, [], ◌∷◌};
+ghost use Rattle.std.specs.Prelude.{◌≡◌, ◌+◌, ◌≤◌, ◌<◌, ◌||◌, ◌==◌, nat_lt, pos, Some, None, IfOk, IfErr, OnOk, OnErr, IfSome, is_some, true, [], ◌∷◌, length};
 ghost use Rattle.std.specs.Option.{option_map, option_map_or};
 ghost use Rattle.svc_base.specs.Calendar.{month_of as month_number, months_end};
 ghost use Rattle.svc_types.specs.declared.replies.Refusal.{Refusal as AnyRefusal};
@@ -18,14 +18,20 @@ ghost use Rattle.svc_world.specs.Held.{find_loan, books_now};
 ghost use Rattle.svc_world.specs.Judging.{report_for};
 ghost use Rattle.svc_world.specs.Refusals as rule;
 ghost use Rattle.svc_world.specs.declared.answer.Answer.TheVariants as answer;
-ghost use Rattle.svc_core.specs.Asking.{AreOnDay, IsPayable};
+ghost use Rattle.svc_core.specs.Asking.{AreOnDay, IsPayable, WantsMemory};
+ghost use Rattle.svc_core.specs.Posted.{postings_in};
 ghost use Rattle.svc_core.specs.Costs.{asking_month, asking_cost};
 ghost use Rattle.svc_core.specs.Rows.{IsCash};
 ghost use Rattle.svc_core.specs.State.{world_of, IsState};
 
 use crate::analysing::analysis_from;
+use crate::desk::{
+    ask_aging, ask_arrears, ask_command, ask_history, ask_key, ask_quote, ask_terms, is_unknown,
+    status,
+};
 use crate::fault::CoreFault;
 use crate::figures::figures_with;
+use crate::posted::Posted;
 use crate::state::{Cash, State};
 use custodial_book::Row;
 use period_adjust::Report;
@@ -38,40 +44,50 @@ use svc_replay::LoanBooks;
 use svc_types::{Books, Installment, Query, Refusal};
 use svc_world::{Answer, RowList};
 
-/// What a query is answered, after so many commands. It is refused where a rule holds; beside that it
-/// fails for want of memory alone.
-#[tactic(auto, unfolding(svc_world::specs::Refusals::query_refusal, svc_world::specs::Answers::answer_to))]
+/// What a query is answered. It is refused where a rule holds; beside that it fails for want of memory alone, and only
+/// where the answer is a list.
+#[tactic(auto, unfolding(svc_world::specs::Answers::refusal_from, svc_world::specs::Answers::answer_from))]
 pub(crate) fn answer<B: LoanBooks, L: Ledger>(
     alloc: Global,
-    count: u32,
+    posted: &Posted,
     state: &State<B>,
     cash: &Cash,
     query: &Query,
     steps: &mut Steps<L>,
 ) -> Result<Answer, CoreFault>
-    requires state { IsState count state.now.today state.now.loans state.now.seals }
-    requires cash { IsCash count (world_of state.now.today state.now.loans state.now.seals)
+    requires state { IsState (length posted.now.history) state.now.today state.now.loans state.now.seals }
+    requires cash { IsCash (length posted.now.history) (world_of state.now.today state.now.loans state.now.seals)
         cash.now.book.rows cash.now.custody cash.now.positions.items }
     requires query { IsQuery query.now }
     ensures refused { IfErr result (λ f. (cause : AnyRefusal) → f ≡ CoreFault.Refused cause →
-        rule.query_refusal count (world_of state.now.today state.now.loans state.now.seals) query.now
-        ≡ Some cause) }
-    ensures asked { OnOk result (rule.query_refusal count
-        (world_of state.now.today state.now.loans state.now.seals) query.now ≡ None) }
-    ensures answer { IfOk result (λ a. answers.answer_to
-        (world_of state.now.today state.now.loans state.now.seals) cash.now.book.rows query.now ≡ Some a) }
+        answers.refusal_from (world_of state.now.today state.now.loans state.now.seals)
+        (postings_in posted.now.history posted.now.replies) query.now ≡ Some cause) }
+    ensures memory { IfErr result (λ f. f ≡ CoreFault.OutOfMemory → WantsMemory query.now) }
+    ensures asked { OnOk result (answers.refusal_from (world_of state.now.today state.now.loans state.now.seals)
+        (postings_in posted.now.history posted.now.replies) query.now ≡ None) }
+    ensures answer { IfOk result (λ a. answers.answer_from
+        (world_of state.now.today state.now.loans state.now.seals) cash.now.book.rows
+        (postings_in posted.now.history posted.now.replies) query.now ≡ Some a) }
     ensures steps { steps.new ≤ steps.old
         + asking_cost B.cost (world_of state.now.today state.now.loans state.now.seals) query.now }
 {
-    match *query {
-        Query::Books(id) => Ok(ask_books(state, id)?),
-        Query::At(id, day) => Ok(ask_at(state, id, day, steps)?),
-        Query::Payoff(id, day) => Ok(ask_payoff(state, id, day, steps)?),
-        Query::Escrow(id) => Ok(ask_escrow(state, id)?),
-        Query::Report(month) => Ok(Answer::Report(ask_report(state, month)?)),
-        Query::Trial(month) => Ok(Answer::Trial(ask_report(state, month)?)),
+    match query {
+        Query::Books(id) => Ok(ask_books(state, *id)?),
+        Query::At(id, day) => Ok(ask_at(state, *id, *day, steps)?),
+        Query::Payoff(id, day) => Ok(ask_payoff(state, *id, *day, steps)?),
+        Query::Escrow(id) => Ok(ask_escrow(state, *id)?),
+        Query::Report(month) => Ok(Answer::Report(ask_report(state, *month)?)),
+        Query::Trial(month) => Ok(Answer::Trial(ask_report(state, *month)?)),
         Query::Custodial => Ok(Answer::Custodial(cash.custody)),
-        Query::Rows(number) => ask_rows(alloc, count, cash, number),
+        Query::Rows(number) => ask_rows(alloc, posted, cash, *number),
+        Query::Loan(id) => ask_terms(alloc, state, *id),
+        Query::History(id) => ask_history(alloc, state, *id, steps),
+        Query::Quote(id, day) => Ok(ask_quote(state, *id, *day, steps)?),
+        Query::Arrears(id) => Ok(ask_arrears(state, *id, steps)?),
+        Query::Aging => ask_aging(alloc, state, steps),
+        Query::Status => Ok(Answer::Status(status(posted, state))),
+        Query::Command(number) => Ok(ask_command(posted, *number)?),
+        Query::Key(key) => Ok(ask_key(posted, key)?),
     }
 }
 
@@ -226,15 +242,17 @@ fn ask_report<B: LoanBooks>(state: &State<B>, month: Month) -> Result<Report, Co
 }
 
 /// The custodial rows of a command; beside a refusal it fails for want of memory alone.
-fn ask_rows(alloc: Global, count: u32, cash: &Cash, number: u32) -> Result<Answer, CoreFault>
+fn ask_rows(alloc: Global, posted: &Posted, cash: &Cash, number: u32) -> Result<Answer, CoreFault>
     ensures refused { IfErr result (λ f. (cause : AnyRefusal) → f ≡ CoreFault.Refused cause → rule.first_of
-        (rule.case ((number == 0) || nat_lt count number) why.NoSuchEntry ∷ []) ≡ Some cause) }
+        (rule.case ((number == 0) || nat_lt (length (postings_in posted.now.history posted.now.replies)) number)
+        why.NoSuchEntry ∷ []) ≡ Some cause) }
     ensures asked { OnOk result (rule.first_of
-        (rule.case ((number == 0) || nat_lt count number) why.NoSuchEntry ∷ []) ≡ None) }
+        (rule.case ((number == 0) || nat_lt (length (postings_in posted.now.history posted.now.replies)) number)
+        why.NoSuchEntry ∷ []) ≡ None) }
     ensures answer { IfOk result (λ a. a ≡ answer.Rows number (rows_of_command number cash.now.book.rows)) }
 {
-    if let Some(cause) = refuse_rows(count, number) {
-        return Err(CoreFault::Refused(cause));
+    if is_unknown(posted, number) {
+        return Err(CoreFault::Refused(Refusal::NoSuchEntry));
     }
     let rows = copied(alloc, cash.book.rows(number))?;
     Ok(Answer::Rows { number, rows })
@@ -278,19 +296,8 @@ fn refuse_report<B: LoanBooks>(state: &State<B>, month: Month) -> Option<Refusal
     None
 }
 
-/// Why there are no rows of a command: so many commands were accepted, and it is none of them.
-fn refuse_rows(count: u32, number: u32) -> Option<Refusal>
-    ensures { result ≡ rule.first_of
-        (rule.case ((number == 0) || nat_lt count number) why.NoSuchEntry ∷ []) }
-{
-    if number == 0 || count < number {
-        return Some(Refusal::NoSuchEntry);
-    }
-    None
-}
-
 /// The loan with that number.
-fn loan_named<B: LoanBooks>(state: &State<B>, id: u32) -> Result<&Loan<B>, Refusal>
+pub(crate) fn loan_named<B: LoanBooks>(state: &State<B>, id: u32) -> Result<&Loan<B>, Refusal>
     requires { AreOnDay state.now.today state.now.loans.loans }
     ensures found { IfOk result (λ r. find_loan id (held_in state.now.loans.loans) ≡ Some r.now.held) }
     ensures today { IfOk result (λ r. r.now.held.account.today ≡ state.now.today) }

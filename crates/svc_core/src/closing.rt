@@ -37,7 +37,7 @@ pub(crate) fn refuse_close<B: LoanBooks>(state: &State<B>, month: Month) -> Opti
 
 /// The month that is closed next: the one after the last closed; else the first boarded month; else the
 /// business day's.
-fn next_to_close<B: LoanBooks>(state: &State<B>) -> Month
+pub(crate) fn next_to_close<B: LoanBooks>(state: &State<B>) -> Month
     requires ended { IfSome (last_month state.now.seals.reporting.reports) (λ last. last + 1 < months_end) }
     ensures { result ≡ rule.expected_close (world_of state.now.today state.now.loans state.now.seals) }
 {
@@ -82,7 +82,7 @@ pub(crate) fn refuse_remit<B: LoanBooks>(state: &State<B>, month: Month) -> Opti
 }
 
 /// The month that is remitted next, where one is closed.
-fn next_to_remit(seals: &Seals) -> Month
+pub(crate) fn next_to_remit(seals: &Seals) -> Month
     requires closed { is_some (last_month seals.now.reporting.reports) ≡ true }
     requires ended { IfSome (last_month seals.now.reporting.reports) (λ last. last + 1 < months_end) }
     ensures { result ≡ next_remit seals.now.remitted seals.now.reporting.reports }

@@ -10,6 +10,7 @@ mod cash;
 mod changing;
 mod closing;
 mod custody_line;
+mod desk;
 mod entering;
 mod everyone;
 mod fault;

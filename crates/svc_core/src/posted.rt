@@ -60,6 +60,13 @@ impl Posted {
         self.commands.len()
     }
 
+    /// Each command has its reply. The call does nothing.
+    pub fn is_replied(&self)
+        ensures { length self.now.replies ≡ length self.now.history }
+    {
+        let _ = &self.replies;
+    }
+
     /// The number of the command under a key.
     pub fn number_of(&self, key: &Key) -> Option<u32>
         ensures { result ≡ number_of self.now.history key.now }

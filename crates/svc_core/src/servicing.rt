@@ -7,10 +7,9 @@ ghost use Rattle.svc_spec.specs.Accounts.{Account};
 ghost use Rattle.svc_spec.specs.Months.{cost_of_month};
 ghost use Rattle.svc_world.specs.World.{accepted, world};
 ghost use Rattle.svc_world.specs.Judging.{Judgement, judged, history_after, next_reply, nth_accepted, IsHistory};
-ghost use Rattle.svc_world.specs.Refusals.{query_refusal};
-ghost use Rattle.svc_world.specs.Answers.{answer_to};
-ghost use Rattle.svc_world.specs.Custody.{rows_in};
+ghost use Rattle.svc_world.specs.Answers.{answer_to, query_refusal};
 ghost use Rattle.svc_world.specs.Laws.{AreLawful, IsLawfulStep};
+ghost use Rattle.svc_core.specs.Asking.{WantsMemory};
 ghost use Rattle.svc_core.specs.Bound.{step_bound, query_bound};
 ghost use Rattle.svc_core.specs.Core as core;
 ghost use Rattle.svc_core.specs.Costs.{asking_cost};
@@ -158,20 +157,17 @@ impl<B: LoanBooks> Core<B> {
     /// Answers a query over the history, or with the first rule that refuses it.
     pub fn ask<L: Ledger>(&self, query: &Query, steps: &mut Steps<L>) -> Result<Answer, CoreFault>
         requires { IsQuery query.now }
-        ensures asked { OnOk result
-            (query_refusal (length self.now.history) (world self.now.history) query.now ≡ None) }
-        ensures answer { IfOk result (λ a.
-            answer_to (world self.now.history) (rows_in self.now.history) query.now ≡ Some a) }
-        ensures refused { IfErr result (core.IsQueryFault
-            (query_refusal (length self.now.history) (world self.now.history) query.now)) }
+        ensures asked { OnOk result (query_refusal self.now.history query.now ≡ None) }
+        ensures answer { IfOk result (λ a. answer_to self.now.history query.now ≡ Some a) }
+        ensures refused { IfErr result (core.IsQueryFault (query_refusal self.now.history query.now)) }
+        ensures memory { IfErr result (λ f. f ≡ CoreFault.OutOfMemory → WantsMemory query.now) }
         ensures steps { steps.new ≤ steps.old + asking_cost B.cost (world self.now.history) query.now }
         ensures bound { ((a : Account) (m : ℕ) → B.cost a m ≡ cost_of_month a m)
             → steps.new ≤ steps.old + query_bound (world self.now.history) query.now }
     {
-        let count = self.parts.posted.count() as u32;
         answer(
             self.parts.alloc,
-            count,
+            &self.parts.posted,
             &self.parts.state,
             &self.parts.cash,
             query,

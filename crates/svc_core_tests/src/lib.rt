@@ -5,6 +5,8 @@
 #[cfg(test)]
 mod desk;
 #[cfg(test)]
+mod desk_asked;
+#[cfg(test)]
 mod escrow_and_types;
 #[cfg(test)]
 mod filling;

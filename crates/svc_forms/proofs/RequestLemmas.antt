@@ -165,6 +165,14 @@ query_fits (query.Report m) h = fit (fields_of_question question.Report) (values
 query_fits (query.Trial m) h = fit (fields_of_question question.Trial) (values_of_query (query.Trial m)) (is (value.Month m) h, tt)
 query_fits query.Custodial h = fit [] [] tt
 query_fits (query.Rows n) h = fit (fields_of_question question.Rows) (values_of_query (query.Rows n)) (is (value.Number n) h, tt)
+query_fits (query.Loan l) h = fit (fields_of_question question.Loan) (values_of_query (query.Loan l)) (is (value.Number l) h, tt)
+query_fits (query.History l) h = fit (fields_of_question question.History) (values_of_query (query.History l)) (is (value.Number l) h, tt)
+query_fits (query.Quote l d) h = fit (fields_of_question question.Quote) (values_of_query (query.Quote l d)) (is (value.Number l) h.0, (is (value.Day d) h.1, tt))
+query_fits (query.Arrears l) h = fit (fields_of_question question.Arrears) (values_of_query (query.Arrears l)) (is (value.Number l) h, tt)
+query_fits query.Aging h = fit [] [] tt
+query_fits query.Status h = fit [] [] tt
+query_fits (query.Command n) h = fit (fields_of_question question.Command) (values_of_query (query.Command n)) (is (value.Number n) h, tt)
+query_fits (query.Key key) h = fit (fields_of_question question.Key) (values_of_query (query.Key key)) (is (value.Key key) h, tt)
 
 -- ---- requests of one form with the same values are the same
 
@@ -203,6 +211,10 @@ part_of other = part.Unsaid
 over_of : Option Value → Designation
 over_of (Some (value.Designation d)) = d
 over_of other = over.Regular
+
+key_from : Option Value → List ℕ
+key_from (Some (value.Key key)) = key
+key_from other = []
 
 -- the command that values make
 made : Form → List Value → Command
@@ -271,9 +283,17 @@ asked question.Report v = query.Report (month_of (slice_get v 0))
 asked question.Trial v = query.Trial (month_of (slice_get v 0))
 asked question.Custodial v = query.Custodial
 asked question.Rows v = query.Rows (number_of (slice_get v 0))
+asked question.Loan v = query.Loan (number_of (slice_get v 0))
+asked question.History v = query.History (number_of (slice_get v 0))
+asked question.Quote v = query.Quote (number_of (slice_get v 0)) (day_of (slice_get v 1))
+asked question.Arrears v = query.Arrears (number_of (slice_get v 0))
+asked question.Aging v = query.Aging
+asked question.Status v = query.Status
+asked question.Command v = query.Command (number_of (slice_get v 0))
+asked question.Key v = query.Key (key_from (slice_get v 0))
 
 asked_of : (q : Query) → asked (question_of q) (values_of_query q) ≡ q
-unfolding asked number_of day_of month_of
+unfolding asked number_of day_of month_of key_from
 asked_of (query.Books l) = refl
 asked_of (query.At l d) = refl
 asked_of (query.Payoff l d) = refl
@@ -282,6 +302,14 @@ asked_of (query.Report m) = refl
 asked_of (query.Trial m) = refl
 asked_of query.Custodial = refl
 asked_of (query.Rows n) = refl
+asked_of (query.Loan l) = refl
+asked_of (query.History l) = refl
+asked_of (query.Quote l d) = refl
+asked_of (query.Arrears l) = refl
+asked_of query.Aging = refl
+asked_of query.Status = refl
+asked_of (query.Command n) = refl
+asked_of (query.Key key) = refl
 
 pub same_query : (p q : Query) → question_of p ≡ question_of q → values_of_query p ≡ values_of_query q → p ≡ q
 same_query p q e h =
@@ -351,6 +379,7 @@ told (value.Kind s) (value.Kind t) k p q e = ap value.Kind (kind_told s t e)
 told (value.Surplus s) (value.Surplus t) k p q e = ap value.Surplus (surplus_told s t e)
 told (value.Part s) (value.Part t) k p q e = ap value.Part (part_told s t p q e)
 told (value.Designation s) (value.Designation t) k p q e = ap value.Designation (over_told s t p q e)
+told (value.Key s) (value.Key t) k p q e = ap value.Key e
 told v w k p q e = absurd cc
 
 pub same_value : (k : FieldKind) (v w : Value) → IsValueOf k v → IsValueOf k w → text_of_value v ≡ text_of_value w → v ≡ w
@@ -392,7 +421,8 @@ same_form f g e = let both : Some f ≡ Some g = sym (named_word f) ∙ ap named
 questions : List Question
 questions =
     question.Books ∷ question.At ∷ question.Payoff ∷ question.Escrow ∷ question.Report ∷ question.Trial
-    ∷ question.Custodial ∷ question.Rows ∷ []
+    ∷ question.Custodial ∷ question.Rows ∷ question.Loan ∷ question.History ∷ question.Quote ∷ question.Arrears
+    ∷ question.Aging ∷ question.Status ∷ question.Command ∷ question.Key ∷ []
 
 named_question : List ℕ → Option Question
 named_question text = find (λ q. code (word_of_question q) == code text) questions
@@ -407,6 +437,14 @@ named_question_word question.Report = refl
 named_question_word question.Trial = refl
 named_question_word question.Custodial = refl
 named_question_word question.Rows = refl
+named_question_word question.Loan = refl
+named_question_word question.History = refl
+named_question_word question.Quote = refl
+named_question_word question.Arrears = refl
+named_question_word question.Aging = refl
+named_question_word question.Status = refl
+named_question_word question.Command = refl
+named_question_word question.Key = refl
 
 pub same_question : (p q : Question) → word_of_question p ≡ word_of_question q → p ≡ q
 same_question p q e =

@@ -31,6 +31,7 @@ name_of field.Short = codes "short"
 name_of field.Deficient = codes "deficient"
 name_of field.Period = codes "period"
 name_of field.Designation = codes "designation"
+name_of field.Key = codes "key"
 
 -- what a field's text spells
 abbrev pub kind_of_field : Field → FieldKind
@@ -58,6 +59,7 @@ kind_of_field field.Short = kind.Part
 kind_of_field field.Deficient = kind.Part
 kind_of_field field.Period = kind.Month
 kind_of_field field.Designation = kind.Designation
+kind_of_field field.Key = kind.Key
 
 -- whether a request may leave a field out
 abbrev pub is_optional : Field → Bool

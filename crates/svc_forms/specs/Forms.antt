@@ -125,6 +125,14 @@ word_of_question question.Report = codes "report"
 word_of_question question.Trial = codes "trial"
 word_of_question question.Custodial = codes "custodial"
 word_of_question question.Rows = codes "rows"
+word_of_question question.Loan = codes "loan"
+word_of_question question.History = codes "history"
+word_of_question question.Quote = codes "quote"
+word_of_question question.Arrears = codes "arrears"
+word_of_question question.Aging = codes "aging"
+word_of_question question.Status = codes "status"
+word_of_question question.Command = codes "command"
+word_of_question question.Key = codes "key"
 
 -- its fields, in their order
 abbrev pub fields_of_question : Question → List Field
@@ -136,6 +144,14 @@ fields_of_question question.Report = field.Period ∷ []
 fields_of_question question.Trial = field.Period ∷ []
 fields_of_question question.Custodial = []
 fields_of_question question.Rows = field.Number ∷ []
+fields_of_question question.Loan = field.Loan ∷ []
+fields_of_question question.History = field.Loan ∷ []
+fields_of_question question.Quote = field.Loan ∷ field.Day ∷ []
+fields_of_question question.Arrears = field.Loan ∷ []
+fields_of_question question.Aging = []
+fields_of_question question.Status = []
+fields_of_question question.Command = field.Number ∷ []
+fields_of_question question.Key = field.Key ∷ []
 
 -- the form of a query
 abbrev pub question_of : Query → Question
@@ -147,6 +163,14 @@ question_of (query.Report m) = question.Report
 question_of (query.Trial m) = question.Trial
 question_of query.Custodial = question.Custodial
 question_of (query.Rows number) = question.Rows
+question_of (query.Loan l) = question.Loan
+question_of (query.History l) = question.History
+question_of (query.Quote l d) = question.Quote
+question_of (query.Arrears l) = question.Arrears
+question_of query.Aging = question.Aging
+question_of query.Status = question.Status
+question_of (query.Command number) = question.Command
+question_of (query.Key key) = question.Key
 
 -- the values of a query's fields, in their order
 abbrev pub values_of_query : Query → List Value
@@ -158,3 +182,11 @@ values_of_query (query.Report m) = value.Month m ∷ []
 values_of_query (query.Trial m) = value.Month m ∷ []
 values_of_query query.Custodial = []
 values_of_query (query.Rows number) = value.Number number ∷ []
+values_of_query (query.Loan l) = value.Number l ∷ []
+values_of_query (query.History l) = value.Number l ∷ []
+values_of_query (query.Quote l d) = value.Number l ∷ value.Day d ∷ []
+values_of_query (query.Arrears l) = value.Number l ∷ []
+values_of_query query.Aging = []
+values_of_query query.Status = []
+values_of_query (query.Command number) = value.Number number ∷ []
+values_of_query (query.Key key) = value.Key key ∷ []

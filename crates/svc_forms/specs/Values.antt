@@ -2,6 +2,7 @@
 use Rattle.std.specs.Prelude.{◌≡◌, ℕ, List, Option, Some, None, slice_get, IsTrue}
 use Rattle.svc_base.specs.Calendar.{IsReadDay}
 use Rattle.svc_base.specs.Text.{text_of_number, text_of_amount, text_of_day, text_of_month, IsReadAmount, IsReadMonth}
+use Rattle.svc_types.specs.Keys.{IsKey}
 use Rattle.svc_types.specs.Requests.{IsReadNumber}
 use Rattle.svc_types.specs.Words.{text_of_type, text_of_kind, text_of_surplus, text_of_part, text_of_designation, IsReadPart, IsNamed}
 use Rattle.svc_types.specs.declared.account.Designation.{Designation}
@@ -24,8 +25,9 @@ kind_of (value.Kind k) = kind.Kind
 kind_of (value.Surplus s) = kind.Surplus
 kind_of (value.Part p) = kind.Part
 kind_of (value.Designation over) = kind.Designation
+kind_of (value.Key key) = kind.Key
 
--- the text of a value
+-- the text of a value; a key is its own
 abbrev pub text_of_value : Value → List ℕ
 text_of_value (value.Number n) = text_of_number n
 text_of_value (value.Amount z) = text_of_amount z
@@ -36,6 +38,7 @@ text_of_value (value.Kind k) = text_of_kind k
 text_of_value (value.Surplus s) = text_of_surplus s
 text_of_value (value.Part p) = text_of_part p
 text_of_value (value.Designation over) = text_of_designation over
+text_of_value (value.Key key) = key
 
 -- a value that requests may name
 abbrev pub IsReadValue : Value → Type 0
@@ -48,6 +51,7 @@ IsReadValue (value.Kind k) = Unit {0}
 IsReadValue (value.Surplus s) = Unit {0}
 IsReadValue (value.Part p) = IsReadPart p
 IsReadValue (value.Designation over) = IsNamed over
+IsReadValue (value.Key key) = IsKey key
 
 -- a value of a kind, that requests may name
 pub record IsValueOf (asked : FieldKind) (v : Value) : Type 0 where

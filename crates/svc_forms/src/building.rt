@@ -9,7 +9,7 @@ ghost use Rattle.svc_forms.specs.declared.value.Value.TheVariants as value;
 
 use crate::form::{Form, Question};
 use crate::places::{
-    amount_at, day_at, kind_at, month_at, number_at, over_of, part_at, surplus_at, type_at,
+    amount_at, day_at, key_at, kind_at, month_at, number_at, over_of, part_at, surplus_at, type_at,
 };
 use crate::value::Value;
 use svc_types::{Command, Plan, Query, Terms};
@@ -173,5 +173,13 @@ pub fn query_of(question: Question, values: &[Value]) -> Query
         Question::Trial => Query::Trial(month_at(values, 0)),
         Question::Custodial => Query::Custodial,
         Question::Rows => Query::Rows(number_at(values, 0)),
+        Question::Loan => Query::Loan(number_at(values, 0)),
+        Question::History => Query::History(number_at(values, 0)),
+        Question::Quote => Query::Quote(number_at(values, 0), day_at(values, 1)),
+        Question::Arrears => Query::Arrears(number_at(values, 0)),
+        Question::Aging => Query::Aging,
+        Question::Status => Query::Status,
+        Question::Command => Query::Command(number_at(values, 0)),
+        Question::Key => Query::Key(key_at(values, 0)),
     }
 }

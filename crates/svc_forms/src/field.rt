@@ -24,6 +24,8 @@ pub enum FieldKind {
     Part,
     /// Where what is over of a payment goes.
     Designation,
+    /// The key of a command.
+    Key,
 }
 
 /// A field of a request.
@@ -53,6 +55,7 @@ pub enum Field {
     Deficient,
     Period,
     Designation,
+    Key,
 }
 
 impl Field {
@@ -85,6 +88,7 @@ impl Field {
             Field::Deficient => "deficient",
             Field::Period => "period",
             Field::Designation => "designation",
+            Field::Key => "key",
         }
     }
 
@@ -101,6 +105,7 @@ impl Field {
             Field::Surplus => FieldKind::Surplus,
             Field::Short | Field::Deficient => FieldKind::Part,
             Field::Designation => FieldKind::Designation,
+            Field::Key => FieldKind::Key,
             _ => FieldKind::Number,
         }
     }

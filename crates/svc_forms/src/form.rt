@@ -43,6 +43,14 @@ pub enum Question {
     Trial,
     Custodial,
     Rows,
+    Loan,
+    History,
+    Quote,
+    Arrears,
+    Aging,
+    Status,
+    Command,
+    Key,
 }
 
 impl Form {
@@ -155,6 +163,14 @@ impl Question {
             Query::Trial(..) => Question::Trial,
             Query::Custodial => Question::Custodial,
             Query::Rows(..) => Question::Rows,
+            Query::Loan(..) => Question::Loan,
+            Query::History(..) => Question::History,
+            Query::Quote(..) => Question::Quote,
+            Query::Arrears(..) => Question::Arrears,
+            Query::Aging => Question::Aging,
+            Query::Status => Question::Status,
+            Query::Command(..) => Question::Command,
+            Query::Key(..) => Question::Key,
         }
     }
 
@@ -171,6 +187,14 @@ impl Question {
             Question::Trial => b"trial",
             Question::Custodial => b"custodial",
             Question::Rows => b"rows",
+            Question::Loan => b"loan",
+            Question::History => b"history",
+            Question::Quote => b"quote",
+            Question::Arrears => b"arrears",
+            Question::Aging => b"aging",
+            Question::Status => b"status",
+            Question::Command => b"command",
+            Question::Key => b"key",
         }
     }
 
@@ -180,11 +204,16 @@ impl Question {
         ensures few { length result.now ≤ MAX_FIELDS }
     {
         match self {
-            Question::Books | Question::Escrow => &[Field::Loan],
-            Question::At | Question::Payoff => &[Field::Loan, Field::Day],
+            Question::Books
+            | Question::Escrow
+            | Question::Loan
+            | Question::History
+            | Question::Arrears => &[Field::Loan],
+            Question::At | Question::Payoff | Question::Quote => &[Field::Loan, Field::Day],
             Question::Report | Question::Trial => &[Field::Period],
-            Question::Custodial => &[],
-            Question::Rows => &[Field::Number],
+            Question::Custodial | Question::Aging | Question::Status => &[],
+            Question::Rows | Question::Command => &[Field::Number],
+            Question::Key => &[Field::Key],
         }
     }
 }
@@ -230,6 +259,14 @@ pub fn question_named(word: &[u8]) -> Option<Question>
         b"trial" => Some(Question::Trial),
         b"custodial" => Some(Question::Custodial),
         b"rows" => Some(Question::Rows),
+        b"loan" => Some(Question::Loan),
+        b"history" => Some(Question::History),
+        b"quote" => Some(Question::Quote),
+        b"arrears" => Some(Question::Arrears),
+        b"aging" => Some(Question::Aging),
+        b"status" => Some(Question::Status),
+        b"command" => Some(Question::Command),
+        b"key" => Some(Question::Key),
         _ => None,
     }
 }

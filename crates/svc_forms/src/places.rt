@@ -3,6 +3,7 @@
 ghost use Rattle.std.specs.Prelude.{◌≡◌, Some, slice_get};
 ghost use Rattle.svc_base.specs.Calendar.{IsReadDay};
 ghost use Rattle.svc_base.specs.Text.{IsReadAmount, IsReadMonth};
+ghost use Rattle.svc_types.specs.Keys.{IsKey};
 ghost use Rattle.svc_types.specs.Requests.{IsReadNumber};
 ghost use Rattle.svc_types.specs.Words.{IsReadPart};
 ghost use Rattle.svc_forms.specs.Values.{StandsAt, FitsField, IsOver};
@@ -12,7 +13,7 @@ ghost use Rattle.svc_forms.specs.declared.value.Value.TheVariants as value;
 
 use crate::value::Value;
 use svc_base::{Cents, Day, Month};
-use svc_types::{Designation, LineKind, PartPlan, RemitType, SurplusPlan};
+use svc_types::{Designation, Key, LineKind, PartPlan, RemitType, SurplusPlan};
 
 /// The number in a place.
 pub(crate) fn number_at(values: &[Value], at: usize) -> u32
@@ -103,6 +104,18 @@ pub(crate) fn part_at(values: &[Value], at: usize) -> PartPlan
 {
     match values[at] {
         Value::Part(it) => it,
+        _ => unreachable!(),
+    }
+}
+
+/// The key in a place.
+pub(crate) fn key_at(values: &[Value], at: usize) -> Key
+    requires { StandsAt kind.Key values.now at }
+    ensures there { slice_get values.now at ≡ Some (value.Key result) }
+    ensures range { IsKey result }
+{
+    match values[at] {
+        Value::Key(it) => it,
         _ => unreachable!(),
     }
 }

@@ -7,8 +7,8 @@ ghost use Rattle.svc_forms.specs.Values.{text_of_value, IsValueOf, Spells};
 use crate::field::FieldKind;
 use svc_base::{Cents, Day, Month, read_amount, read_day, read_month, read_number};
 use svc_types::{
-    Designation, LineKind, PartPlan, RemitType, SurplusPlan, read_designation, read_kind,
-    read_part, read_surplus, read_type,
+    Designation, Key, LineKind, PartPlan, RemitType, SurplusPlan, read_designation, read_key,
+    read_kind, read_part, read_surplus, read_type,
 };
 
 /// The value of a field.
@@ -24,6 +24,8 @@ pub enum Value {
     Surplus(SurplusPlan),
     Part(PartPlan),
     Designation(Designation),
+    /// The key of a command, which is its own text.
+    Key(Key),
 }
 
 impl Default for Value {
@@ -51,5 +53,6 @@ pub fn read_value(kind: FieldKind, text: &[u8]) -> Option<Value>
         FieldKind::Surplus => read_surplus(text).map(Value::Surplus),
         FieldKind::Part => read_part(text).map(Value::Part),
         FieldKind::Designation => read_designation(text).map(Value::Designation),
+        FieldKind::Key => read_key(text).map(Value::Key),
     }
 }

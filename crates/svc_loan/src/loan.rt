@@ -28,7 +28,7 @@ use std::alloc::Global;
 use std::marker::Model;
 use std::sync::ledger::Ledger;
 use svc_base::{Cents, Day, Month, OutOfMemory, Steps, make_room, month_of};
-use svc_replay::LoanBooks;
+use svc_replay::{LoanAccount, LoanBooks};
 use svc_types::{Books, Entry, RemitType, Terms, TypeChange};
 
 /// By how many months at least the lists of closed ones grow.
@@ -318,6 +318,31 @@ impl<B: LoanBooks> Loan<B> {
         ensures steps { steps.new ≤ steps.old + B.cost self.now.held.account (month_number day) }
     {
         self.books.books_at(day, steps)
+    }
+
+    /// The books at a day that is not before the business day, of the account advanced to it.
+    pub fn books_ahead<L: Ledger>(&self, day: Day, steps: &mut Steps<L>) -> Books
+        requires { self.now.held.account.today ≤ day }
+        ensures books { result ≡ rule.books_of (rule.advanced_to day self.now.held.account) day }
+        ensures sound { AreBooks self.now.held.account.terms result }
+        ensures steps { steps.new ≤ steps.old + B.cost (rule.advanced_to day self.now.held.account)
+            (month_number self.now.held.account.today) }
+    {
+        self.books.books_ahead(day, steps)
+    }
+
+    /// The loan's account: all entries and their reversals.
+    pub fn account(&self) -> &LoanAccount
+        ensures { result.now.account ≡ self.now.held.account }
+    {
+        self.books.kept()
+    }
+
+    /// The changes of remittance type, as they were accepted.
+    pub fn types(&self) -> &[TypeChange]
+        ensures { result.now ≡ self.now.held.types }
+    {
+        self.types.slice()
     }
 
     /// The entry with that number, reversed or not.

@@ -56,6 +56,13 @@ impl Types {
         self.changes.push_reserved(change);
     }
 
+    /// The changes, as they were accepted.
+    pub fn slice(&self) -> &[TypeChange]
+        ensures { result.now ≡ self.now.changes }
+    {
+        &self.changes
+    }
+
     /// How many changes there are.
     pub fn len(&self) -> usize
         ensures { result ≡ length self.now.changes }

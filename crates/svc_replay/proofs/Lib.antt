@@ -7,3 +7,5 @@ pub mod RemoveLemmas
 pub mod LateLemmas
 pub mod PlaceLemmas
 pub mod LastLemmas
+pub mod ArrearsLemmas
+pub mod WalkLemmas

@@ -3,3 +3,4 @@ pub mod Kept
 pub mod Chosen
 pub mod Faults
 pub mod WorkedAccounts
+pub mod ArrearsLaw

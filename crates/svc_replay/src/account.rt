@@ -177,6 +177,13 @@ impl LoanAccount {
         self.today
     }
 
+    /// All reversals in their order: of each the entry's number, and that of the command which reversed it.
+    pub fn reversals(&self) -> &[(u32, u32)]
+        ensures { result.now ≡ self.now.account.reversals }
+    {
+        &self.reversals
+    }
+
     /// The entries that no reversal names, by day, then number.
     pub fn live(&self) -> Live<'_>
         ensures { result ≡ rule.live_of self.now.account }
@@ -221,6 +228,18 @@ impl LoanAccount {
             + counted self.now.account.terms (rule.live_of self.now.account) day }
         ensures steps { steps.new ≤ steps.old
             + cost_of_month self.now.account (month_number self.now.account.terms.boarded) }
+    {
+        refold(&self.terms, &self.entries.live(), day, steps)
+    }
+
+    /// The books at a day that is not before the business day, as if nothing else were booked until then, folded anew
+    /// from boarding.
+    pub fn refolded_ahead<L: Ledger>(&self, day: Day, steps: &mut Steps<L>) -> Books
+        requires { self.now.account.today ≤ day }
+        ensures books { result ≡ rule.books_of (rule.advanced_to day self.now.account) day }
+        ensures sound { AreBooks self.now.account.terms result }
+        ensures steps { steps.new ≤ steps.old + cost_of_month (rule.advanced_to day self.now.account)
+            (month_number self.now.account.terms.boarded) }
     {
         refold(&self.terms, &self.entries.live(), day, steps)
     }

@@ -1,8 +1,12 @@
 //! What holds of all events, and of all ways of keeping books.
 
 ghost use Rattle.std.specs.Prelude.{◌≡◌, ◌≤◌, AllPairs, IsTrue};
+ghost use Rattle.std.specs.List.{All};
 ghost use Rattle.svc_base.specs.Calendar.{month_of};
+ghost use Rattle.svc_spec.specs.Accounts.{Account, IsAccount, books_of, live_of};
 ghost use Rattle.svc_spec.specs.Events.{events_to};
+ghost use Rattle.svc_spec.specs.History.{history_of};
+ghost use Rattle.svc_spec.specs.HistoryLaws.{AddUp, IsBalanced, entries_told};
 ghost use Rattle.svc_spec.specs.Order.{MayPrecede};
 
 use crate::loan_books::LoanBooks;
@@ -14,6 +18,15 @@ use svc_types::{Books, Entry, MonthFacts, Terms};
 /// marks, then entries. The function has no code.
 pub fn events_stand_in_order(terms: &Terms, live: &[Entry], day: Day)
     ensures { AllPairs MayPrecede (events_to terms.now live.now day) }
+{}
+
+/// A loan's history adds up: each of its columns, summed, is that number of the books at the business day; each line
+/// moved what its event brought in less what it paid out; and its lines of entries are the live entries, in their
+/// order. The function has no code.
+pub fn histories_add_up()
+    ensures columns { (a : Account) → IsAccount a → AddUp (history_of a) (books_of a a.today) }
+    ensures lines { (a : Account) → IsAccount a → All IsBalanced (history_of a) }
+    ensures entries { (a : Account) → IsAccount a → entries_told (history_of a) ≡ live_of a }
 {}
 
 /// Whether two values give the same books now, the same at a day and the same facts of a month: they

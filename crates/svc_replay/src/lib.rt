@@ -2,20 +2,24 @@
 #![tactic(auto)]
 
 mod account;
+mod arrears;
 mod cursor;
 mod entries;
 mod fault;
 mod folding;
+mod history_lines;
 mod laws;
 mod loan_books;
 mod plain;
 mod rows;
 
 pub use account::LoanAccount;
+pub use arrears::arrears_are_least;
 pub use entries::Live;
 pub use fault::BookFault;
 pub use folding::{fold_last, fold_on, refold};
-pub use laws::{agree, events_stand_in_order};
+pub use history_lines::history;
+pub use laws::{agree, events_stand_in_order, histories_add_up};
 pub use loan_books::LoanBooks;
 pub use plain::{Plain, facts_between};
 pub use rows::{worked_accounts, worked_costs, worked_totals};

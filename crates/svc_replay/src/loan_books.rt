@@ -11,6 +11,7 @@ ghost use Rattle.svc_spec.specs.Totals.{received, returned, refunded, disbursed}
 ghost use Rattle.svc_replay.specs.Faults.{most_entries, IsPostFault, IsReverseFault};
 ghost use Rattle.svc_replay.specs.Kept.{Room, IsLoweredBy, nothing, one_entry, one_reversal, some_months};
 
+use crate::account::LoanAccount;
 use crate::fault::BookFault;
 use std::alloc::Global;
 use std::sync::ledger::Ledger;
@@ -101,6 +102,10 @@ pub trait LoanBooks: Sized + Drop {
         ensures kept_room { OnErr result (IsLoweredBy nothing (room self.old) (room self.new)) }
         ensures steps { steps.new ≤ steps.old + cost (account self.new) (month_of (account self.old).today) };
 
+    /// The account that the books are kept of, with its entries and reversals.
+    fn kept(&self) -> &LoanAccount
+        ensures { result.now.account ≡ account self.now };
+
     /// The terms of the loan.
     fn terms(&self) -> &Terms
         ensures { result.now ≡ (account self.now).terms };
@@ -133,6 +138,15 @@ pub trait LoanBooks: Sized + Drop {
         ensures books { result ≡ books_of (account self.now) day }
         ensures sound { AreBooks (account self.now).terms result }
         ensures steps { steps.new ≤ steps.old + cost (account self.now) (month_of day) };
+
+    /// The books at a day that is not before the business day, as if nothing else were booked until then. Nothing
+    /// that is kept changes.
+    fn books_ahead<L: Ledger>(&self, day: Day, steps: &mut Steps<L>) -> Books
+        requires { (account self.now).today ≤ day }
+        ensures books { result ≡ books_of (advanced_to day (account self.now)) day }
+        ensures sound { AreBooks (account self.now).terms result }
+        ensures steps { steps.new ≤ steps.old
+            + cost (advanced_to day (account self.now)) (month_of (account self.now).today) };
 
     /// What a month did, from the boarded month to that of the business day; of the latter the
     /// facts so far.

@@ -89,6 +89,10 @@ impl LoanBooks for Plain {
         Ok(())
     }
 
+    fn kept(&self) -> &LoanAccount {
+        &self.kept
+    }
+
     fn terms(&self) -> &Terms {
         self.kept.terms()
     }
@@ -111,6 +115,10 @@ impl LoanBooks for Plain {
 
     fn books_at<L: Ledger>(&self, day: Day, steps: &mut Steps<L>) -> Books {
         self.kept.refolded(day, steps)
+    }
+
+    fn books_ahead<L: Ledger>(&self, day: Day, steps: &mut Steps<L>) -> Books {
+        self.kept.refolded_ahead(day, steps)
     }
 
     fn month<L: Ledger>(&self, month: Month, steps: &mut Steps<L>) -> MonthFacts {

@@ -28,6 +28,7 @@ fn an_account_keeps_what_was_reversed(rt: HostRuntime) -> Result<(), Fail> {
     let account = account(rt.alloc())?;
     assert_eq!(rt; account.live().len(), 2);
     assert!(rt; keeps_what_was_reversed(&account));
+    assert!(rt; account.reversals() == [(4, 6)].as_slice());
     assert!(rt; account.today() == day(2024, 4, 1) && *account.terms() == loan());
     Ok(())
 }

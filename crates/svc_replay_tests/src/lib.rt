@@ -5,7 +5,11 @@
 #[cfg(test)]
 mod account;
 #[cfg(test)]
+mod arrears;
+#[cfg(test)]
 mod histories;
+#[cfg(test)]
+mod history_lines;
 #[cfg(test)]
 mod loans;
 #[cfg(test)]

@@ -38,7 +38,7 @@ pub(crate) enum Kind {
 
 /// A month and a day of 2024, what happens then, and its cents: of a plan the base; of a late mark the
 /// number of the installment.
-type Step = (u32, u32, Kind, Cents);
+pub(crate) type Step = (u32, u32, Kind, Cents);
 
 /// Whether an entry may name the amount.
 #[tactic(auto, using(std::proofs::lemmas::Int::ints))]
@@ -166,7 +166,7 @@ fn folded<L: Ledger>(blank: Blank, terms: &Terms, taken: &[Step]) -> Option<Book
 }
 
 /// The same, with a counter of steps of its own.
-fn books_after(terms: &Terms, taken: &[Step]) -> Option<Books>
+pub(crate) fn books_after(terms: &Terms, taken: &[Step]) -> Option<Books>
     requires terms { IsSound terms.now }
     requires boarded { IsReadDay terms.now.boarded }
     ensures { IfSome result (AreBooks terms.now) }
@@ -242,7 +242,7 @@ const TWO_PAID: Row = Row {
 };
 
 /// The terms, if they are sound.
-fn checked(terms: Terms) -> Option<Terms>
+pub(crate) fn checked(terms: Terms) -> Option<Terms>
     requires { IsReadDay terms.boarded }
     ensures sound { IfSome result IsSound }
     ensures boarded { IfSome result (λ terms. IsReadDay terms.boarded) }
@@ -254,7 +254,7 @@ fn checked(terms: Terms) -> Option<Terms>
 }
 
 /// The same loan that asks 130.00 a month for escrow, first due in July 2024.
-fn escrow_loan(boarded: Day) -> Option<Terms>
+pub(crate) fn escrow_loan(boarded: Day) -> Option<Terms>
     requires { IsReadDay boarded }
     ensures sound { IfSome result IsSound }
     ensures boarded { IfSome result (λ terms. IsReadDay terms.boarded) }

@@ -21,3 +21,6 @@ pub mod FindLemmas
 pub mod SameLemmas
 pub mod StepsLemmas
 pub mod PrecedeLemmas
+pub mod ArrearsLemmas
+pub mod HistoryLemmas
+pub mod ToldLemmas

@@ -26,12 +26,12 @@ from_nat_eq a b h = grind arith
 pub from_not_nat_eq : (a b : ℕ) → (a == b) ≡ false → a ≢ b
 from_not_nat_eq a b h = grind arith
 
-and_false : (a : Bool) → (a && false) ≡ false
+pub and_false : (a : Bool) → (a && false) ≡ false
 and_false true = refl
 and_false false = refl
 
 -- one more than the greatest number that passes the shifted test
-greatest_shift : (p q : ℕ → Bool) (n : ℕ) → ((k : ℕ) → p (suc k) ≡ q k) → p 1 ≡ true → greatest p (suc n) ≡ suc (greatest q n)
+pub greatest_shift : (p q : ℕ → Bool) (n : ℕ) → ((k : ℕ) → p (suc k) ≡ q k) → p 1 ≡ true → greatest p (suc n) ≡ suc (greatest q n)
 greatest_shift p q zero h first = rw first
 greatest_shift p q (suc n) h first =
     elim (q (suc n)) as (λ v. q (suc n) ≡ v → greatest p (suc (suc n)) ≡ suc (cond v (suc n) (greatest q n))) [
@@ -40,7 +40,7 @@ greatest_shift p q (suc n) h first =
     ] refl
 
 -- nothing passes where no number above 0 does
-greatest_none : (p : ℕ → Bool) (n : ℕ) → ((k : ℕ) → p (suc k) ≡ false) → greatest p n ≡ 0
+pub greatest_none : (p : ℕ → Bool) (n : ℕ) → ((k : ℕ) → p (suc k) ≡ false) → greatest p n ≡ 0
 greatest_none p zero h = refl
 greatest_none p (suc n) h = rw (h n) (greatest_none p n h)
 

@@ -27,7 +27,7 @@ can_pay t by b h =
     let inner = both (int_lt (pos 0) b.upb) (int_le (whole_part t b.plan b.earlier b.upb b.next) b.suspense) parts.1 in
     record { owed = from_int_lt (pos 0) b.upb inner.0; covered = from_int_le _ _ inner.1 }
 
-last_takes_all : (t : Terms) (b : Books) → b.next ≡ t.term → principal_part t b.upb b.next ≡ b.upb
+pub last_takes_all : (t : Terms) (b : Books) → b.next ≡ t.term → principal_part t b.upb b.next ≡ b.upb
 unfolding principal_part
 last_takes_all t b e = grind arith
 

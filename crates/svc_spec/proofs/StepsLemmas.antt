@@ -29,7 +29,7 @@ use Rattle.svc_spec.proofs.PastLemmas.{past_append, past_up_to, past_by_day, pas
 
 -- ---- the open installment of a later day is not an earlier one
 
-folded_rises : (t : Terms) (b : Books) (es : List Event) → b.next ≤ (folded t b es).next
+pub folded_rises : (t : Terms) (b : Books) (es : List Event) → b.next ≤ (folded t b es).next
 folded_rises t b [] = omega arith
 folded_rises t b (e ∷ es) = let all = step_advances t e b in let rises = all.low in omega (arith, folded_rises t (step t e b) es)
 

@@ -9,3 +9,6 @@ pub mod Accounts
 pub mod Months
 pub mod Totals
 pub mod Order
+pub mod Arrears
+pub mod History
+pub mod HistoryLaws

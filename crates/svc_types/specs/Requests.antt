@@ -66,6 +66,14 @@ IsQuery (query.Report m) = IsReadMonth m
 IsQuery (query.Trial m) = IsReadMonth m
 IsQuery query.Custodial = Unit {0}
 IsQuery (query.Rows number) = IsReadNumber number
+IsQuery (query.Loan l) = IsReadNumber l
+IsQuery (query.History l) = IsReadNumber l
+IsQuery (query.Quote l d) = IsReadNumber l × IsReadDay d
+IsQuery (query.Arrears l) = IsReadNumber l
+IsQuery query.Aging = Unit {0}
+IsQuery query.Status = Unit {0}
+IsQuery (query.Command number) = IsReadNumber number
+IsQuery (query.Key key) = IsKey key
 
 -- a request that has a spelling
 abbrev pub IsRequest : Request → Type 0

@@ -3,6 +3,7 @@
 
 mod account;
 mod books;
+mod desk;
 mod escrow;
 mod faults;
 mod key;
@@ -14,6 +15,7 @@ mod words;
 
 pub use account::{Act, Designation, Entry, Event, What};
 pub use books::{Books, Installment, MonthFacts};
+pub use desk::{Arrears, HistoryLine};
 pub use escrow::{EscrowPlan, Figures, LineKind, PartPlan, Plan, PlanPart, Settled, SurplusPlan};
 pub use faults::{LineWhy, PlanFault, TermFault};
 pub use key::{Key, read_key};

@@ -41,8 +41,8 @@ pub enum Limit {
     Types,
 }
 
-/// Why a request is refused, in the order of the codes from 1; 26 is the journal's. The value is
-/// what the reply names beside the cause.
+/// Why a request is refused, in the order of the codes from 1; 26 is the journal's, and 28 comes of queries alone.
+/// The value is what the reply names beside the cause.
 #[derive(Clone, Copy, Debug, PartialEq, Eq)]
 pub enum Refusal {
     /// The key is that of the accepted command with this number, which differs.
@@ -97,4 +97,6 @@ pub enum Refusal {
     AdjustmentsFull(u32),
     /// The month is at or before this last closed month.
     ClosedMonth(Month),
+    /// No accepted command has that number or that key.
+    NoSuchCommand,
 }

@@ -88,6 +88,22 @@ pub enum Query {
     Custodial,
     /// The custodial rows of a command.
     Rows(u32),
+    /// A loan's terms, escrow lines and changes of remittance type.
+    Loan(u32),
+    /// What each event did to a loan's books.
+    History(u32),
+    /// What pays a loan off on a day, also one after the business day, as if nothing else were booked.
+    Quote(u32, Day),
+    /// What brings a loan current.
+    Arrears(u32),
+    /// All loans by how late they are.
+    Aging,
+    /// Where the days, the months and the counts stand.
+    Status,
+    /// An accepted command and its reply, by its number.
+    Command(u32),
+    /// An accepted command and its reply, by its key.
+    Key(Key),
 }
 
 /// A command with its key, or a question.

@@ -26,3 +26,4 @@ pub mod LawLemmas
 pub mod OpeningLemmas
 pub mod StayLemmas
 pub mod KindLemmas
+pub mod DeskLemmas

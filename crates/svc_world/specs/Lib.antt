@@ -6,6 +6,7 @@ pub mod World
 pub mod Refusals
 pub mod Custody
 pub mod Judging
+pub mod Desk
 pub mod Answers
 pub mod WorkedLoans
 pub mod Worlds

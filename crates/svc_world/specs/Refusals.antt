@@ -11,8 +11,6 @@ use Rattle.svc_types.specs.declared.account.Entry.{Entry}
 use Rattle.svc_types.specs.declared.escrow.Plan.{Plan}
 use Rattle.svc_types.specs.declared.requests.Command.{Command}
 use Rattle.svc_types.specs.declared.requests.Command.TheVariants as command
-use Rattle.svc_types.specs.declared.requests.Query.{Query}
-use Rattle.svc_types.specs.declared.requests.Query.TheVariants as query
 use Rattle.svc_types.specs.declared.replies.Refusal.{Refusal}
 use Rattle.svc_types.specs.declared.replies.Refusal.TheVariants.{Full, DayNotLater, LoanExists, NoSuchLoan, BadTerms, BoardedLate, BadAmount, FutureDated, BeforeBoarding, OverPrincipal, PayoffShort, NoSuchEntry, AlreadyReversed, NotReversible, NoSuchLine, BadLine, BadPlan, OverRefund, OverWaiver, WrongPeriod, NotEnded, NotClosed, WrongRemit, AdjustmentsFull, ClosedMonth}
 use Rattle.svc_types.specs.declared.replies.Limit.TheVariants.{Commands, Loans, Entries, Lines, Months, Types}
@@ -201,7 +199,7 @@ abbrev pub remit_cases : World → ℕ → List Case
 remit_cases w p =
     not_closed w p ∷ case (not (p == expected_remit w)) (WrongRemit (expected_remit w)) ∷ []
 
--- ---- all commands and queries
+-- ---- all commands
 
 abbrev pub cases_by_command : World → Command → List Case
 cases_by_command w (command.Day d) = case (nat_le d w.today) (DayNotLater w.today) ∷ []
@@ -226,6 +224,8 @@ cases_by_command w (command.Retype id from kind) = on_loan w id (retype_cases w 
 unfoldable pub refusal_of : ℕ → World → Command → Option Refusal
 refusal_of n w c = first_of (full_of_commands n ∷ cases_by_command w c)
 
+-- ---- rules of queries
+
 -- the month is before the first closed one
 abbrev pub is_before_first : Option ℕ → ℕ → Bool
 is_before_first None month = false
@@ -239,17 +239,3 @@ report_cases w p =
 
 abbrev pub day_cases : World → ℕ → Held → List Case
 day_cases w d l = future_dated w d ∷ before_boarding l d ∷ []
-
-abbrev pub cases_by_query : ℕ → World → Query → List Case
-cases_by_query n w (query.Books id) = on_loan w id (λ l. [])
-cases_by_query n w (query.At id d) = on_loan w id (day_cases w d)
-cases_by_query n w (query.Payoff id d) = on_loan w id (day_cases w d)
-cases_by_query n w (query.Escrow id) = on_loan w id (λ l. [])
-cases_by_query n w (query.Report p) = report_cases w p
-cases_by_query n w (query.Trial p) = report_cases w p
-cases_by_query n w query.Custodial = []
-cases_by_query n w (query.Rows number) = case ((number == 0) || nat_lt n number) NoSuchEntry ∷ []
-
--- why a query is refused after n accepted commands
-unfoldable pub query_refusal : ℕ → World → Query → Option Refusal
-query_refusal n w q = first_of (cases_by_query n w q)

@@ -1,13 +1,17 @@
 //! The laws of the books over every history of accepted commands, as theorems: the functions have no code.
 
-ghost use Rattle.std.specs.Prelude.{◌≡◌, ◌++◌, ◌≤ℤ◌, pos, ℕ, ℤ, List, length};
+ghost use Rattle.std.specs.Prelude.{◌≡◌, ◌++◌, ◌∷◌, [], Some, ◌≤ℤ◌, pos, ℕ, ℤ, List, length};
 ghost use Rattle.std.specs.List.{All};
 ghost use Rattle.svc_types.specs.declared.terms.Terms.{Terms};
 ghost use Rattle.svc_types.specs.declared.requests.TypeChange.{TypeChange};
 ghost use Rattle.svc_types.specs.declared.requests.Command.{Command};
+ghost use Rattle.svc_types.specs.declared.requests.Command.TheVariants as command;
+ghost use Rattle.svc_types.specs.declared.requests.Query.TheVariants as query;
 ghost use Rattle.escrow_analysis.specs.AggregateAnalysis.{IsLeastOpening};
 ghost use Rattle.svc_world.specs.Analysing.{least_opening};
-ghost use Rattle.svc_world.specs.World.{Accepted, first_world, world};
+ghost use Rattle.svc_world.specs.declared.answer.Answer.TheVariants as answer;
+ghost use Rattle.svc_world.specs.Answers.{answer_to};
+ghost use Rattle.svc_world.specs.World.{Accepted, accepted, first_world, world};
 ghost use Rattle.svc_world.specs.Worlds.{AreWorlds};
 ghost use Rattle.svc_world.specs.Judging.{IsHistory, Fresh, judged};
 ghost use Rattle.svc_world.specs.Laws.{AreLawful, HasSoundBooks, IsKindIn, IsLawfulStep, ReportsGrow};
@@ -53,4 +57,14 @@ pub fn openings_are_least()
 /// begin in one month the one that was accepted last; where none begins by then it is the type of the terms.
 pub fn last_change_counts()
     ensures kind { (t : Terms) (types : List TypeChange) (month : ℕ) → IsKindIn t types month }
+{}
+
+/// Quotes come true: where a business day is accepted next, what is then due to pay a loan off on it is what the quote for
+/// that day said before.
+pub fn quotes_come_true()
+    ensures due { (h : List Accepted) (key : List ℕ) (id day : ℕ) (cents perday : ℤ) → IsHistory h
+        → judged h key (command.Day day) ≡ Fresh
+        → answer_to h (query.Quote id day) ≡ Some (answer.Quote id day cents perday)
+        → answer_to (h ++ accepted key (command.Day day) ∷ []) (query.Payoff id day)
+        ≡ Some (answer.Payoff id day cents) }
 {}

@@ -4,16 +4,20 @@
 
 mod answer;
 mod custody;
+mod desk;
 mod laws;
+mod list_of;
 mod row_list;
 mod worked;
 
 pub use answer::Answer;
 pub use custody::Custody;
+pub use desk::{AgingCounts, BooksStatus, LateLoan};
 pub use laws::{
-    books_are_sound, histories_are_lawful, last_change_counts, openings_are_least, reports_stay,
-    steps_are_lawful, worlds_are_sound,
+    books_are_sound, histories_are_lawful, last_change_counts, openings_are_least,
+    quotes_come_true, reports_stay, steps_are_lawful, worlds_are_sound,
 };
+pub use list_of::ListOf;
 pub use row_list::RowList;
 pub use worked::{
     worked_analysis, worked_closings, worked_curtailment, worked_designations,

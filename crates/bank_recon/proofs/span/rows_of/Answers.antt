@@ -7,15 +7,15 @@ use Rattle.bank_recon.proofs.span.rows_of.Goals as goal
 pub rows_told-requires : goal.rows_told-requires
 rows_told-requires g c =
     let h = c.args.core.now.history in
-    rows_answered (world h) (rows_in h) c.args.number c.in-Ok.answer c.in-Ok.ensures.answer
+    rows_answered h c.args.number c.in-Ok.answer c.in-Ok.ensures.answer
 
 pub unreachable-requires : goal.unreachable-requires
 unreachable-requires g c =
     let h = c.args.core.now.history in
-    not_refused (length h) c.args.number (world h) c.in-Err-Refused.field-0 c.in-Err-Refused.field-0-0 c.requires.first c.requires.last
+    not_refused h c.args.number c.in-Err-Refused.field-0 c.in-Err-Refused.field-0-0 c.requires.first c.requires.last
     c.in-Err-Refused.ensures.refused c.in-Err-Refused.field-0-is
 
 pub returns-in-Ok-clause-rows : goal.returns-in-Ok-clause-rows
 returns-in-Ok-clause-rows g c =
     let h = c.args.core.now.history in
-    rows_are (world h) (rows_in h) c.rows_told.result c.args.number c.in-Ok.answer c.in-Ok.ensures.answer c.rows_told.ensures
+    rows_are h c.rows_told.result c.args.number c.in-Ok.answer c.in-Ok.ensures.answer c.rows_told.ensures

@@ -15,4 +15,12 @@ returns c =
     let a7 = c.in_ok-insert-7.ensures in
     let a8 = c.in_ok-insert-8.ensures in
     let a9 = c.in_ok-insert-9.ensures in
-    rw (a9.1, a8.1, a7.1, a6.1, a5.1, a4.1, a3.1, a2.1, a1.1, c.requires) refl
+    let a10 = c.in_ok-insert-10.ensures in
+    let a11 = c.in_ok-insert-11.ensures in
+    let a12 = c.in_ok-insert-12.ensures in
+    let a13 = c.in_ok-insert-13.ensures in
+    let a14 = c.in_ok-insert-14.ensures in
+    let a15 = c.in_ok-insert-15.ensures in
+    let a16 = c.in_ok-insert-16.ensures in
+    let a17 = c.in_ok-insert-17.ensures in
+    rw (a17.1, a16.1, a15.1, a14.1, a13.1, a12.1, a11.1, a10.1, a9.1, a8.1, a7.1, a6.1, a5.1, a4.1, a3.1, a2.1, a1.1, c.requires) refl

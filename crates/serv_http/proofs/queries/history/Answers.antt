@@ -1,0 +1,8 @@
+use Rattle.serv_http.proofs.PathLemmas.{history-spells, no-history}
+use Rattle.serv_http.proofs.queries.history.Goals as goal
+
+pub returns-in-Some-clause-read : goal.returns-in-Some-clause-read
+returns-in-Some-clause-read c = history-spells c.args.path.now c.in-Some.loan c.in-Some.ensures.range c.in-Some.ensures.read
+
+pub returns-in-None-clause-none : goal.returns-in-None-clause-none
+returns-in-None-clause-none c = no-history c.args.path.now c.in-None.ensures.none
