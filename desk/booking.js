@@ -258,5 +258,9 @@ class Booking {
             return;
         }
         location.replace(`#${loan ? `/loans/${loan}` : "/month"}?booked=${number}`);
+        // A browser drops changes of the address that are too many, for some seconds.
+        if (isInAddress("key", this.made)) {
+            setTimeout(() => this.done(number), 1000);
+        }
     }
 }

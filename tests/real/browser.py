@@ -21,12 +21,15 @@ TABLE = """for (const table of document.querySelectorAll("table")) {
         }
     }
     return null"""
-FILL = """for (const [name, value] of Object.entries(arguments[0])) {
-        const field = document.querySelector(`main [name=${name}]`);
+FILL = """let field = null;
+    for (const [name, value] of Object.entries(arguments[0])) {
+        field = document.querySelector(`main [name=${name}]`);
         field.value = value;
         field.dispatchEvent(new InputEvent("input", { bubbles: true }));
-        field.dispatchEvent(new Event("change", { bubbles: true }));
-    }"""
+    }
+    field?.dispatchEvent(new Event("change", { bubbles: true }))"""
+# Chromium drops changes of an address beyond 200 in ten seconds, and a form makes five of them.
+PAUSE = 0.4
 FACTS = """const part = document.getElementById(arguments[0]).closest("section");
     return [...part.querySelectorAll(".facts div")].map((it) => [...it.children].map((i) => i.innerText))"""
 
@@ -88,6 +91,7 @@ class Browser:
         options.set_capability("goog:loggingPrefs", {"browser": "ALL"})
         options.add_experimental_option("prefs", {"download.default_directory": self.files})
         self.driver = started(lambda: webdriver.Chrome(service=Service(shutil.which("chromedriver")), options=options))
+        self.last = time.monotonic()
         self.driver.set_page_load_timeout(300)
         self.driver.set_script_timeout(150)
 
@@ -121,7 +125,9 @@ class Browser:
         self.settle()
 
     def go(self, address):
-        """Goes to an address as a link does."""
+        """Goes to an address as a link does, no sooner than a while after the last time."""
+        time.sleep(max(0, self.last + PAUSE - time.monotonic()))
+        self.last = time.monotonic()
         self.mark()
         self.script("location.hash = arguments[0]", f"#{address}")
         self.settle()

@@ -128,6 +128,18 @@ def killed(room):
         same(True, kept.starts >= 4, "starts")
 
 
+@case("desk: where the browser drops changes of the address that are too many, what was booked is noted a while later")
+def many_changes(room):
+    with desk(room, accepted(quarter("04"))) as (browser, _, front):
+        browser.load("/loans/103/pay")
+        browser.fill(amount="600.00", item="4711")
+        browser.script("for (let it = 0; it < 250; it += 1) { history.replaceState(null, '', location.hash); }")
+        browser.send()
+        same(28, browser.booked())
+        same(["c-4711 pay 103 2024-02-01 600.00"], journal(room)[27:])
+        same(True, all("Throttling" in it for it in browser.faults()), "the browser's console")
+
+
 @case("desk: the answer is lost once on its way: nginx asks again, and the page has the first answer")
 def answer_lost(room):
     with losing(room, accepted(quarter("04"))) as (browser, between, _):
