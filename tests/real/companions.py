@@ -284,7 +284,7 @@ TOLD = [
     ("k3 analyse 1 - spread:6 -", "no 18 BadPlan 4 TooFewMonths 6",
      "a shortage over fewer than 12 months, a deficiency over fewer than 2; spread it longer"),
     ("k3 line 1 1 tax 1 1 1.00", "no 2 Full Lines",
-     "the loan has 16 escrow lines; `drop` one that has ended, or set the line under the number of one"),
+     "the loan has as many escrow lines as it can; `drop` one that has ended, or set the line under the number of one"),
     ("? history 7", "no 5 NoSuchLoan", "no loan has that number; look at the number; board the loan first"),
     ("? quote 1 2023-12-14", "no 10 BeforeBoarding 2023-12-15", "date it on or after the boarded day"),
     ("? command 9", "no 28 NoSuchCommand", "it was not booked: send it, under that key"),

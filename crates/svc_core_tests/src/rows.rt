@@ -295,6 +295,35 @@ fn a_payoff_satisfies_the_loan(rt: HostRuntime) -> Result<(), Fail> {
     over_both(&rt, rt.alloc(), &SATISFIED)
 }
 
+/// The whole balance is curtailed when a late charge is owed: a payoff of the satisfied loan owes that charge.
+const SATISFIED_WITH_A_CHARGE: [Part; 1] = [Once(
+    "
+> k1 day 2024-01-15
+ok 1
+> k2 board 1 2024-01-15 200000.00 6000 250 1199.10 360 2024-02 15 500 2 0.00 AA
+ok 2
+> k3 day 2024-02-20
+ok 3
+> k4 curtail 1 2024-02-20 200000.00
+ok 4
+> k5 payoff 1 2024-02-20 0.01
+no 12 PayoffShort 59.96
+> k5 payoff 1 2024-02-20 59.96
+ok 5
+> k6 curtail 1 2024-02-20 0.01
+no 11 OverPrincipal 0.00
+> k6 payoff 1 2024-02-20 0.01
+ok 6
+> ? payoff 1 2024-02-20
+payoff 1 2024-02-20 0.00
+",
+)];
+
+#[test]
+fn a_satisfied_loan_owes_its_late_charges(rt: HostRuntime) -> Result<(), Fail> {
+    over_both(&rt, rt.alloc(), &SATISFIED_WITH_A_CHARGE)
+}
+
 /// The payoff is taken back.
 const PAYOFF_TAKEN_BACK: [Part; 5] = [
     Once(BOARDED),
