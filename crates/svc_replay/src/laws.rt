@@ -1,11 +1,11 @@
 //! What holds of all events, and of all ways of keeping books.
 
-ghost use Rattle.std.specs.Prelude.{◌≡◌, ◌≤◌, AllPairs, IsTrue};
-ghost use Rattle.std.specs.List.{All};
+ghost use Rattle.std.specs.Prelude.{◌≡◌, ◌≤◌, ◌++◌, AllPairs, IsTrue, IsPermutation};
+ghost use Rattle.std.specs.List.{All, filter};
 ghost use Rattle.svc_base.specs.Calendar.{month_of};
 ghost use Rattle.svc_spec.specs.Accounts.{Account, IsAccount, books_of, live_of};
-ghost use Rattle.svc_spec.specs.Events.{events_to};
-ghost use Rattle.svc_spec.specs.History.{history_of};
+ghost use Rattle.svc_spec.specs.Events.{month_marks, late_marks, entry_events, events_to};
+ghost use Rattle.svc_spec.specs.History.{is_entry, history_of};
 ghost use Rattle.svc_spec.specs.HistoryLaws.{AddUp, IsBalanced, entries_told};
 ghost use Rattle.svc_spec.specs.Order.{MayPrecede};
 
@@ -14,10 +14,16 @@ use std::sync::ledger::Ledger;
 use svc_base::{Day, Month, Steps};
 use svc_types::{Books, Entry, MonthFacts, Terms};
 
-/// The events of a loan up to a day stand in order: by day, and on one day the month mark, then late
-/// marks, then entries. The function has no code.
+/// The events of a loan up to a day are its month marks, its late marks and its live entries up to that day, each once.
+/// They stand in order: by day, and on one day the month mark, then late marks, then entries, and these as they stand
+/// among the live ones, which is by number. The function has no code.
 pub fn events_stand_in_order(terms: &Terms, live: &[Entry], day: Day)
-    ensures { AllPairs MayPrecede (events_to terms.now live.now day) }
+    ensures order { AllPairs MayPrecede (events_to terms.now live.now day) }
+    ensures all { IsPermutation
+        (month_marks terms.now day ++ late_marks terms.now day ++ entry_events live.now day)
+        (events_to terms.now live.now day) }
+    ensures entries { AllPairs (λ a b. a.day ≤ b.day) live.now
+        → filter (λ e. is_entry e.what) (events_to terms.now live.now day) ≡ entry_events live.now day }
 {}
 
 /// A loan's history adds up: each of its columns, summed, is that number of the books at the business day; each line

@@ -1,9 +1,11 @@
--- The events of a loan stand in order.
+-- The events of a loan stand in order, and all of them do.
 use Rattle.std.proofs.Common.{◌≡◌, ℕ, zero, suc, ◌+◌, ◌-◌, ◌≤◌, true, false, List, [], ◌∷◌, ◌++◌, map, arith, refl, append_assoc}
 use Rattle.std.specs.Prelude.{nat_le, if◌then◌else◌}
 use Rattle.std.specs.List.{All, AllPairs}
+use Rattle.std.specs.List.Sorted.{IsPermutation}
 use Rattle.std.proofs.lemmas.List.Elements.{All-cons, All-head, All-tail, All-append, All-map, All-filter}
 use Rattle.std.proofs.lemmas.List.Kept.{AllPairs-cons}
+use Rattle.std.proofs.lemmas.List.Sorted.{IsPermutation-refl, IsPermutation-sym, IsPermutation-trans, IsPermutation-middle, IsPermutation-cons}
 use Rattle.svc_base.specs.Calendar.{month_of}
 use Rattle.svc_types.specs.declared.terms.Terms.{Terms}
 use Rattle.svc_types.specs.declared.account.Entry.{Entry}
@@ -79,3 +81,23 @@ events_precede t live d =
     let back = ranked_front 1 lates entries second above (ranked_last 2 entries third) in
     let all = ranked_front 0 months (lates ++ entries) first (λ k x lt. omega arith) back in
     by_day_precedes (months ++ lates ++ entries) (rw append_assoc all)
+
+-- ---- all of them
+
+insert_permutes : (e : Event) (xs : List Event) → IsPermutation (e ∷ xs) (insert_event e xs)
+insert_permutes e [] = IsPermutation-refl (e ∷ [])
+insert_permutes e (x ∷ xs) =
+    let turned : IsPermutation (e ∷ x ∷ xs) (x ∷ e ∷ xs) = IsPermutation-sym (x ∷ e ∷ xs) (e ∷ x ∷ xs) (IsPermutation-middle (x ∷ []) e xs) in
+    let behind : IsPermutation (x ∷ e ∷ xs) (x ∷ insert_event e xs) = IsPermutation-cons x (e ∷ xs) (insert_event e xs) (insert_permutes e xs) in
+    elim (nat_le e.day x.day) as (λ v. IsPermutation (e ∷ x ∷ xs) (if v then e ∷ x ∷ xs else x ∷ insert_event e xs)) [
+      | true ↦ IsPermutation-refl (e ∷ x ∷ xs)
+      | false ↦ IsPermutation-trans (e ∷ x ∷ xs) (x ∷ e ∷ xs) (x ∷ insert_event e xs) turned behind
+    ]
+
+by_day_permutes : (xs : List Event) → IsPermutation xs (by_day xs)
+by_day_permutes [] = IsPermutation-refl []
+by_day_permutes (x ∷ xs) = IsPermutation-trans (x ∷ xs) (x ∷ by_day xs) (insert_event x (by_day xs)) (IsPermutation-cons x xs (by_day xs) (by_day_permutes xs)) (insert_permutes x (by_day xs))
+
+pub events_are_all : (t : Terms) (live : List Entry) (d : ℕ) → IsPermutation (month_marks t d ++ late_marks t d ++ entry_events live d) (events_to t live d)
+unfolding events_to
+events_are_all t live d = by_day_permutes (month_marks t d ++ late_marks t d ++ entry_events live d)

@@ -63,31 +63,43 @@ all_entries (e ∷ es) d h =
     let now : nat_le e.day d ≡ true = nat_le-true e.day d (All-head (λ x. x.day ≤ d) e es h) in
     rw now (ap (λ xs. event_of e ∷ xs) (all_entries es d (All-tail (λ x. x.day ≤ d) e es h)))
 
-later_events : (d : ℕ) (es : List Entry) → All (λ x. d ≤ x.day) es → All (λ x. d ≤ x.day) (map event_of es)
-later_events d [] h = λ k x lt. absurd (omega arith)
-later_events d (e ∷ es) h = All-cons (λ x. d ≤ x.day) (event_of e) (map event_of es) (All-head (λ x. d ≤ x.day) e es h) (later_events d es (All-tail (λ x. d ≤ x.day) e es h))
+later_events : (n d : ℕ) (es : List Entry) → All (λ x. n ≤ x.day) es → All (λ x. n ≤ x.day) (entry_events es d)
+later_events n d [] h = λ k x lt. absurd (omega arith)
+later_events n d (e ∷ es) h =
+    let rest = later_events n d es (All-tail (λ x. n ≤ x.day) e es h) in
+    elim (nat_le e.day d) as (λ v. All (λ x. n ≤ x.day) (cond v (event_of e ∷ entry_events es d) (entry_events es d))) [
+      | true ↦ All-cons (λ x. n ≤ x.day) (event_of e) (entry_events es d) (All-head (λ x. n ≤ x.day) e es h) rest
+      | false ↦ rest
+    ]
 
 -- they stand by day
-in_turn : (live : List Entry) → AllPairs (λ a b. a.day ≤ b.day) live → by_day (map event_of live) ≡ map event_of live
-in_turn [] h = refl
-in_turn (e ∷ es) h =
-    by_day_first (event_of e) [] (map event_of es) (λ k d lt. absurd (omega arith)) (later_events e.day es (pairs_head (λ a b. a.day ≤ b.day) e es h))
-    ∙ ap (λ xs. event_of e ∷ xs) (in_turn es (pairs_tail (λ a b. a.day ≤ b.day) e es h))
+in_turn : (live : List Entry) (d : ℕ) → AllPairs (λ a b. a.day ≤ b.day) live → by_day (entry_events live d) ≡ entry_events live d
+in_turn [] d h = refl
+in_turn (e ∷ es) d h =
+    let rest = in_turn es d (pairs_tail (λ a b. a.day ≤ b.day) e es h) in
+    let first = by_day_first (event_of e) [] (entry_events es d) (λ k x lt. absurd (omega arith)) (later_events e.day d es (pairs_head (λ a b. a.day ≤ b.day) e es h)) in
+    elim (nat_le e.day d) as (λ v. by_day (cond v (event_of e ∷ entry_events es d) (entry_events es d)) ≡ cond v (event_of e ∷ entry_events es d) (entry_events es d)) [
+      | true ↦ first ∙ ap (λ xs. event_of e ∷ xs) rest
+      | false ↦ rest
+    ]
 
-acts_entries : (live : List Entry) → acts (map event_of live) ≡ map event_of live
-acts_entries [] = refl
-acts_entries (e ∷ es) = ap (λ xs. event_of e ∷ xs) (acts_entries es)
+acts_entries : (live : List Entry) (d : ℕ) → acts (entry_events live d) ≡ entry_events live d
+acts_entries [] d = refl
+acts_entries (e ∷ es) d =
+    elim (nat_le e.day d) as (λ v. acts (cond v (event_of e ∷ entry_events es d) (entry_events es d)) ≡ cond v (event_of e ∷ entry_events es d) (entry_events es d)) [
+      | true ↦ ap (λ xs. event_of e ∷ xs) (acts_entries es d)
+      | false ↦ acts_entries es d
+    ]
 
-acts_events : (t : Terms) (live : List Entry) (d : ℕ) → AllPairs (λ a b. a.day ≤ b.day) live → All (λ e. e.day ≤ d) live → acts (events_to t live d) ≡ map event_of live
+pub acts_events : (t : Terms) (live : List Entry) (d : ℕ) → AllPairs (λ a b. a.day ≤ b.day) live → filter (λ e. is_entry e.what) (events_to t live d) ≡ entry_events live d
 unfolding events_to
-acts_events t live d order until =
+acts_events t live d order =
     let months = month_marks t d in
     let lates = late_marks t d in
     let marks : AreMarks (months ++ lates) = All-append (λ e. is_entry e.what ≡ false) months lates (months_marks (month_of t.boarded + 1) (month_of d - month_of t.boarded)) (lates_marks t d 1 t.term) in
     acts_by_day (months ++ lates) (entry_events live d) marks
-    ∙ ap (λ xs. acts (by_day xs)) (all_entries live d until)
-    ∙ ap acts (in_turn live order)
-    ∙ acts_entries live
+    ∙ ap acts (in_turn live d order)
+    ∙ acts_entries live d
 
 -- ---- what the lines tell
 
@@ -133,4 +145,4 @@ pub history_tells : (a : Account) → IsAccount a → entries_told (history_of a
 unfolding history_of
 history_tells a h =
     let early : All (λ e. e.day ≤ a.today) (live_of a) = live_all (λ e. e.day ≤ a.today) a.entries a.reversals h.until in
-    told a.terms (start a.terms) (live_of a) (events_to a.terms (live_of a) a.today) (acts_events a.terms (live_of a) a.today (live_entries_fold a h).order early)
+    told a.terms (start a.terms) (live_of a) (events_to a.terms (live_of a) a.today) (acts_events a.terms (live_of a) a.today (live_entries_fold a h).order ∙ all_entries (live_of a) a.today early)

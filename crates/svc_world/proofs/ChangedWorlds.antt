@@ -19,6 +19,7 @@ use Rattle.svc_world.specs.LoanDues.{due_of}
 use Rattle.svc_world.specs.Reports.{months_of, changes_of}
 use Rattle.svc_world.specs.World.{World}
 use Rattle.svc_world.specs.Worlds.{IsLimited, IsHeld, IsThere, IsOwned, AddUp, IsWorld}
+use Rattle.svc_world.specs.Laws.{IsFrom}
 use Rattle.svc_world.proofs.AgreeLemmas.{AgreeTo}
 use Rattle.svc_world.proofs.CarryLemmas.{due_small}
 use Rattle.svc_world.proofs.ChangesLemmas.{months_are, changes_from, changes_changed}
@@ -73,14 +74,27 @@ changes_are n m (r ∷ rs) loans f l consecutive first rise e keeps agree from =
     ∙ changes_from n l.id m l (f l) r.month (suc (length rs)) agree from first
     ∙ ap (λ c. adjustments_of n l.id (map (due_of l) (range_with_len m c)) (map (due_of (f l)) (range_with_len m c))) count
 
+pub first_by : (o : Option ℕ) (m b : ℕ) (loans : List Held) (l : Held) → IfSome o (λ first. All (λ (k : Held). first ≤ boarded_month k) loans) → find_loan l.id loans ≡ Some l → boarded_month l ≤ m → IfSome o (λ first. first ≤ m)
+first_by None m b loans l h e le = tt
+first_by (Some first) m b loans l h e le = let low : first ≤ boarded_month l = found_all (λ (k : Held). first ≤ boarded_month k) l.id loans l e h in omega arith
+
+-- so they are of the loan, and of months from that one on
+pub own_changes : (n m k : ℕ) (w : World) (f : Held → Held) (l : Held) → IsWorld n w → find_loan l.id w.loans ≡ Some l → KeepsNumber f → AgreeTo m l (f l) → boarded_month l ≤ m → All (IsFrom l.id m) (changes_of k (months_of w.seals.reports) w.loans (changed l.id f w.loans))
+own_changes n m k w f l h found keeps agree since =
+    let s = w.seals in
+    let first = first_by (first_month s.reports) m 0 w.loans l h.reports.from_first found since in
+    let are = changes_are k m s.reports w.loans f l h.reports.sealed.consecutive first h.rising found keeps agree since in
+    let c = closed_months s.reports m in
+    let before = map (due_of l) (range_with_len m c) in
+    let later = map (due_of (f l)) (range_with_len m c) in
+    let own : All (IsFrom l.id m) (adjusts_of k s.reports m l (f l)) = λ i d lt.
+    record { loan = adjustments_loan k l.id before later i d lt; since = adjusts_since (λ p. m ≤ p) k l.id l (f l) m c (λ p le. le) i d lt } in
+    subst (λ xs. All (IsFrom l.id m) xs) (sym are) own
+
 -- the closed months from a month on
 closed_since : (reports : List Sealed) (m p : ℕ) → AreConsecutive reports → IfSome (first_month reports) (λ first. first ≤ m) → m ≤ p → p < month_after (last_month reports) → IsClosed reports p
 closed_since [] m p consecutive first low high = absurd (omega arith)
 closed_since (r ∷ rs) m p consecutive first low high = closed_to_end (r ∷ rs) r.month p consecutive refl (omega arith) high
-
-pub first_by : (o : Option ℕ) (m b : ℕ) (loans : List Held) (l : Held) → IfSome o (λ first. All (λ (k : Held). first ≤ boarded_month k) loans) → find_loan l.id loans ≡ Some l → boarded_month l ≤ m → IfSome o (λ first. first ≤ m)
-first_by None m b loans l h e le = tt
-first_by (Some first) m b loans l h e le = let low : first ≤ boarded_month l = found_all (λ (k : Held). first ≤ boarded_month k) l.id loans l e h in omega arith
 
 all_if : (o : Option ℕ) (f : Held → Held) (loans : List Held) (l : Held) → ((k : Held) → boarded_month (f k) ≡ boarded_month k) → find_loan l.id loans ≡ Some l → IfSome o (λ first. All (λ (k : Held). first ≤ boarded_month k) loans) → IfSome o (λ first. All (λ (k : Held). first ≤ boarded_month k) (changed l.id f loans))
 all_if None f loans l same e h = tt

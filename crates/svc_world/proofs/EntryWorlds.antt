@@ -1,6 +1,7 @@
 -- A world stays sound with one more entry of a loan: a payment, a curtailment, a payoff, a deposit, a
 -- disbursement, a refund, a waiver.
 use Rattle.std.proofs.Common.{◌≡◌, ℕ, ◌+◌, ◌≤◌, ◌<◌, length, get_or, arith, refl, sym, subst}
+use Rattle.std.specs.List.{All}
 use Rattle.std.specs.Prelude.{Some, None, ℤ, pos, ◌+ℤ◌, ◌≤ℤ◌}
 use Rattle.std.proofs.lemmas.Int.{ints}
 use Rattle.std.proofs.lemmas.List.Elements.{All-push}
@@ -10,22 +11,25 @@ use Rattle.svc_types.specs.declared.account.Act.{Act}
 use Rattle.svc_types.specs.declared.account.Act.TheVariants.{Pay, Curtail, Payoff, Deposit, Disburse, Refund, Waive}
 use Rattle.svc_types.specs.declared.account.Designation.{Designation}
 use Rattle.svc_types.specs.declared.account.Entry.{Entry}
+use Rattle.svc_types.specs.declared.requests.Command.{Command}
 use Rattle.svc_types.specs.declared.requests.Command.TheVariants as command
 use Rattle.svc_spec.specs.Books.{IsAct, IsEntryAmount}
 use Rattle.svc_spec.specs.Step.{brought}
 use Rattle.svc_spec.specs.Payoff.{available}
 use Rattle.svc_spec.specs.Accounts.{MayPost}
 use Rattle.svc_spec.specs.Totals.{refunded_by, received, refunded}
-use Rattle.svc_world.specs.Held.{Held, find_loan, books_now, with_entry}
+use Rattle.svc_world.specs.Held.{Held, find_loan, changed, books_now, with_entry}
+use Rattle.svc_world.specs.Reports.{months_of, changes_of}
 use Rattle.svc_world.specs.World.{World, entry, loans_after, seals_after, after}
-use Rattle.svc_world.specs.Refusals.{Case, refusal_of, asks_no_more, over_principal, payoff_short, no_such_line, over_refund, over_waiver, dated_cases, present_cases}
+use Rattle.svc_world.specs.Refusals.{Case, refusal_of, cases_by_command, on_loan, asks_no_more, over_principal, payoff_short, no_such_line, over_refund, over_waiver, dated_cases, present_cases}
 use Rattle.svc_world.specs.Worlds.{IsNamedAmount, IsNamedAct, IsLimited, IsHeld, IsWorld}
+use Rattle.svc_world.specs.Laws.{IsFrom}
 use Rattle.svc_world.proofs.LimitedLemmas.{posted_limited, available_covered}
 use Rattle.svc_world.proofs.AgreeLemmas.{entry_agrees}
 use Rattle.svc_world.proofs.CaseLemmas.{IsEntered, HasRoom, IsDated, dated, IsPresent, present}
 use Rattle.svc_world.proofs.NamedLoans.{named_loan, room_enough, asked}
 use Rattle.svc_world.proofs.QuietWorlds.{IsQuiet, quiet_keeps, today_open}
-use Rattle.svc_world.proofs.ChangedWorlds.{IsChange, world_with, change_keeps}
+use Rattle.svc_world.proofs.ChangedWorlds.{IsChange, own_changes, world_with, change_keeps}
 
 -- ---- one more entry
 
@@ -40,15 +44,18 @@ pub record IsEntry (w : World) (l : Held) (d : ℕ) (a : Act) : Type 0 where
   pub covered : (refunded l.account +ℤ refunded_by a) ≤ℤ (received l.account +ℤ brought a)
   pub room : HasRoom w (month_of d)
 
+entry_may : (n d : ℕ) (w : World) (a : Act) (l : Held) → IsHeld n w.today l → l.account.terms.boarded ≤ d → d ≤ w.today → IsAct a → MayPost l.account (entry (n + 1) d a)
+entry_may n d w a l h since until act = record {
+  number = λ k x lt. (let le : (get_or l.account.entries k x).number ≤ n = h.numbers k x lt in omega arith);
+  since = since;
+  until = subst (λ t. d ≤ t) (sym h.today) until;
+  act = act;
+}
+
 pub entry_change : (n d : ℕ) (w : World) (a : Act) (l : Held) → IsHeld n w.today l → IsEntry w l d a → IsChange (n + 1) w.today (month_of d) (with_entry (entry (n + 1) d a)) l
 entry_change n d w a l h e =
     let account = h.limited.account in
-    let may : MayPost l.account (entry (n + 1) d a) = record {
-      number = λ k x lt. (let le : (get_or l.account.entries k x).number ≤ n = h.numbers k x lt in omega arith);
-      since = e.since;
-      until = subst (λ t. d ≤ t) (sym h.today) e.until;
-      act = e.act;
-    } in
+    let may = entry_may n d w a l h e.since e.until e.act in
     record {
       number = λ k. refl;
       boarded = λ k. refl;
@@ -63,6 +70,23 @@ entry_change n d w a l h e =
         since = h.since;
       };
     }
+
+-- its adjustments are of its loan, and of months from its own on
+pub entry_own : (n d id : ℕ) (w : World) (a : Act) (l : Held) → IsWorld n w → find_loan id w.loans ≡ Some l → l.account.terms.boarded ≤ d → d ≤ w.today → IsAct a → All (IsFrom id (month_of d)) (changes_of (n + 1) (months_of w.seals.reports) w.loans (changed id (with_entry (entry (n + 1) d a)) w.loans))
+entry_own n d id w a l h found since until act =
+    let is = named_loan n w id l h found in
+    let f = with_entry (entry (n + 1) d a) in
+    let agree = entry_agrees l (entry (n + 1) d a) is.held.limited.account (entry_may n d w a l is.held since until act) in
+    let own = own_changes n (month_of d) (n + 1) w f l h is.found (λ k. refl) agree (omega (arith, since)) in
+    subst (λ i. All (IsFrom i (month_of d)) (changes_of (n + 1) (months_of w.seals.reports) w.loans (changed i f w.loans))) is.number own
+
+-- the same of a command that is asked of a day
+pub dated_own : (n id d : ℕ) (w : World) (c : ℤ) (rule : Held → Case) (cmd : Command) (a : Act) → cases_by_command w cmd ≡ on_loan w id (dated_cases w d c rule) → (IsEntered c → IsAct a) → IsWorld n w → refusal_of n w cmd ≡ None → All (IsFrom id (month_of d)) (changes_of (n + 1) (months_of w.seals.reports) w.loans (changed id (with_entry (entry (n + 1) d a)) w.loans))
+dated_own n id d w c rule cmd a is act h e =
+    let q = asked n w id (dated_cases w d c rule) cmd is e in
+    let l = q.loan.loan in
+    let it = dated w d c rule l q.loan.rest in
+    entry_own n d id w a l h q.loan.found it.since it.until (act it.amount)
 
 pub entry_keeps : (n d id : ℕ) (w : World) (a : Act) (l : Held) → IsWorld n w → n < 1_000_000 → find_loan id w.loans ≡ Some l → IsEntry w l d a → IsWorld (n + 1) (world_with w id (with_entry (entry (n + 1) d a)) (n + 1))
 entry_keeps n d id w a l h few found e =

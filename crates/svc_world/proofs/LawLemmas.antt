@@ -15,21 +15,22 @@ use Rattle.custodial_book.specs.declared.row.Row.{Row}
 use Rattle.custodial_book.specs.declared.part.Account.{Account as CashAccount}
 use Rattle.custodial_book.specs.declared.part.Account.TheVariants.{T, P}
 use Rattle.custodial_book.specs.Rows.{balance_of}
+use Rattle.period_adjust.specs.declared.adjustment.Adjustment.{Adjustment}
 use Rattle.period_adjust.specs.Sums.{report_of}
 use Rattle.svc_world.specs.Held.{Held, find_loan, boarded, with_loan, with_entry, with_reversal, on_day, with_bill, without_bill, with_type}
 use Rattle.svc_world.specs.LoanDues.{type_change}
 use Rattle.svc_world.specs.Reports.{lines_of}
 use Rattle.svc_world.specs.World.{World, Accepted, first_world, entry, with_analysis, loans_after, seals_after, after, world_from, world}
-use Rattle.svc_world.specs.Refusals.{refusal_of}
+use Rattle.svc_world.specs.Refusals.{refusal_of, asks_no_more, over_principal, payoff_short, no_such_line}
 use Rattle.svc_world.specs.Judging.{Fresh, judged, IsHistory}
 use Rattle.svc_world.specs.Worlds.{IsWorld}
 use Rattle.svc_world.specs.Custody.{borrower_cash, held_for, rows_made, rows_from, rows_in}
-use Rattle.svc_world.specs.Laws.{AreLawful, ReportsGrow, CanAdjust, adjustments_by, IsLawfulStep}
+use Rattle.svc_world.specs.Laws.{AreLawful, ReportsGrow, CanAdjust, adjustments_by, AdjustsItsOwn, IsLawfulStep}
 use Rattle.svc_world.proofs.LoanListLemmas.{numbers_of, changed_numbers, mapped_numbers}
 use Rattle.svc_world.proofs.CashLemmas.{is_held_back, holds, rows_are_cash, boarding_rows_are_cash}
 use Rattle.svc_world.proofs.QuietWorlds.{quiet_none}
-use Rattle.svc_world.proofs.EntryWorlds.{refund_quiet, waive_quiet}
-use Rattle.svc_world.proofs.LoanWorlds.{line_quiet, drop_quiet, retype_quiet}
+use Rattle.svc_world.proofs.EntryWorlds.{entered_sum, dated_own, refund_quiet, waive_quiet}
+use Rattle.svc_world.proofs.LoanWorlds.{reverse_own, line_quiet, drop_quiet, retype_quiet}
 use Rattle.svc_world.proofs.AnalysedWorlds.{analyse_quiet}
 use Rattle.svc_world.proofs.DayWorlds.{day_none, kept_none}
 use Rattle.svc_world.proofs.BoardWorlds.{boarding, board_none}
@@ -131,27 +132,49 @@ grows n w (command.Analyse id plan) = record { more = []; grown = sym (append-ni
 grows n w (command.Remit p) = record { more = []; grown = sym (append-nil w.seals.reports) }
 grows n w (command.Retype id from kind) = record { more = []; grown = sym (append-nil w.seals.reports) }
 
-pub adjusts : (n : ℕ) (w : World) (c : Command) → IsWorld n w → refusal_of n w c ≡ None → adjustments_by (n + 1) w c ≢ [] → CanAdjust c
+owns : (n : ℕ) (w : World) (c : Command) → IsWorld n w → refusal_of n w c ≡ None → AdjustsItsOwn w c (adjustments_by (n + 1) w c)
 unfolding loans_after
-adjusts n w (command.Day d) h e some = absurd (some (day_none n d w h e))
-adjusts n w (command.Board id t) h e some = absurd (some (board_none n id t w h (boarding n id t w e)))
-adjusts n w (command.Pay id d c over) h e some = tt
-adjusts n w (command.Curtail id d c) h e some = tt
-adjusts n w (command.Payoff id d c) h e some = tt
-adjusts n w (command.Deposit id d c) h e some = tt
-adjusts n w (command.Disburse id d c line) h e some = tt
-adjusts n w (command.Refund id c) h e some = absurd (some (quiet_none n id w (with_entry (entry (n + 1) w.today (act.Refund c))) h (refund_quiet n id w c h e)))
-adjusts n w (command.Waive id c) h e some = absurd (some (quiet_none n id w (with_entry (entry (n + 1) w.today (act.Waive c))) h (waive_quiet n id w c h e)))
-adjusts n w (command.Reverse id number) h e some = tt
-adjusts n w (command.Line id line kind month every c) h e some = absurd (some (quiet_none n id w (with_bill (record { id = line; kind = kind; month = month; every = every; cents = c })) h (line_quiet n id w (record { id = line; kind = kind; month = month; every = every; cents = c }) h e)))
-adjusts n w (command.Drop id line) h e some = absurd (some (quiet_none n id w (without_bill line) h (drop_quiet n id line w h e)))
-adjusts n w (command.Analyse id plan) h e some = absurd (some (quiet_none n id w (with_analysis (n + 1) w.today plan) h (analyse_quiet n id plan w h e)))
-adjusts n w (command.Close p) h e some = absurd (some (kept_none n w h))
-adjusts n w (command.Remit p) h e some = absurd (some (kept_none n w h))
-adjusts n w (command.Retype id from kind) h e some = absurd (some (quiet_none n id w (with_type (type_change from kind)) h (retype_quiet n id from kind w h e)))
+owns n w (command.Day d) h e = day_none n d w h e
+owns n w (command.Board id t) h e = board_none n id t w h (boarding n id t w e)
+owns n w (command.Pay id d c over) h e = dated_own n id d w c asks_no_more (command.Pay id d c over) (act.Pay c over) refl (entered_sum c) h e
+owns n w (command.Curtail id d c) h e = dated_own n id d w c (over_principal d c) (command.Curtail id d c) (act.Curtail c) refl (entered_sum c) h e
+owns n w (command.Payoff id d c) h e = dated_own n id d w c (payoff_short d c) (command.Payoff id d c) (act.Payoff c) refl (entered_sum c) h e
+owns n w (command.Deposit id d c) h e = dated_own n id d w c asks_no_more (command.Deposit id d c) (act.Deposit c) refl (entered_sum c) h e
+owns n w (command.Disburse id d c line) h e = dated_own n id d w c (no_such_line line) (command.Disburse id d c line) (act.Disburse c line) refl (entered_sum c) h e
+owns n w (command.Refund id c) h e = quiet_none n id w (with_entry (entry (n + 1) w.today (act.Refund c))) h (refund_quiet n id w c h e)
+owns n w (command.Waive id c) h e = quiet_none n id w (with_entry (entry (n + 1) w.today (act.Waive c))) h (waive_quiet n id w c h e)
+owns n w (command.Reverse id number) h e = reverse_own n id number w h e
+owns n w (command.Line id line kind month every c) h e = quiet_none n id w (with_bill (record { id = line; kind = kind; month = month; every = every; cents = c })) h (line_quiet n id w (record { id = line; kind = kind; month = month; every = every; cents = c }) h e)
+owns n w (command.Drop id line) h e = quiet_none n id w (without_bill line) h (drop_quiet n id line w h e)
+owns n w (command.Analyse id plan) h e = quiet_none n id w (with_analysis (n + 1) w.today plan) h (analyse_quiet n id plan w h e)
+owns n w (command.Close p) h e = kept_none n w h
+owns n w (command.Remit p) h e = kept_none n w h
+owns n w (command.Retype id from kind) h e = quiet_none n id w (with_type (type_change from kind)) h (retype_quiet n id from kind w h e)
+
+-- so a command that has any is one that can
+can_adjust : (w : World) (c : Command) (xs : List Adjustment) → AdjustsItsOwn w c xs → xs ≢ [] → CanAdjust c
+can_adjust w (command.Day d) xs own some = absurd (some own)
+can_adjust w (command.Board id t) xs own some = absurd (some own)
+can_adjust w (command.Pay id d c over) xs own some = tt
+can_adjust w (command.Curtail id d c) xs own some = tt
+can_adjust w (command.Payoff id d c) xs own some = tt
+can_adjust w (command.Deposit id d c) xs own some = tt
+can_adjust w (command.Disburse id d c line) xs own some = tt
+can_adjust w (command.Refund id c) xs own some = absurd (some own)
+can_adjust w (command.Waive id c) xs own some = absurd (some own)
+can_adjust w (command.Reverse id number) xs own some = tt
+can_adjust w (command.Line id line kind month every c) xs own some = absurd (some own)
+can_adjust w (command.Drop id line) xs own some = absurd (some own)
+can_adjust w (command.Analyse id plan) xs own some = absurd (some own)
+can_adjust w (command.Close p) xs own some = absurd (some own)
+can_adjust w (command.Remit p) xs own some = absurd (some own)
+can_adjust w (command.Retype id from kind) xs own some = absurd (some own)
 
 pub is_lawful_step : (h : List Accepted) (key : List ℕ) (c : Command) → IsHistory h → judged h key c ≡ Fresh → IsLawfulStep h c
-is_lawful_step h key c is fresh = record {
-  grow = grows (length h + 1) (world h) c;
-  adjusted = adjusts (length h) (world h) c (is_world h is) (fresh_none h key c fresh);
-}
+is_lawful_step h key c is fresh =
+    let own = owns (length h) (world h) c (is_world h is) (fresh_none h key c fresh) in
+    record {
+      grow = grows (length h + 1) (world h) c;
+      adjusted = can_adjust (world h) c (adjustments_by (length h + 1) (world h) c) own;
+      own = own;
+    }

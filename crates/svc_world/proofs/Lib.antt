@@ -22,6 +22,7 @@ pub mod DayWorlds
 pub mod BoardWorlds
 pub mod ClosedWorlds
 pub mod HistoryLemmas
+pub mod OnceLemmas
 pub mod LawLemmas
 pub mod OpeningLemmas
 pub mod StayLemmas

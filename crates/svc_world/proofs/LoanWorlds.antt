@@ -22,25 +22,28 @@ use Rattle.escrow_lines.specs.BillLists.{has_id, with_line, AreLines}
 use Rattle.escrow_lines.proofs.LineLemmas.{are_with, are_without}
 use Rattle.period_adjust.specs.Conditions.{last_month}
 use Rattle.period_adjust.specs.Kept.{month_after}
-use Rattle.svc_world.specs.Held.{Held, boarded_month, with_reversal, with_bill, without_bill, with_type}
+use Rattle.svc_world.specs.Held.{Held, boarded_month, changed, with_reversal, with_bill, without_bill, with_type}
 use Rattle.svc_world.specs.LoanDues.{type_change}
+use Rattle.svc_world.specs.Reports.{months_of, changes_of}
 use Rattle.svc_world.specs.World.{World, loans_after, seals_after, after}
 use Rattle.svc_world.specs.Refusals.{case, case_of, first_of, refusal_of, is_analysis, adjustments_full, entry_reversal_cases, reversal_cases, line_cases, has_line, no_such_line, retype_cases, with_last}
 use Rattle.svc_world.specs.Worlds.{IsHeld, IsWorld}
+use Rattle.svc_world.specs.Laws.{IsFrom, AdjustsItsOwn}
 use Rattle.svc_world.proofs.LimitedLemmas.{reversed_limited}
 use Rattle.svc_world.proofs.AgreeLemmas.{AgreeTo, reversal_agrees, type_agrees}
 use Rattle.svc_world.proofs.CaseLemmas.{past, past_of, past_last, HasRoom, room_left}
-use Rattle.svc_world.proofs.ChangedWorlds.{IsChange, world_with, change_keeps}
+use Rattle.svc_world.proofs.ChangedWorlds.{IsChange, own_changes, world_with, change_keeps}
 use Rattle.svc_world.proofs.NamedLoans.{named_loan, room_enough, asked}
 use Rattle.svc_world.proofs.QuietWorlds.{IsQuiet, quiet_keeps}
 
 -- ---- a reversal
 
--- the entry is there, and its rules leave room
+-- the entry is there and was not reversed, and its rules leave room
 pub record IsReversible (w : World) (number : ℕ) (l : Held) : Type 0 where
-  entry : Entry
-  found : entry_of l.account number ≡ Some entry
-  room : HasRoom w (month_of entry.day)
+  pub entry : Entry
+  pub found : entry_of l.account number ≡ Some entry
+  pub live : reverser_of l.account number ≡ None
+  pub room : HasRoom w (month_of entry.day)
 
 pub reversible : (w : World) (number : ℕ) (l : Held) → first_of (reversal_cases w number l) ≡ None → IsReversible w number l
 reversible w number l e =
@@ -49,7 +52,7 @@ reversible w number l e =
       | Some x ↦ λ is none.
           let one = past_of AlreadyReversed (reverser_of l.account number) (case (is_analysis x.act) refusal.NotReversible ∷ adjustments_full w (month_of x.day) ∷ []) none in
           let two = past (case (is_analysis x.act) refusal.NotReversible) (adjustments_full w (month_of x.day) ∷ []) one.rest in
-          record { entry = x; found = is; room = room_left w (month_of x.day) two.rest }
+          record { entry = x; found = is; live = one.no; room = room_left w (month_of x.day) two.rest }
     ] refl e
 
 pub find_all : (P : Entry → Type 0) (p : Entry → Bool) (es : List Entry) (x : Entry) → find p es ≡ Some x → All P es → P x
@@ -92,6 +95,20 @@ reverse_keeps n id number w h e =
     let ch = reversal_change n number w l it.entry is.held it.found in
     subst (λ i. IsWorld (n + 1) (world_with w i f (n + 1))) is.number
     (change_keeps n m w f l h q.few is.found ch (room_enough n m w l h is.found ch.since it.room))
+
+-- its adjustments are of its loan, and of months from that of the entry on
+pub reverse_own : (n id number : ℕ) (w : World) → IsWorld n w → refusal_of n w (command.Reverse id number) ≡ None → AdjustsItsOwn w (command.Reverse id number) (changes_of (n + 1) (months_of w.seals.reports) w.loans (changed id (with_reversal number (n + 1)) w.loans))
+reverse_own n id number w h e =
+    let q = asked n w id (reversal_cases w number) (command.Reverse id number) refl e in
+    let l = q.loan.loan in
+    let is = named_loan n w id l h q.loan.found in
+    let it = reversible w number l q.loan.rest in
+    let m = month_of it.entry.day in
+    let f = with_reversal number (n + 1) in
+    let ch = reversal_change n number w l it.entry is.held it.found in
+    let own = own_changes n m (n + 1) w f l h is.found ch.number ch.agree ch.since in
+    let its = subst (λ i. All (IsFrom i m) (changes_of (n + 1) (months_of w.seals.reports) w.loans (changed i f w.loans))) is.number own in
+    rw (q.loan.found, it.found) its
 
 -- ---- changes from a month on that is not closed
 

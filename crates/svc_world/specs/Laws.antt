@@ -1,19 +1,20 @@
 -- The laws of the books, over every history of accepted commands.
-use Rattle.std.specs.Prelude.{◌≡◌, ◌≢◌, ◌⊎◌, ℕ, ◌+◌, ◌<◌, List, [], ◌++◌, length, ⊤, ◌+ℤ◌, ◌-ℤ◌}
-use Rattle.std.specs.List.{All}
+use Rattle.std.specs.Prelude.{◌≡◌, ◌≢◌, ◌⊎◌, ℕ, ◌+◌, ◌<◌, ◌≤◌, List, [], ◌++◌, length, ⊤, IfSome, ◌+ℤ◌, ◌-ℤ◌}
+use Rattle.std.specs.List.{All, AllPairs}
+use Rattle.svc_base.specs.Calendar.{month_of}
 use Rattle.svc_base.specs.Sums.{total_by}
 use Rattle.svc_types.specs.declared.terms.Terms.{Terms}
 use Rattle.svc_types.specs.declared.requests.TypeChange.{TypeChange}
 use Rattle.svc_types.specs.declared.requests.Command.{Command}
 use Rattle.svc_types.specs.declared.requests.Command.TheVariants as command
 use Rattle.svc_spec.specs.Books.{AreBooks, total}
-use Rattle.svc_spec.specs.Accounts.{books_of}
+use Rattle.svc_spec.specs.Accounts.{books_of, entry_of}
 use Rattle.svc_spec.specs.Totals.{received, returned, refunded, disbursed}
 use Rattle.period_adjust.specs.declared.adjustment.Adjustment.{Adjustment}
 use Rattle.period_adjust.specs.Sealed.{Sealed}
 use Rattle.custodial_book.specs.declared.part.Account.TheVariants.{T, P}
 use Rattle.custodial_book.specs.Rows.{balance_of}
-use Rattle.svc_world.specs.Held.{Held, books_now}
+use Rattle.svc_world.specs.Held.{Held, find_loan, books_now}
 use Rattle.svc_world.specs.LoanDues.{kind_in, Counts}
 use Rattle.svc_world.specs.Reports.{months_of, changes_of}
 use Rattle.svc_world.specs.World.{World, Accepted, loans_after, after, world}
@@ -49,6 +50,14 @@ pub record ReportsGrow (before later : World) : Type 0 where
 abbrev pub HasSoundBooks : Held → Type 0
 HasSoundBooks l = (d : ℕ) → AreBooks l.account.terms (books_of l.account d)
 
+-- no entry is reversed twice, and each is reversed by a command after its own
+pub record AreReversedOnce (reversals : List (ℕ × ℕ)) : Type 0 where
+  pub once : AllPairs (λ (r s : ℕ × ℕ). r.0 ≢ s.0) reversals
+  pub later : All (λ (r : ℕ × ℕ). r.0 < r.1) reversals
+
+abbrev pub IsReversedOnce : Held → Type 0
+IsReversedOnce l = AreReversedOnce l.account.reversals
+
 -- no change of a loan's remittance type begins by a month, and its type in it is that of the terms
 pub record IsUnchanged (t : Terms) (types : List TypeChange) (month : ℕ) : Type 0 where
   pub kind : kind_in t types month ≡ t.kind
@@ -77,7 +86,25 @@ CanAdjust c = ⊥
 abbrev pub adjustments_by : ℕ → World → Command → List Adjustment
 adjustments_by n w c = changes_of n (months_of w.seals.reports) w.loans (loans_after n w.today w.loans c)
 
+-- an adjustment is of a loan, and of a month from one on
+pub record IsFrom (id month : ℕ) (a : Adjustment) : Type 0 where
+  pub loan : a.loan ≡ id
+  pub since : month ≤ a.month
+
+-- a command's adjustments are of its own loan, and of months from that of its entry on; those of a reversal from that of the
+-- entry that it takes back. Other commands have none
+abbrev pub AdjustsItsOwn : World → Command → List Adjustment → Type 0
+AdjustsItsOwn w (command.Pay id d c over) xs = All (IsFrom id (month_of d)) xs
+AdjustsItsOwn w (command.Curtail id d c) xs = All (IsFrom id (month_of d)) xs
+AdjustsItsOwn w (command.Payoff id d c) xs = All (IsFrom id (month_of d)) xs
+AdjustsItsOwn w (command.Deposit id d c) xs = All (IsFrom id (month_of d)) xs
+AdjustsItsOwn w (command.Disburse id d c line) xs = All (IsFrom id (month_of d)) xs
+AdjustsItsOwn w (command.Reverse id number) xs =
+    IfSome (find_loan id w.loans) (λ l. IfSome (entry_of l.account number) (λ e. All (IsFrom id (month_of e.day)) xs))
+AdjustsItsOwn w c xs = xs ≡ []
+
 -- one accepted command more
 pub record IsLawfulStep (h : List Accepted) (c : Command) : Type 0 where
   pub grow : ReportsGrow (world h) (after (length h + 1) (world h) c)
   pub adjusted : adjustments_by (length h + 1) (world h) c ≢ [] → CanAdjust c
+  pub own : AdjustsItsOwn (world h) c (adjustments_by (length h + 1) (world h) c)

@@ -14,7 +14,7 @@ ghost use Rattle.svc_world.specs.Answers.{answer_to};
 ghost use Rattle.svc_world.specs.World.{Accepted, accepted, first_world, world};
 ghost use Rattle.svc_world.specs.Worlds.{AreWorlds};
 ghost use Rattle.svc_world.specs.Judging.{IsHistory, Fresh, judged};
-ghost use Rattle.svc_world.specs.Laws.{AreLawful, HasSoundBooks, IsKindIn, IsLawfulStep, ReportsGrow};
+ghost use Rattle.svc_world.specs.Laws.{AreLawful, HasSoundBooks, IsKindIn, IsLawfulStep, IsReversedOnce, ReportsGrow};
 
 /// What is held after each command of a history is sound: loans by rising number with accounts within
 /// their limits, closed months in a row, and reports that add up to the dues.
@@ -29,7 +29,7 @@ pub fn histories_are_lawful()
 {}
 
 /// One accepted command more leaves the reports that were sent, and has adjustments only where it is a
-/// payment, a deposit, a disbursement or a reversal.
+/// payment, a deposit, a disbursement or a reversal: of its own loan, and of months from that of its entry on.
 pub fn steps_are_lawful()
     ensures step { (h : List Accepted) (key : List ℕ) (c : Command) → IsHistory h → judged h key c ≡ Fresh → IsLawfulStep h c }
 {}
@@ -44,6 +44,11 @@ pub fn reports_stay()
 /// principal, and suspense and the late charges that are owed are not below 0.
 pub fn books_are_sound()
     ensures sound { (h : List Accepted) → IsHistory h → All HasSoundBooks (world h).loans }
+{}
+
+/// After every history no entry was reversed twice, and each reversal's number is above that of its entry.
+pub fn entries_are_reversed_once()
+    ensures once { (h : List Accepted) → IsHistory h → All IsReversedOnce (world h).loans }
 {}
 
 /// The opening balance of a year of twelve months, none of which pays out less than nothing, is the least with which each
