@@ -1,7 +1,7 @@
 -- The laws of the books after every history: cash is what is held, reports only grow, and few commands have
 -- adjustments.
-use Rattle.std.proofs.Common.{◌≡◌, ℕ, ◌+◌, List, [], ◌∷◌, ◌++◌, length, arith, refl, sym, ap, ◌∙◌, append-nil, append_assoc}
-use Rattle.std.specs.Prelude.{◌≢◌, None, pos, ◌+ℤ◌, ◌-ℤ◌}
+use Rattle.std.proofs.Common.{◌≡◌, ℕ, ◌+◌, List, [], ◌∷◌, ◌++◌, length, arith, refl, sym, ap, ◌∙◌, append-nil, append_assoc, inl, inr}
+use Rattle.std.specs.Prelude.{◌≢◌, ◌⊎◌, None, pos, ◌+ℤ◌, ◌-ℤ◌}
 use Rattle.std.specs.List.{All}
 use Rattle.std.proofs.lemmas.Int.{ints}
 use Rattle.svc_base.specs.Sums.{total_by}
@@ -55,24 +55,41 @@ pub cash_boarded : (account : CashAccount) (n : ℕ) (w : World) (c : Command) (
 unfolding IsMoved
 cash_boarded account n w c rows l h later more new = boarding_rows_are_cash account (n + 1) w (after (n + 1) w c) rows l h.rising more new (accounts n w h) (accounts (n + 1) (after (n + 1) w c) later)
 
-pub cash_moved : (account : CashAccount) (n : ℕ) (w : World) (c : Command) (rows : List Row) → IsWorld n w → IsWorld (n + 1) (after (n + 1) w c) → refusal_of n w c ≡ None → IsMoved account n w c rows
+-- a loan that a command takes on
+pub record IsTakenOn (n : ℕ) (w : World) (c : Command) : Type 0 where
+  pub loan : Held
+  pub more : (after (n + 1) w c).loans ≡ with_loan loan w.loans
+  pub new : find_loan loan.id w.loans ≡ None
+
+-- a command leaves the loans' numbers, or takes one on
+abbrev pub KeepsLoans : ℕ → World → Command → Type 0
+KeepsLoans n w c = (numbers_of (after (n + 1) w c).loans ≡ numbers_of w.loans) ⊎ IsTakenOn n w c
+
+pub loans_stay : (n : ℕ) (w : World) (c : Command) → refusal_of n w c ≡ None → KeepsLoans n w c
 unfolding after loans_after
-cash_moved account n w (command.Day d) rows h later e = cash_kept account n w (command.Day d) rows h later (mapped_numbers (on_day d) w.loans (λ k. refl))
-cash_moved account n w (command.Board id t) rows h later e = cash_boarded account n w (command.Board id t) rows (boarded id t w.today) h later refl (boarding n id t w e).new
-cash_moved account n w (command.Pay id d c over) rows h later e = cash_kept account n w (command.Pay id d c over) rows h later (changed_numbers id (with_entry (entry (n + 1) d (act.Pay c over))) w.loans (λ k. refl))
-cash_moved account n w (command.Curtail id d c) rows h later e = cash_kept account n w (command.Curtail id d c) rows h later (changed_numbers id (with_entry (entry (n + 1) d (act.Curtail c))) w.loans (λ k. refl))
-cash_moved account n w (command.Payoff id d c) rows h later e = cash_kept account n w (command.Payoff id d c) rows h later (changed_numbers id (with_entry (entry (n + 1) d (act.Payoff c))) w.loans (λ k. refl))
-cash_moved account n w (command.Deposit id d c) rows h later e = cash_kept account n w (command.Deposit id d c) rows h later (changed_numbers id (with_entry (entry (n + 1) d (act.Deposit c))) w.loans (λ k. refl))
-cash_moved account n w (command.Disburse id d c line) rows h later e = cash_kept account n w (command.Disburse id d c line) rows h later (changed_numbers id (with_entry (entry (n + 1) d (act.Disburse c line))) w.loans (λ k. refl))
-cash_moved account n w (command.Refund id c) rows h later e = cash_kept account n w (command.Refund id c) rows h later (changed_numbers id (with_entry (entry (n + 1) w.today (act.Refund c))) w.loans (λ k. refl))
-cash_moved account n w (command.Waive id c) rows h later e = cash_kept account n w (command.Waive id c) rows h later (changed_numbers id (with_entry (entry (n + 1) w.today (act.Waive c))) w.loans (λ k. refl))
-cash_moved account n w (command.Reverse id number) rows h later e = cash_kept account n w (command.Reverse id number) rows h later (changed_numbers id (with_reversal number (n + 1)) w.loans (λ k. refl))
-cash_moved account n w (command.Line id line kind month every c) rows h later e = cash_kept account n w (command.Line id line kind month every c) rows h later (changed_numbers id (with_bill (record { id = line; kind = kind; month = month; every = every; cents = c })) w.loans (λ k. refl))
-cash_moved account n w (command.Drop id line) rows h later e = cash_kept account n w (command.Drop id line) rows h later (changed_numbers id (without_bill line) w.loans (λ k. refl))
-cash_moved account n w (command.Analyse id plan) rows h later e = cash_kept account n w (command.Analyse id plan) rows h later (changed_numbers id (with_analysis (n + 1) w.today plan) w.loans (λ k. refl))
-cash_moved account n w (command.Close p) rows h later e = cash_kept account n w (command.Close p) rows h later refl
-cash_moved account n w (command.Remit p) rows h later e = cash_kept account n w (command.Remit p) rows h later refl
-cash_moved account n w (command.Retype id from kind) rows h later e = cash_kept account n w (command.Retype id from kind) rows h later (changed_numbers id (with_type (type_change from kind)) w.loans (λ k. refl))
+loans_stay n w (command.Day d) e = inl (mapped_numbers (on_day d) w.loans (λ k. refl))
+loans_stay n w (command.Board id t) e = inr (record { loan = boarded id t w.today; more = refl; new = (boarding n id t w e).new })
+loans_stay n w (command.Pay id d c over) e = inl (changed_numbers id (with_entry (entry (n + 1) d (act.Pay c over))) w.loans (λ k. refl))
+loans_stay n w (command.Curtail id d c) e = inl (changed_numbers id (with_entry (entry (n + 1) d (act.Curtail c))) w.loans (λ k. refl))
+loans_stay n w (command.Payoff id d c) e = inl (changed_numbers id (with_entry (entry (n + 1) d (act.Payoff c))) w.loans (λ k. refl))
+loans_stay n w (command.Deposit id d c) e = inl (changed_numbers id (with_entry (entry (n + 1) d (act.Deposit c))) w.loans (λ k. refl))
+loans_stay n w (command.Disburse id d c line) e = inl (changed_numbers id (with_entry (entry (n + 1) d (act.Disburse c line))) w.loans (λ k. refl))
+loans_stay n w (command.Refund id c) e = inl (changed_numbers id (with_entry (entry (n + 1) w.today (act.Refund c))) w.loans (λ k. refl))
+loans_stay n w (command.Waive id c) e = inl (changed_numbers id (with_entry (entry (n + 1) w.today (act.Waive c))) w.loans (λ k. refl))
+loans_stay n w (command.Reverse id number) e = inl (changed_numbers id (with_reversal number (n + 1)) w.loans (λ k. refl))
+loans_stay n w (command.Line id line kind month every c) e = inl (changed_numbers id (with_bill (record { id = line; kind = kind; month = month; every = every; cents = c })) w.loans (λ k. refl))
+loans_stay n w (command.Drop id line) e = inl (changed_numbers id (without_bill line) w.loans (λ k. refl))
+loans_stay n w (command.Analyse id plan) e = inl (changed_numbers id (with_analysis (n + 1) w.today plan) w.loans (λ k. refl))
+loans_stay n w (command.Close p) e = inl refl
+loans_stay n w (command.Remit p) e = inl refl
+loans_stay n w (command.Retype id from kind) e = inl (changed_numbers id (with_type (type_change from kind)) w.loans (λ k. refl))
+
+pub cash_moved : (account : CashAccount) (n : ℕ) (w : World) (c : Command) (rows : List Row) → IsWorld n w → IsWorld (n + 1) (after (n + 1) w c) → refusal_of n w c ≡ None → IsMoved account n w c rows
+cash_moved account n w c rows h later e =
+    elim (loans_stay n w c e) as (λ _. IsMoved account n w c rows) [
+      | inl same ↦ cash_kept account n w c rows h later same
+      | inr on ↦ cash_boarded account n w c rows on.loan h later on.more on.new
+    ]
 
 pub cash_from : (account : CashAccount) (n : ℕ) (w : World) (rows : List Row) (h : List Accepted) → IsWorld n w → AreAccepted n w h → balance_of account (rows ++ rows_from n w h) ≡ balance_of account rows +ℤ (total_by (holds account (world_from n w h)) (world_from n w h).loans -ℤ total_by (holds account w) w.loans)
 unfolding rows_from world_from IsMoved

@@ -24,6 +24,7 @@ pub mod ClosedWorlds
 pub mod HistoryLemmas
 pub mod OnceLemmas
 pub mod LawLemmas
+pub mod PartLemmas
 pub mod OpeningLemmas
 pub mod StayLemmas
 pub mod KindLemmas

@@ -1,5 +1,5 @@
 -- The laws of the books, over every history of accepted commands.
-use Rattle.std.specs.Prelude.{◌≡◌, ◌≢◌, ◌⊎◌, ℕ, ◌+◌, ◌<◌, ◌≤◌, List, [], ◌++◌, length, ⊤, IfSome, ◌+ℤ◌, ◌-ℤ◌}
+use Rattle.std.specs.Prelude.{◌≡◌, ◌≢◌, ◌⊎◌, ℕ, ◌+◌, ◌<◌, ◌≤◌, ◌==◌, ◌&&◌, if◌then◌else◌, List, [], ◌++◌, length, ⊤, IfSome, ℤ, pos, ◌+ℤ◌, ◌-ℤ◌}
 use Rattle.std.specs.List.{All, AllPairs}
 use Rattle.svc_base.specs.Calendar.{month_of}
 use Rattle.svc_base.specs.Sums.{total_by}
@@ -13,13 +13,16 @@ use Rattle.svc_spec.specs.Totals.{received, returned, refunded, disbursed}
 use Rattle.period_adjust.specs.declared.adjustment.Adjustment.{Adjustment}
 use Rattle.period_adjust.specs.Sealed.{Sealed}
 use Rattle.custodial_book.specs.declared.part.Account.TheVariants.{T, P}
-use Rattle.custodial_book.specs.Rows.{balance_of}
+use Rattle.custodial_book.specs.declared.part.Part.{Part}
+use Rattle.custodial_book.specs.declared.part.Part.TheVariants.{Received, Returned, Refunded, Disbursed, Collected, Fee, Late, PiAdvance, EscrowAdvance, Remitted, Residual}
+use Rattle.custodial_book.specs.declared.row.Row.{Row}
+use Rattle.custodial_book.specs.Rows.{total_of, balance_of}
 use Rattle.svc_world.specs.Held.{Held, find_loan, books_now}
 use Rattle.svc_world.specs.LoanDues.{kind_in, Counts}
 use Rattle.svc_world.specs.Reports.{months_of, changes_of}
 use Rattle.svc_world.specs.World.{World, Accepted, loans_after, after, world}
 use Rattle.svc_world.specs.Worlds.{AddUp}
-use Rattle.svc_world.specs.Custody.{remitted_for, collected, held_for, advanced_for, residual_of, borrower_cash, rows_in}
+use Rattle.svc_world.specs.Custody.{remitted_for, collected, held_for, advanced_for, residual_of, totals_before, borrower_cash, rows_in}
 
 -- a loan's money: what it received, less what was returned, refunded and disbursed, is what its books hold
 -- and have collected
@@ -49,6 +52,29 @@ pub record ReportsGrow (before later : World) : Type 0 where
 -- at every day the books of a loan are books of its terms
 abbrev pub HasSoundBooks : Held → Type 0
 HasSoundBooks l = (d : ℕ) → AreBooks l.account.terms (books_of l.account d)
+
+-- the place of a part among all
+abbrev pub place_of : Part → ℕ
+place_of Received = 0
+place_of Returned = 1
+place_of Refunded = 2
+place_of Disbursed = 3
+place_of Collected = 4
+place_of Fee = 5
+place_of Late = 6
+place_of PiAdvance = 7
+place_of EscrowAdvance = 8
+place_of Remitted = 9
+place_of Residual = 10
+
+-- what the rows of a loan and a part add up to
+abbrev pub rows_sum : ℕ → Part → List Row → ℤ
+rows_sum id part rows =
+    total_by (λ (r : Row). if (r.loan == id) && (place_of r.part == place_of part) then r.cents else pos 0) rows
+
+-- a loan's total of a part; of a loan that is not there it is 0
+abbrev pub total_for : World → ℕ → Part → ℤ
+total_for w id part = total_of (totals_before w (find_loan id w.loans)) part
 
 -- no entry is reversed twice, and each is reversed by a command after its own
 pub record AreReversedOnce (reversals : List (ℕ × ℕ)) : Type 0 where

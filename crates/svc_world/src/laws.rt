@@ -13,8 +13,10 @@ ghost use Rattle.svc_world.specs.declared.answer.Answer.TheVariants as answer;
 ghost use Rattle.svc_world.specs.Answers.{answer_to};
 ghost use Rattle.svc_world.specs.World.{Accepted, accepted, first_world, world};
 ghost use Rattle.svc_world.specs.Worlds.{AreWorlds};
+ghost use Rattle.custodial_book.specs.declared.part.Part.{Part};
+ghost use Rattle.svc_world.specs.Custody.{rows_in};
 ghost use Rattle.svc_world.specs.Judging.{IsHistory, Fresh, judged};
-ghost use Rattle.svc_world.specs.Laws.{AreLawful, HasSoundBooks, IsKindIn, IsLawfulStep, IsReversedOnce, ReportsGrow};
+ghost use Rattle.svc_world.specs.Laws.{AreLawful, HasSoundBooks, IsKindIn, IsLawfulStep, IsReversedOnce, ReportsGrow, rows_sum, total_for};
 
 /// What is held after each command of a history is sound: loans by rising number with accounts within
 /// their limits, closed months in a row, and reports that add up to the dues.
@@ -49,6 +51,13 @@ pub fn books_are_sound()
 /// After every history no entry was reversed twice, and each reversal's number is above that of its entry.
 pub fn entries_are_reversed_once()
     ensures once { (h : List Accepted) → IsHistory h → All IsReversedOnce (world h).loans }
+{}
+
+/// After every history the rows of each loan and part add up to what the loan's total of that part is, from which the
+/// custodial line follows; of a loan that is not there they add up to 0.
+pub fn rows_add_up()
+    ensures sums { (h : List Accepted) (id : ℕ) (part : Part) → IsHistory h
+        → rows_sum id part (rows_in h) ≡ total_for (world h) id part }
 {}
 
 /// The opening balance of a year of twelve months, none of which pays out less than nothing, is the least with which each
