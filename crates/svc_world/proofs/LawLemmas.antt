@@ -130,24 +130,38 @@ are_lawful h is =
 
 -- ---- one command more
 
-pub grows : (n : ℕ) (w : World) (c : Command) → ReportsGrow w (after n w c)
+-- a command that closes a month, and the report that it seals
+pub record IsSealing (n : ℕ) (w : World) (c : Command) : Type 0 where
+  pub month : ℕ
+  pub asked : c ≡ command.Close month
+  pub grown : (after n w c).seals.reports ≡ w.seals.reports ++ report_of month (lines_of w.seals.pending month w.loans) w.seals.pending ∷ []
+
+-- any other command leaves the reports
+pub reports_after : (n : ℕ) (w : World) (c : Command) → ((after n w c).seals.reports ≡ w.seals.reports) ⊎ IsSealing n w c
 unfolding after loans_after seals_after
-grows n w (command.Close p) = record { more = report_of p (lines_of w.seals.pending p w.loans) w.seals.pending ∷ []; grown = refl }
-grows n w (command.Day d) = record { more = []; grown = sym (append-nil w.seals.reports) }
-grows n w (command.Board id t) = record { more = []; grown = sym (append-nil w.seals.reports) }
-grows n w (command.Pay id d c over) = record { more = []; grown = sym (append-nil w.seals.reports) }
-grows n w (command.Curtail id d c) = record { more = []; grown = sym (append-nil w.seals.reports) }
-grows n w (command.Payoff id d c) = record { more = []; grown = sym (append-nil w.seals.reports) }
-grows n w (command.Deposit id d c) = record { more = []; grown = sym (append-nil w.seals.reports) }
-grows n w (command.Disburse id d c line) = record { more = []; grown = sym (append-nil w.seals.reports) }
-grows n w (command.Refund id c) = record { more = []; grown = sym (append-nil w.seals.reports) }
-grows n w (command.Waive id c) = record { more = []; grown = sym (append-nil w.seals.reports) }
-grows n w (command.Reverse id number) = record { more = []; grown = sym (append-nil w.seals.reports) }
-grows n w (command.Line id line kind month every c) = record { more = []; grown = sym (append-nil w.seals.reports) }
-grows n w (command.Drop id line) = record { more = []; grown = sym (append-nil w.seals.reports) }
-grows n w (command.Analyse id plan) = record { more = []; grown = sym (append-nil w.seals.reports) }
-grows n w (command.Remit p) = record { more = []; grown = sym (append-nil w.seals.reports) }
-grows n w (command.Retype id from kind) = record { more = []; grown = sym (append-nil w.seals.reports) }
+reports_after n w (command.Close p) = inr (record { month = p; asked = refl; grown = refl })
+reports_after n w (command.Day d) = inl refl
+reports_after n w (command.Board id t) = inl refl
+reports_after n w (command.Pay id d c over) = inl refl
+reports_after n w (command.Curtail id d c) = inl refl
+reports_after n w (command.Payoff id d c) = inl refl
+reports_after n w (command.Deposit id d c) = inl refl
+reports_after n w (command.Disburse id d c line) = inl refl
+reports_after n w (command.Refund id c) = inl refl
+reports_after n w (command.Waive id c) = inl refl
+reports_after n w (command.Reverse id number) = inl refl
+reports_after n w (command.Line id line kind month every c) = inl refl
+reports_after n w (command.Drop id line) = inl refl
+reports_after n w (command.Analyse id plan) = inl refl
+reports_after n w (command.Remit p) = inl refl
+reports_after n w (command.Retype id from kind) = inl refl
+
+pub grows : (n : ℕ) (w : World) (c : Command) → ReportsGrow w (after n w c)
+grows n w c =
+    elim (reports_after n w c) as (λ _. ReportsGrow w (after n w c)) [
+      | inl same ↦ record { more = []; grown = same ∙ sym (append-nil w.seals.reports) }
+      | inr it ↦ record { more = report_of it.month (lines_of w.seals.pending it.month w.loans) w.seals.pending ∷ []; grown = it.grown }
+    ]
 
 owns : (n : ℕ) (w : World) (c : Command) → IsWorld n w → refusal_of n w c ≡ None → AdjustsItsOwn w c (adjustments_by (n + 1) w c)
 unfolding loans_after

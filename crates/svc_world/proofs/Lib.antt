@@ -25,6 +25,7 @@ pub mod HistoryLemmas
 pub mod OnceLemmas
 pub mod LawLemmas
 pub mod PartLemmas
+pub mod SignLemmas
 pub mod OpeningLemmas
 pub mod StayLemmas
 pub mod KindLemmas

@@ -1,5 +1,5 @@
 -- The laws of the books, over every history of accepted commands.
-use Rattle.std.specs.Prelude.{◌≡◌, ◌≢◌, ◌⊎◌, ℕ, ◌+◌, ◌<◌, ◌≤◌, ◌==◌, ◌&&◌, if◌then◌else◌, List, [], ◌++◌, length, ⊤, IfSome, ℤ, pos, ◌+ℤ◌, ◌-ℤ◌}
+use Rattle.std.specs.Prelude.{◌≡◌, ◌≢◌, ◌⊎◌, ℕ, ◌+◌, ◌<◌, ◌≤◌, ◌==◌, ◌&&◌, if◌then◌else◌, List, [], ◌++◌, length, ⊤, IfSome, ℤ, pos, ◌+ℤ◌, ◌-ℤ◌, ◌≤ℤ◌}
 use Rattle.std.specs.List.{All, AllPairs}
 use Rattle.svc_base.specs.Calendar.{month_of}
 use Rattle.svc_base.specs.Sums.{total_by}
@@ -11,12 +11,14 @@ use Rattle.svc_spec.specs.Books.{AreBooks, total}
 use Rattle.svc_spec.specs.Accounts.{books_of, entry_of}
 use Rattle.svc_spec.specs.Totals.{received, returned, refunded, disbursed}
 use Rattle.period_adjust.specs.declared.adjustment.Adjustment.{Adjustment}
+use Rattle.period_adjust.specs.declared.report_line.ReportLine.{ReportLine}
 use Rattle.period_adjust.specs.Sealed.{Sealed}
 use Rattle.custodial_book.specs.declared.part.Account.TheVariants.{T, P}
 use Rattle.custodial_book.specs.declared.part.Part.{Part}
 use Rattle.custodial_book.specs.declared.part.Part.TheVariants.{Received, Returned, Refunded, Disbursed, Collected, Fee, Late, PiAdvance, EscrowAdvance, Remitted, Residual}
 use Rattle.custodial_book.specs.declared.row.Row.{Row}
 use Rattle.custodial_book.specs.Rows.{total_of, balance_of}
+use Rattle.svc_world.specs.declared.custody.Custody.{Custody}
 use Rattle.svc_world.specs.Held.{Held, find_loan, books_now}
 use Rattle.svc_world.specs.LoanDues.{kind_in, Counts}
 use Rattle.svc_world.specs.Reports.{months_of, changes_of}
@@ -52,6 +54,23 @@ pub record ReportsGrow (before later : World) : Type 0 where
 -- at every day the books of a loan are books of its terms
 abbrev pub HasSoundBooks : Held → Type 0
 HasSoundBooks l = (d : ℕ) → AreBooks l.account.terms (books_of l.account d)
+
+-- what the custodial line says is not below 0: what the accounts hold, suspense, held, and both advances. Its escrow is the
+-- sum of balances, of which some are below 0
+pub record IsUnsigned (c : Custody) : Type 0 where
+  pub t : pos 0 ≤ℤ c.t
+  pub p : pos 0 ≤ℤ c.p
+  pub suspense : pos 0 ≤ℤ c.suspense
+  pub escrow_advance : pos 0 ≤ℤ c.escrow_advance
+  pub held : pos 0 ≤ℤ c.held
+  pub pi_advance : pos 0 ≤ℤ c.pi_advance
+
+-- nor are the balances that a report's line says: the loan's, and the investor's
+abbrev pub IsUnsignedLine : ReportLine → Type 0
+IsUnsignedLine l = (pos 0 ≤ℤ l.upb) × (pos 0 ≤ℤ l.balance)
+
+abbrev pub IsUnsignedReport : Sealed → Type 0
+IsUnsignedReport r = All IsUnsignedLine r.lines
 
 -- the place of a part among all
 abbrev pub place_of : Part → ℕ

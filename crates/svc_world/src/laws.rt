@@ -14,9 +14,9 @@ ghost use Rattle.svc_world.specs.Answers.{answer_to};
 ghost use Rattle.svc_world.specs.World.{Accepted, accepted, first_world, world};
 ghost use Rattle.svc_world.specs.Worlds.{AreWorlds};
 ghost use Rattle.custodial_book.specs.declared.part.Part.{Part};
-ghost use Rattle.svc_world.specs.Custody.{rows_in};
+ghost use Rattle.svc_world.specs.Custody.{custody_of, rows_in};
 ghost use Rattle.svc_world.specs.Judging.{IsHistory, Fresh, judged};
-ghost use Rattle.svc_world.specs.Laws.{AreLawful, HasSoundBooks, IsKindIn, IsLawfulStep, IsReversedOnce, ReportsGrow, rows_sum, total_for};
+ghost use Rattle.svc_world.specs.Laws.{AreLawful, HasSoundBooks, IsKindIn, IsLawfulStep, IsReversedOnce, IsUnsigned, IsUnsignedReport, ReportsGrow, rows_sum, total_for};
 
 /// What is held after each command of a history is sound: loans by rising number with accounts within
 /// their limits, closed months in a row, and reports that add up to the dues.
@@ -58,6 +58,13 @@ pub fn entries_are_reversed_once()
 pub fn rows_add_up()
     ensures sums { (h : List Accepted) (id : ℕ) (part : Part) → IsHistory h
         → rows_sum id part (rows_in h) ≡ total_for (world h) id part }
+{}
+
+/// After every history nothing that texts say without a sign is below 0: of the custodial line what the accounts hold,
+/// suspense, what is held and what the servicer advanced, of each line of a report both balances.
+pub fn texts_want_no_sign()
+    ensures custody { (h : List Accepted) → IsHistory h → IsUnsigned (custody_of (world h)) }
+    ensures reports { (h : List Accepted) → IsHistory h → All IsUnsignedReport (world h).seals.reports }
 {}
 
 /// The opening balance of a year of twelve months, none of which pays out less than nothing, is the least with which each

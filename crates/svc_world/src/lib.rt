@@ -16,7 +16,7 @@ pub use desk::{AgingCounts, BooksStatus, LateLoan};
 pub use laws::{
     books_are_sound, entries_are_reversed_once, histories_are_lawful, last_change_counts,
     openings_are_least, quotes_come_true, reports_stay, rows_add_up, steps_are_lawful,
-    worlds_are_sound,
+    texts_want_no_sign, worlds_are_sound,
 };
 pub use list_of::ListOf;
 pub use row_list::RowList;
