@@ -22,7 +22,10 @@ use Rattle.svc_spec.proofs.MonthLemmas.{day_by_end, end_before_next, from_boarde
 use Rattle.svc_spec.proofs.CostLemmas.{refold_within}
 use Rattle.svc_spec.proofs.SameLemmas.{posted_same, reversed_same}
 use Rattle.svc_spec.proofs.StepsLemmas.{counted_from_end, counted_on, day_within}
-use Rattle.svc_checkpoint.specs.Ends.{AreEnds, AreChecked, counted_before}
+use Rattle.svc_replay.specs.declared.cursor.Lates.{Lates}
+use Rattle.svc_replay.specs.declared.cursor.Cursor.{Cursor}
+use Rattle.svc_replay.specs.Left.{AreLates, IsPlace}
+use Rattle.svc_checkpoint.specs.Ends.{AreEnds, AreChecked, counted_before, day_before}
 
 -- ---- what was counted before a month
 
@@ -149,47 +152,98 @@ end_now a m b is low here now =
     let end : last_day (month_of a.today) ≡ last_day m = ap last_day (sym here) in
     now ∙ ap (books_of a) (omega arith) ∙ sym (from_boarded a m low)
 
--- ---- what a day's books are folded on from
+-- ---- the books from which a month is folded
 
--- books from which a day's books can be folded on: those at the end of the month before
-pub record IsEndBefore (a : Account) (t : Terms) (live : List Entry) (d : ℕ) (e : Books) : Type 0 where
-  pub since : t.boarded ≤ e.day
-  pub until : e.day ≤ d
-  pub day : e.day ≡ last_day (month_of d - 1)
-  pub is : e ≡ books_at t live e.day
+day_first : (a : Account) (m : ℕ) → m ≤ month_of a.terms.boarded → day_before a m ≡ a.terms.boarded
+day_first a m le = rw (nat_le-true m (month_of a.terms.boarded) le)
 
-pub end_before_day : (a : Account) (t : Terms) (live : List Entry) (ends : List Books) (n p d : ℕ) (e : Books) → IsAccount a → AreEnds a ends n → n ≡ month_of d - month_of a.terms.boarded → e ≡ get_or ends (p - 1) e → month_of a.terms.boarded + p ≡ month_of d → 1 ≤ p → t ≡ a.terms → live ≡ live_of a → IsEndBefore a t live d e
-end_before_day a t live ends n p d e h kept all is place some pt pl =
-    let m = month_of d - 1 in
-    let own = own_day t live (last_day m) e (at_end a ends n (p - 1) m e kept is (omega arith) (omega arith) ∙ sym (of_account a t live (last_day m) pt pl)) in
-    let since : a.terms.boarded ≤ last_day m = end_since a (month_of d) h (omega arith) in
-    let same : t.boarded ≡ a.terms.boarded = ap (λ (x : Terms). x.boarded) pt in
-    let end = end_before_next m d (omega arith) in
-    let day = own.0 in
-    record { since = omega arith; until = omega arith; day = day; is = own.1 }
+day_later : (a : Account) (m : ℕ) → month_of a.terms.boarded < m → day_before a m ≡ last_day (m - 1)
+day_later a m lt = rw (nat_le-false m (month_of a.terms.boarded) lt)
 
-pub steps_on : (a : Account) (t : Terms) (live : List Entry) (d old new : ℕ) (e : Books) → month_of a.terms.boarded < month_of d → IsEndBefore a t live d e → t ≡ a.terms → live ≡ live_of a → new + counted t live e.day ≡ old + counted t live d → new + counted_before a (month_of d) ≡ old + counted a.terms (live_of a) d
-steps_on a t live d old new e later h pt pl steps =
-    ap (λ x. new + x) (counted_later a (month_of d) later ∙ ap (counted a.terms (live_of a)) (sym h.day) ∙ sym (counted_of a t live e.day pt pl))
-    ∙ steps
-    ∙ ap (λ x. old + x) (counted_of a t live d pt pl)
+pub day_next : (a : Account) (m : ℕ) → month_of a.terms.boarded ≤ m → day_before a (m + 1) ≡ last_day m
+day_next a m le = let same : m + 1 - 1 ≡ m = omega arith in day_later a (m + 1) (omega arith) ∙ ap last_day same
+
+-- they are of a day from boarding on, up to each day of the month
+pub before_since : (a : Account) (m : ℕ) → IsAccount a → a.terms.boarded ≤ day_before a m
+before_since a m h =
+    elim (nat_lt (month_of a.terms.boarded) m) as (λ v. nat_lt (month_of a.terms.boarded) m ≡ v → a.terms.boarded ≤ day_before a m) [
+      | true ↦ λ e.
+          let later : month_of a.terms.boarded < m = grind (arith, nat_tests) in
+          omega (arith, day_later a m later, end_since a m h later)
+      | false ↦ λ e.
+          let back : m ≤ month_of a.terms.boarded = grind (arith, nat_tests) in
+          omega (arith, day_first a m back)
+    ] refl
+
+pub before_until : (a : Account) (m d : ℕ) → m ≤ month_of d → a.terms.boarded ≤ d → day_before a m ≤ d
+before_until a m d le since =
+    elim (nat_lt (month_of a.terms.boarded) m) as (λ v. nat_lt (month_of a.terms.boarded) m ≡ v → day_before a m ≤ d) [
+      | true ↦ λ e.
+          let later : month_of a.terms.boarded < m = grind (arith, nat_tests) in
+          omega (arith, day_later a m later, end_before_next (m - 1) d (omega arith))
+      | false ↦ λ e.
+          let back : m ≤ month_of a.terms.boarded = grind (arith, nat_tests) in
+          omega (arith, day_first a m back)
+    ] refl
+
+pub record IsStart (a : Account) (m old new : ℕ) (e : Books) : Type 0 where
+  pub books : e ≡ books_of a e.day
+  pub day : e.day ≡ day_before a m
+  pub steps : new + counted_before a m ≡ old + counted a.terms (live_of a) e.day
+
+pub start_first : (a : Account) (m d old new : ℕ) (e : Books) → month_of a.terms.boarded ≡ m → d ≡ a.terms.boarded → e ≡ books_of a d → new + 1 ≡ old + counted a.terms (live_of a) d → IsStart a m old new e
+start_first a m d old new e first boarded is steps =
+    let own = own_day a.terms (live_of a) d e is in
+    let here = ap (counted a.terms (live_of a)) own.0 in
+    record {
+      books = own.1;
+      day = own.0 ∙ boarded ∙ sym (day_first a m (omega arith));
+      steps = omega (arith, steps, here, counted_first a m (omega arith));
+    }
+
+pub start_later : (a : Account) (ends : List Books) (n p m old : ℕ) (e : Books) → AreEnds a ends n → e ≡ get_or ends (p - 1) e → month_of a.terms.boarded + p ≡ m → 1 ≤ p → p ≤ n → IsStart a m old old e
+start_later a ends n p m old e kept is place some within =
+    let own = own_day a.terms (live_of a) (last_day (m - 1)) e (at_end a ends n (p - 1) (m - 1) e kept is (omega arith) (omega arith)) in
+    let later : month_of a.terms.boarded < m = omega arith in
+    let here = ap (counted a.terms (live_of a)) own.0 in
+    record {
+      books = own.1;
+      day = own.0 ∙ sym (day_later a m later);
+      steps = omega (arith, here, counted_later a m later);
+    }
+
+-- ---- a cursor among the events of the account
+
+pub place_of : (a : Account) (t : Terms) (live : List Entry) (d d' : ℕ) (c : Cursor) → t ≡ a.terms → live ≡ live_of a → d' ≡ d → IsPlace a.terms (live_of a) d c → IsPlace t live d' c
+place_of a t live d d' c pt pl pd h = rw (pt, pl, pd) h
+
+pub place_in : (a : Account) (t : Terms) (live : List Entry) (d d' : ℕ) (c : Cursor) → t ≡ a.terms → live ≡ live_of a → d' ≡ d → IsPlace t live d c → IsPlace a.terms (live_of a) d' c
+place_in a t live d d' c pt pl pd h = rw pd (rw (pt, pl) at h)
+
+-- the late marks that it has passed are those up to its day
+pub lates_at : (t : Terms) (live : List Entry) (d : ℕ) (c : Cursor) (l : Lates) → IsPlace t live d c → l ≡ c.lates → AreLates t d l
+lates_at t live d c l h same = rw same (record { few = h.after.few; over = h.after.over; open_grace = h.after.open_grace; next = h.next })
 
 pub month_of_end : (m : ℕ) → month_of (last_day m) ≡ m
 month_of_end m = omega (arith, month_length_most m, month_length_least m)
 
 -- ---- what changes keep
 
+-- late marks are of the terms and the business day alone
+lates_same : (t t' : Terms) (d d' : ℕ) (l : Lates) → t' ≡ t → d' ≡ d → AreLates t d l → AreLates t' d' l
+lates_same t t' d d' l pt pd h = rw (pt, pd) h
+
 -- an entry came or went: the ends and the books now were made anew
-pub checked_change : (a a' : Account) (ends ends' : List Books) (day day' : Books) → AreChecked a ends day → a'.terms ≡ a.terms → a'.today ≡ a.today → IsAccount a' → length ends' ≡ length ends → AreEnds a' ends' (length ends') → day' ≡ books_of a' a'.today → AreBooks a'.terms day' → AreChecked a' ends' day'
-checked_change a a' ends ends' day day' h terms today sound count kept now books =
+pub checked_change : (a a' : Account) (ends ends' : List Books) (day day' : Books) (lates : Lates) → AreChecked a ends day lates → a'.terms ≡ a.terms → a'.today ≡ a.today → IsAccount a' → length ends' ≡ length ends → AreEnds a' ends' (length ends') → day' ≡ books_of a' a'.today → AreBooks a'.terms day' → AreChecked a' ends' day' lates
+checked_change a a' ends ends' day day' lates h terms today sound count kept now books =
     let b : month_of a'.terms.boarded ≡ month_of a.terms.boarded = ap (λ (t : Terms). month_of t.boarded) terms in
     let m : month_of a'.today ≡ month_of a.today = ap month_of today in
     let before = h.count in
-    record { account = sound; today = subst IsDay (sym today) h.today; count = omega arith; ends = kept; now = now; sound = books }
+    record { account = sound; today = subst IsDay (sym today) h.today; count = omega arith; ends = kept; now = now; sound = books; lates = lates_same a.terms a'.terms a.today a'.today lates terms today h.lates }
 
 -- the business day went on
-pub checked_advance : (a a' : Account) (d : ℕ) (ends : List Books) (day : Books) → IsAccount a → IsDay d → a.today ≤ d → a' ≡ advanced_to d a → month_of a.terms.boarded + length ends ≡ month_of d → AreEnds a ends (length ends) → day ≡ books_of a d → AreBooks a.terms day → AreChecked a' ends day
-checked_advance a a' d ends day h is later same count kept now sound = rw same (record { account = advanced_account a d h later; today = is; count = count; ends = kept; now = now; sound = sound })
+pub checked_advance : (a a' : Account) (d : ℕ) (ends : List Books) (day : Books) (lates : Lates) → IsAccount a → IsDay d → a.today ≤ d → a' ≡ advanced_to d a → month_of a.terms.boarded + length ends ≡ month_of d → AreEnds a ends (length ends) → day ≡ books_of a d → AreBooks a.terms day → AreLates a.terms d lates → AreChecked a' ends day lates
+checked_advance a a' d ends day lates h is later same count kept now sound passed = rw same (record { account = advanced_account a d h later; today = is; count = count; ends = kept; now = now; sound = sound; lates = passed })
 
 -- a change up to the business day is within the cost of its month
 pub within_change : (a : Account) (m old new : ℕ) → IsAccount a → month_of a.terms.boarded ≤ m → m ≤ month_of a.today → new + counted_before a m ≡ old + counted a.terms (live_of a) a.today → new ≤ old + cost_of_month a m

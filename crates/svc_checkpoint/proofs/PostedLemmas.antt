@@ -19,6 +19,7 @@ use Rattle.svc_spec.proofs.TimeLemmas.{past, past_all}
 use Rattle.svc_spec.proofs.PastLemmas.{past_append, length_past}
 use Rattle.svc_spec.proofs.SameLemmas.{posted_same}
 use Rattle.svc_spec.proofs.StepsLemmas.{next_rises, books_first}
+use Rattle.svc_replay.specs.declared.cursor.Lates.{Lates}
 use Rattle.svc_replay.specs.Kept.{IsQuietAfter}
 use Rattle.svc_replay.proofs.LastLemmas.{quiet_month, posted_events, posted_books, posted_within, posted_count}
 use Rattle.svc_checkpoint.specs.Ends.{AreChecked, counted_before}
@@ -40,8 +41,8 @@ stepped a t e b b' h may quiet terms now is =
     ∙ ap (λ x. on a.today (step a.terms (event_of e) (on e.day x))) now
     ∙ sym (posted_books a e h may quiet)
 
-checked_onto : (a : Account) (t : Terms) (e : Entry) (ends : List Books) (b b' : Books) → AreChecked a ends b → MayPost a e → IsAccount (posted e a) → IsQuietAfter a e.day → t ≡ a.terms → b' ≡ on b.day (step t (event_of e) (on e.day b)) → AreBooks t b' → AreChecked (posted e a) ends b'
-checked_onto a t e ends b b' h may h' quiet terms is sound =
+checked_onto : (a : Account) (t : Terms) (e : Entry) (ends : List Books) (b b' : Books) (lates : Lates) → AreChecked a ends b lates → MayPost a e → IsAccount (posted e a) → IsQuietAfter a e.day → t ≡ a.terms → b' ≡ on b.day (step t (event_of e) (on e.day b)) → AreBooks t b' → AreChecked (posted e a) ends b' lates
+checked_onto a t e ends b b' lates h may h' quiet terms is sound =
     let month = quiet_month a e.day may.since quiet in
     let count = h.count in
     let until = may.until in
@@ -53,12 +54,13 @@ checked_onto a t e ends b b' h may h' quiet terms is sound =
       ends = ends_fewer (posted e a) ends (month_of e.day - month_of a.terms.boarded) (length ends) (posted_ends a (posted e a) e ends (length ends) h.account h.ends may refl low) (omega arith);
       now = stepped a t e b b' h.account may quiet terms h.now is;
       sound = subst (λ x. AreBooks x b') terms sound;
+      lates = h.lates;
     }
 
 -- the ends that are kept stay, and the books now are moved on
-pub checked_last : (a a' : Account) (t : Terms) (e : Entry) (ends : List Books) (b b' : Books) → AreChecked a ends b → MayPost a e → IsAccount a' → a' ≡ posted e a → IsQuietAfter a e.day → t ≡ a'.terms → b' ≡ on b.day (step t (event_of e) (on e.day b)) → AreBooks t b' → AreChecked a' ends b'
-checked_last a a' t e ends b b' h may h' is quiet terms step sound =
-    subst (λ x. AreChecked x ends b') (sym is) (checked_onto a t e ends b b' h may (subst IsAccount is h') quiet (terms ∙ ap (λ (x : Account). x.terms) is) step sound)
+pub checked_last : (a a' : Account) (t : Terms) (e : Entry) (ends : List Books) (b b' : Books) (lates : Lates) → AreChecked a ends b lates → MayPost a e → IsAccount a' → a' ≡ posted e a → IsQuietAfter a e.day → t ≡ a'.terms → b' ≡ on b.day (step t (event_of e) (on e.day b)) → AreBooks t b' → AreChecked a' ends b' lates
+checked_last a a' t e ends b b' lates h may h' is quiet terms step sound =
+    subst (λ x. AreChecked x ends b' lates) (sym is) (checked_onto a t e ends b b' lates h may (subst IsAccount is h') quiet (terms ∙ ap (λ (x : Account). x.terms) is) step sound)
 
 -- ---- what it counts
 

@@ -9,7 +9,9 @@ use std::alloc::Global;
 use std::marker::Model;
 use std::sync::ledger::Ledger;
 use svc_base::{Day, Month, OutOfMemory, Steps, make_room, month_of};
-use svc_replay::{BookFault, LoanAccount, LoanBooks, facts_between, fold_last, fold_on};
+use svc_replay::{
+    BookFault, Cursor, Lates, LoanAccount, LoanBooks, facts_between, fold_last, fold_on,
+};
 use svc_types::{Books, Entry, MonthFacts, Terms};
 
 /// By how many months at least the list of their ends grows.
@@ -23,6 +25,7 @@ pub struct Checked {
     kept: LoanAccount,
     ends: Vec<Books>,
     now: Books,
+    lates: Lates,
 }
 
 impl Model for Checked {
@@ -41,7 +44,7 @@ impl Model for Checked {
       };
     } };
 
-    ghost invariant = { λ c. AreChecked c.kept.account c.ends.items c.now };
+    ghost invariant = { λ c. AreChecked c.kept.account c.ends.items c.now c.lates };
 }
 
 impl LoanBooks for Checked {
@@ -69,8 +72,15 @@ impl LoanBooks for Checked {
         let mut ends = Vec::new(alloc);
         make_room(&mut ends, months_between(boarded, today), STEP)?;
         let mut now = kept.refolded(boarded, steps);
-        push_on(&kept, &mut ends, &mut now, today, steps);
-        Ok(Checked { kept, ends, now })
+        let mut cursor = Cursor::after(kept.terms(), &kept.live(), boarded);
+        push_on(&kept, &mut ends, &mut now, &mut cursor, today, steps);
+        let lates = cursor.lates();
+        Ok(Checked {
+            kept,
+            ends,
+            now,
+            lates,
+        })
     }
 
     #[inline(always)]
@@ -121,7 +131,21 @@ impl LoanBooks for Checked {
             months_between(self.kept.today(), today),
             STEP,
         )?;
-        push_on(&self.kept, &mut self.ends, &mut self.now, today, steps);
+        let mut cursor = Cursor::after_all(
+            self.kept.terms(),
+            &self.kept.live(),
+            self.kept.today(),
+            &self.lates,
+        );
+        push_on(
+            &self.kept,
+            &mut self.ends,
+            &mut self.now,
+            &mut cursor,
+            today,
+            steps,
+        );
+        self.lates = cursor.lates();
         self.kept.advance(today);
         Ok(())
     }

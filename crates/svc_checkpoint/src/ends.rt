@@ -5,12 +5,13 @@ ghost use Rattle.svc_base.specs.Calendar.{month_of as month_number, IsDay};
 ghost use Rattle.svc_spec.specs.Accounts.{IsAccount, live_of, books_of};
 ghost use Rattle.svc_spec.specs.Books.{AreBooks};
 ghost use Rattle.svc_spec.specs.Months.{counted, books_at_end};
+ghost use Rattle.svc_replay.specs.Left.{IsPlace};
 ghost use Rattle.svc_checkpoint.specs.Ends as rule;
 
 use std::sync::ledger::Ledger;
 use svc_apply::start;
 use svc_base::{Day, Month, Steps, last_day, month_of};
-use svc_replay::{LoanAccount, fold_on};
+use svc_replay::{Cursor, LoanAccount, fold_along, fold_on};
 use svc_types::Books;
 
 /// How many months a month is after the boarded one.
@@ -19,6 +20,32 @@ pub(crate) fn place_of(kept: &LoanAccount, month: Month) -> usize
     ensures { month_number kept.now.account.terms.boarded + result ≡ month }
 {
     (month.number() - month_of(kept.terms().boarded).number()) as usize
+}
+
+/// The books at the end of the month before one; in the boarded month those of the boarded day.
+fn folded_before<L: Ledger>(
+    kept: &LoanAccount,
+    ends: &[Books],
+    month: Month,
+    steps: &mut Steps<L>,
+) -> Books
+    requires after { month_number kept.now.account.terms.boarded ≤ month }
+    requires until { month ≤ month_number kept.now.account.today }
+    requires count { month ≤ month_number kept.now.account.terms.boarded + length ends.now }
+    requires ends { rule.AreEnds kept.now.account ends.now
+        (month - month_number kept.now.account.terms.boarded) }
+    ensures books { result ≡ books_of kept.now.account result.day }
+    ensures day { result.day ≡ rule.day_before kept.now.account month }
+    ensures sound { AreBooks kept.now.account.terms result }
+    ensures steps { steps.new + rule.counted_before kept.now.account month
+        ≡ steps.old + counted kept.now.account.terms (live_of kept.now.account) result.day }
+{
+    kept.is_account();
+    let place = place_of(kept, month);
+    if place == 0 {
+        return kept.refolded(kept.terms().boarded, steps);
+    }
+    ends[place - 1]
 }
 
 /// The books at a day, folded on from the end of the month before; in the boarded month from boarding.
@@ -40,11 +67,7 @@ pub(crate) fn folded<L: Ledger>(
         ≡ steps.old + counted kept.now.account.terms (live_of kept.now.account) day }
 {
     kept.is_account();
-    let place = place_of(kept, month_of(day));
-    if place == 0 {
-        return kept.refolded(day, steps);
-    }
-    let mut books = ends[place - 1];
+    let mut books = folded_before(kept, ends, month_of(day), steps);
     fold_on(&mut books, kept.terms(), &kept.live(), day, steps);
     books
 }
@@ -74,23 +97,31 @@ pub(crate) fn refreshed<L: Ledger>(
         + counted kept.now.account.terms (live_of kept.now.account) kept.now.account.today }
 {
     kept.is_account();
+    let terms = kept.terms();
+    let live = kept.live();
     let last = month_of(kept.today());
+    let mut books = folded_before(kept, ends, from, steps);
+    let mut cursor = Cursor::after(terms, &live, books.day);
     let mut month = from;
     while month < last {
-        let end = folded(kept, ends, last_day(month), steps);
+        let day = last_day(month);
+        fold_along(&mut books, &mut cursor, terms, &live, day, steps);
         let place = place_of(kept, month);
-        ends[place] = end;
+        ends[place] = books;
         month = month.plus(1);
     }
-    folded(kept, ends, kept.today(), steps)
+    fold_along(&mut books, &mut cursor, terms, &live, kept.today(), steps);
+    books
 }
 
-/// Moves books on to a later day, and adds the ends of the months from theirs to the one before that day.
+/// Moves books and their cursor on to a later day, and adds the ends of the months from theirs to the one before that
+/// day.
 #[inline(always)]
 pub(crate) fn push_on<L: Ledger>(
     kept: &LoanAccount,
     ends: &mut Vec<Books>,
     now: &mut Books,
+    cursor: &mut Cursor,
     day: Day,
     steps: &mut Steps<L>,
 )
@@ -98,6 +129,7 @@ pub(crate) fn push_on<L: Ledger>(
     requires after { kept.now.account.terms.boarded ≤ now.old.day }
     requires until { now.old.day ≤ day }
     requires books { now.old ≡ books_of kept.now.account now.old.day }
+    requires place { IsPlace kept.now.account.terms (live_of kept.now.account) now.old.day cursor.old }
     requires count { month_number kept.now.account.terms.boarded + length ends.old.items
         ≡ month_number now.old.day }
     requires ends { rule.AreEnds kept.now.account ends.old.items (length ends.old.items) }
@@ -108,6 +140,7 @@ pub(crate) fn push_on<L: Ledger>(
     ensures capacity { vec_capacity ends.new ≡ vec_capacity ends.old }
     ensures books { now.new ≡ books_of kept.now.account day }
     ensures sound { AreBooks kept.now.account.terms now.new }
+    ensures place { IsPlace kept.now.account.terms (live_of kept.now.account) day cursor.new }
     ensures steps { steps.new + counted kept.now.account.terms (live_of kept.now.account) now.old.day
         ≡ steps.old + counted kept.now.account.terms (live_of kept.now.account) day }
 {
@@ -115,11 +148,18 @@ pub(crate) fn push_on<L: Ledger>(
     let last = month_of(day);
     let mut month = month_of(now.day);
     while month < last {
-        fold_on(now, kept.terms(), &kept.live(), last_day(month), steps);
+        fold_along(
+            now,
+            cursor,
+            kept.terms(),
+            &kept.live(),
+            last_day(month),
+            steps,
+        );
         ends.push_reserved(*now);
         month = month.plus(1);
     }
-    fold_on(now, kept.terms(), &kept.live(), day, steps);
+    fold_along(now, cursor, kept.terms(), &kept.live(), day, steps);
 }
 
 /// The books at the end of the month before one, and before the boarded one those at boarding.
@@ -143,7 +183,13 @@ pub(crate) fn end_before(kept: &LoanAccount, ends: &[Books], month: Month) -> Bo
 pub(crate) fn end_of(kept: &LoanAccount, ends: &[Books], now: &Books, month: Month) -> Books
     requires after { month_number kept.now.account.terms.boarded ≤ month }
     requires until { month ≤ month_number kept.now.account.today }
-    requires checked { rule.AreChecked kept.now.account ends.now now.now }
+    requires account { IsAccount kept.now.account }
+    requires today { IsDay kept.now.account.today }
+    requires count { month_number kept.now.account.terms.boarded + length ends.now
+        ≡ month_number kept.now.account.today }
+    requires ends { rule.AreEnds kept.now.account ends.now (length ends.now) }
+    requires now { now.now ≡ books_of kept.now.account kept.now.account.today }
+    requires sound { AreBooks kept.now.account.terms now.now }
     ensures books { result ≡ books_at_end kept.now.account month }
     ensures sound { AreBooks kept.now.account.terms result }
 {

@@ -52,17 +52,17 @@ insert_parts P e (x ∷ xs) h =
           (rest.0, All-cons P x xs (All-head P x (insert_event e xs) g) rest.1)
     ] h
 
-by_day_parts : (P : Event → Type 0) (xs : List Event) → All P (by_day xs) → All P xs
+pub by_day_parts : (P : Event → Type 0) (xs : List Event) → All P (by_day xs) → All P xs
 by_day_parts P [] h = h
 by_day_parts P (x ∷ xs) h =
     let both = insert_parts P x (by_day xs) h in
     All-cons P x xs both.0 (by_day_parts P xs both.1)
 
-all_front : (P : Event → Type 0) (xs ys : List Event) → All P (xs ++ ys) → All P xs
+pub all_front : (P : Event → Type 0) (xs ys : List Event) → All P (xs ++ ys) → All P xs
 all_front P [] ys h = λ k x lt. absurd (omega arith)
 all_front P (x ∷ xs) ys h = All-cons P x xs (All-head P x (xs ++ ys) h) (all_front P xs ys (All-tail P x (xs ++ ys) h))
 
-all_back : (P : Event → Type 0) (xs ys : List Event) → All P (xs ++ ys) → All P ys
+pub all_back : (P : Event → Type 0) (xs ys : List Event) → All P (xs ++ ys) → All P ys
 all_back P [] ys h = h
 all_back P (x ∷ xs) ys h = all_back P xs ys (All-tail P x (xs ++ ys) h)
 

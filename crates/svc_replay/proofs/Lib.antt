@@ -1,6 +1,7 @@
 pub mod LeftLemmas
 pub mod AfterLemmas
 pub mod ChosenLemmas
+pub mod CursorLemmas
 pub mod KeptLemmas
 pub mod PlainLemmas
 pub mod RemoveLemmas

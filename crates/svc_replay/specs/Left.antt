@@ -1,11 +1,13 @@
 -- The events of a loan that are left from a place on.
-use Rattle.std.specs.Prelude.{◌≡◌, ℕ, ◌+◌, ◌-◌, ◌≤◌, ◌<◌, nat_le, Bool, true, false}
+use Rattle.std.specs.Prelude.{◌≡◌, ℕ, ◌+◌, ◌-◌, ◌≤◌, ◌<◌, nat_lt, if◌then◌else◌}
 use Rattle.std.specs.Prelude.{Option, Some, None, List, [], ◌∷◌, ◌++◌, take, drop}
 use Rattle.std.specs.List.{All}
 use Rattle.svc_base.specs.Calendar.{month_of}
 use Rattle.svc_types.specs.declared.terms.Terms.{Terms}
 use Rattle.svc_types.specs.declared.account.Entry.{Entry}
 use Rattle.svc_types.specs.declared.account.Event.{Event}
+use Rattle.svc_replay.specs.declared.cursor.Lates.{Lates}
+use Rattle.svc_replay.specs.declared.cursor.Cursor.{Cursor}
 use Rattle.svc_spec.specs.Events.{late_day, month_marks_from, late_marks_from, up_to, entry_events, by_day}
 
 -- the month marks up to a day after month m
@@ -34,18 +36,30 @@ pub record IsAfter (t : Terms) (live : List Entry) (d m k i : ℕ) : Type 0 wher
   pub taken : All (λ e. e.day ≤ d) (take i live)
   pub later : All (λ e. d < e.day) (drop i live)
 
--- the first of some events, where there is one, and the others, none of which is earlier
-abbrev pub IsFirst : Option Event → List Event → List Event → Type 0
-IsFirst None all rest = all ≡ []
-IsFirst (Some e) all rest = (all ≡ e ∷ rest) × All (λ x. e.day ≤ x.day) rest
+-- a place up to a day: what has been passed is not after it
+pub record IsBy (t : Terms) (live : List Entry) (d m k i : ℕ) : Type 0 where
+  pub month : m ≤ month_of d
+  pub few : k ≤ t.term
+  pub over : 1 ≤ k → late_day t k ≤ d
+  pub taken : All (λ e. e.day ≤ d) (take i live)
+
+-- the day of the late mark after installment k, where there is one
+abbrev pub next_late : Terms → ℕ → Option ℕ
+next_late t k = if nat_lt k t.term then Some (late_day t (k + 1)) else None
+
+-- the late marks up to a day, and the day of the next one
+pub record AreLates (t : Terms) (d : ℕ) (l : Lates) : Type 0 where
+  pub few : l.count ≤ t.term
+  pub over : 1 ≤ l.count → late_day t l.count ≤ d
+  pub open_grace : l.count < t.term → d < late_day t (l.count + 1)
+  pub next : l.next ≡ next_late t l.count
+
+-- a cursor after all events up to a day
+pub record IsPlace (t : Terms) (live : List Entry) (d : ℕ) (c : Cursor) : Type 0 where
+  pub after : IsAfter t live d c.month c.lates.count c.entry
+  pub next : c.lates.next ≡ next_late t c.lates.count
 
 -- the first of some events, where there is one, and the others
 abbrev pub Follows : Option Event → List Event → List Event → Type 0
 Follows None all rest = all ≡ []
 Follows (Some e) all rest = all ≡ e ∷ rest
-
--- whether an event comes before another one, or both on one day
-abbrev pub leads : Option Event → Option Event → Bool
-leads None b = false
-leads (Some a) None = true
-leads (Some a) (Some b) = nat_le a.day b.day

@@ -11,7 +11,7 @@ ghost use Rattle.svc_spec.specs.Step.{step};
 ghost use Rattle.svc_spec.specs.Months.{counted};
 ghost use Rattle.svc_spec.proofs.DayLemmas.{on};
 ghost use Rattle.svc_spec.proofs.EventLemmas.{CanFold};
-ghost use Rattle.svc_replay.specs.Left.{left};
+ghost use Rattle.svc_replay.specs.Left.{left, next_late, IsBy, IsPlace};
 
 use crate::cursor::Cursor;
 use crate::entries::Live;
@@ -33,7 +33,8 @@ pub fn refold<L: Ledger>(terms: &Terms, live: &Live, day: Day, steps: &mut Steps
     ensures steps { steps.new + 1 ≡ steps.old + counted terms.now live.now day }
 {
     let mut books = start(terms);
-    fold_left(&mut books, Cursor::new(terms), terms, live, day, steps);
+    let mut cursor = Cursor::new(terms);
+    fold_left(&mut books, &mut cursor, terms, live, day, steps);
     books
 }
 
@@ -58,7 +59,34 @@ pub fn fold_on<L: Ledger>(
     ensures steps { steps.new + counted terms.now live.now books.old.day
         ≡ steps.old + counted terms.now live.now day }
 {
-    let cursor = Cursor::after(terms, live, books.day);
+    let mut cursor = Cursor::after(terms, live, books.day);
+    fold_along(books, &mut cursor, terms, live, day, steps);
+}
+
+/// Folds the books of a loan on from a place after all events up to their day, to the place after all up to a later
+/// one. It counts as `fold_on` does.
+pub fn fold_along<L: Ledger>(
+    books: &mut Books,
+    cursor: &mut Cursor,
+    terms: &Terms,
+    live: &Live,
+    day: Day,
+    steps: &mut Steps<L>,
+)
+    requires terms { IsSound terms.now }
+    requires boarded { IsReadDay terms.now.boarded }
+    requires since { terms.now.boarded ≤ books.old.day }
+    requires until { books.old.day ≤ day }
+    requires count { length live.now ≤ 4096 }
+    requires entries { AreEntries terms.now live.now }
+    requires earlier { books.old ≡ books_at terms.now live.now books.old.day }
+    requires place { IsPlace terms.now live.now books.old.day cursor.old }
+    ensures books { books.new ≡ books_at terms.now live.now day }
+    ensures sound { AreBooks terms.now books.new }
+    ensures place { IsPlace terms.now live.now day cursor.new }
+    ensures steps { steps.new + counted terms.now live.now books.old.day
+        ≡ steps.old + counted terms.now live.now day }
+{
     fold_left(books, cursor, terms, live, day, steps);
 }
 
@@ -101,7 +129,7 @@ pub(crate) fn is_quiet(terms: &Terms, live: &Live, day: Day, until: Day) -> bool
 /// Folds what is left of the events up to a day into books.
 fn fold_left<L: Ledger>(
     books: &mut Books,
-    cursor: Cursor,
+    cursor: &mut Cursor,
     terms: &Terms,
     live: &Live,
     day: Day,
@@ -110,15 +138,17 @@ fn fold_left<L: Ledger>(
     requires terms { IsSound terms.now }
     requires boarded { IsReadDay terms.now.boarded }
     requires entries { AreEntries terms.now live.now }
+    requires next { cursor.old.lates.next ≡ next_late terms.now cursor.old.lates.count }
     requires can { CanFold terms.now books.old
-        (left terms.now live.now day cursor.month cursor.late cursor.entry) }
+        (left terms.now live.now day cursor.old.month cursor.old.lates.count cursor.old.entry) }
     ensures books { books.new ≡ on day (folded terms.now books.old
-        (left terms.now live.now day cursor.month cursor.late cursor.entry)) }
+        (left terms.now live.now day cursor.old.month cursor.old.lates.count cursor.old.entry)) }
     ensures sound { AreBooks terms.now books.new }
+    ensures place { IsBy terms.now live.now day cursor.old.month cursor.old.lates.count cursor.old.entry
+        → IsPlace terms.now live.now day cursor.new }
     ensures steps { steps.new + books.old.next ≡ steps.old
-        + length (left terms.now live.now day cursor.month cursor.late cursor.entry) + books.new.next }
+        + length (left terms.now live.now day cursor.old.month cursor.old.lates.count cursor.old.entry) + books.new.next }
 {
-    let mut cursor = cursor;
     while let Some(event) = cursor.next(terms, live, day) {
         fold_step(books, terms, &event, steps);
     }

@@ -15,9 +15,10 @@ mod rows;
 
 pub use account::LoanAccount;
 pub use arrears::arrears_are_least;
+pub use cursor::{Cursor, Lates};
 pub use entries::Live;
 pub use fault::BookFault;
-pub use folding::{fold_last, fold_on, refold};
+pub use folding::{fold_along, fold_last, fold_on, refold};
 pub use history_lines::history;
 pub use laws::{agree, events_stand_in_order, histories_add_up};
 pub use loan_books::LoanBooks;

@@ -11,8 +11,8 @@ pub returns-then-place-ends-clause-books : goal.returns-then-place-ends-clause-b
 returns-then-place-ends-clause-books c =
     let a = c.args.kept.now.account in
     let m = c.args.month in
-    let is : c.index-ends-place.result ≡ books_of a (last_day m) = at_end a c.args.ends.now _ c.place_of-place.result m c.index-ends-place.result c.requires.checked.ends c.index-ends-place.is (omega arith) (omega arith) in
-    let count = c.requires.checked.count in
+    let is : c.index-ends-place.result ≡ books_of a (last_day m) = at_end a c.args.ends.now _ c.place_of-place.result m c.index-ends-place.result c.requires.ends c.index-ends-place.is (omega arith) (omega arith) in
+    let count = c.requires.count in
     let end = end_before_next m a.today (omega arith) in
     is ∙ sym (past_month a m (last_day m) c.requires.after refl end)
 
@@ -20,10 +20,10 @@ pub returns-then-place-ends-clause-sound : goal.returns-then-place-ends-clause-s
 returns-then-place-ends-clause-sound c =
     let a = c.args.kept.now.account in
     let m = c.args.month in
-    let is : c.index-ends-place.result ≡ books_of a (last_day m) = at_end a c.args.ends.now _ c.place_of-place.result m c.index-ends-place.result c.requires.checked.ends c.index-ends-place.is (omega arith) (omega arith) in
-    subst (AreBooks a.terms) (sym is) (account_books a (last_day m) c.requires.checked.account)
+    let is : c.index-ends-place.result ≡ books_of a (last_day m) = at_end a c.args.ends.now _ c.place_of-place.result m c.index-ends-place.result c.requires.ends c.index-ends-place.is (omega arith) (omega arith) in
+    subst (AreBooks a.terms) (sym is) (account_books a (last_day m) c.requires.account)
 
 pub returns-clause-books : goal.returns-clause-books
 returns-clause-books c =
-    let count = c.requires.checked.count in
-    end_now c.args.kept.now.account c.args.month c.args.now.now c.requires.checked.today c.requires.after (omega arith) c.requires.checked.now
+    let count = c.requires.count in
+    end_now c.args.kept.now.account c.args.month c.args.now.now c.requires.today c.requires.after (omega arith) c.requires.now

@@ -2,6 +2,7 @@ use Rattle.std.proofs.Common.{◌≡◌, ◌+◌, ◌-◌, ◌≤◌, length, ve
 use Rattle.svc_base.specs.Calendar.{month_of, last_day}
 use Rattle.svc_spec.specs.Accounts.{live_of, books_of}
 use Rattle.svc_spec.specs.Months.{counted}
+use Rattle.svc_replay.specs.Left.{IsPlace}
 use Rattle.svc_checkpoint.specs.Ends.{AreEnds}
 use Rattle.svc_checkpoint.proofs.ends.push_on.Given as goal
 
@@ -16,6 +17,7 @@ invariant-loop-last g l = record {
   count : month_of l.kept.account.terms.boarded + length l.ends.items ≡ l.month;
   len : vec_len l.ends + (l.last - l.month) ≤ vec_capacity l.fn.ends;
   capacity : vec_capacity l.ends ≡ vec_capacity l.fn.ends;
+  place : IsPlace l.kept.account.terms (live_of l.kept.account) l.now.day l.cursor;
   ends : AreEnds l.kept.account l.ends.items (length l.ends.items);
   steps : l.steps + counted l.kept.account.terms (live_of l.kept.account) l.fn.now.day ≡ l.fn.steps + counted l.kept.account.terms (live_of l.kept.account) l.now.day;
 }

@@ -1,45 +1,102 @@
-use Rattle.std.proofs.Common.{◌≡◌, ◌+◌, ◌<◌, length, get_or, length-set, sym, ap, ◌∙◌, arith, rules}
+use Rattle.std.proofs.Common.{◌≡◌, ◌+◌, ◌<◌, length-set, refl, sym, ap, ◌∙◌, arith, rules}
 use Rattle.svc_base.specs.Calendar.{month_of, last_day}
+use Rattle.svc_types.specs.declared.terms.Terms.{Terms}
 use Rattle.svc_types.specs.declared.books.Books.{Books}
 use Rattle.svc_spec.specs.Accounts.{live_of, books_of}
 use Rattle.svc_spec.specs.Months.{counted}
-use Rattle.svc_spec.proofs.MonthLemmas.{end_before_next}
-use Rattle.svc_checkpoint.specs.Ends.{counted_before}
-use Rattle.svc_checkpoint.proofs.EndsLemmas.{month_of_end, ends_set, counted_end, steps_next}
+use Rattle.svc_spec.proofs.MonthLemmas.{day_by_end}
+use Rattle.svc_checkpoint.specs.Ends.{day_before}
+use Rattle.svc_checkpoint.proofs.EndsLemmas.{month_of_end, ends_set, own_day, of_account, counted_of, live_count, live_fold, before_since, before_until, day_next, place_of, place_in}
 use Rattle.svc_checkpoint.proofs.ends.refreshed.Goals as goal
 
-pub folded-end-requires-clause-until : goal.folded-end-requires-clause-until
-folded-end-requires-clause-until g c =
-    let more : c.loop-last.month < c.month_of-last.result = search rules in
-    let end = end_before_next c.loop-last.month c.args.kept.now.account.today (omega arith) in
-    omega arith
+pub after-cursor-requires-clause-order : goal.after-cursor-requires-clause-order
+after-cursor-requires-clause-order g c =
+    let all = live_fold c.args.kept.now.account c.terms-terms.result.now c.live-live.result c.is_account.ensures c.terms-terms.ensures c.live-live.ensures in
+    all.order
 
-pub folded-end-requires-clause-count : goal.folded-end-requires-clause-count
-folded-end-requires-clause-count g c =
-    let more : c.loop-last.month < c.month_of-last.result = search rules in
-    let same = ap month_of c.last_day.ensures ∙ month_of_end c.loop-last.month in
-    let count = c.loop-last.invariant.count in
-    omega (arith, ap length c.deref.ensures.value, same)
+pub fold_along-requires-clause-since : goal.fold_along-requires-clause-since
+fold_along-requires-clause-since g c =
+    let boarded = ap (λ (t : Terms). t.boarded) c.terms-terms.ensures in
+    omega (arith, boarded, c.loop-last.invariant.day, before_since c.args.kept.now.account c.loop-last.month c.is_account.ensures)
 
-pub folded-end-requires-clause-ends : goal.folded-end-requires-clause-ends
-folded-end-requires-clause-ends g c i b lt =
-    let same = ap month_of c.last_day.ensures ∙ month_of_end c.loop-last.month in
-    ap (λ xs. get_or xs i b) c.deref.ensures.value ∙ c.loop-last.invariant.ends i b (omega (arith, same))
+pub fold_along-requires-clause-until : goal.fold_along-requires-clause-until
+fold_along-requires-clause-until g c =
+    let a = c.args.kept.now.account in
+    let m = c.loop-last.month in
+    let low = c.loop-last.invariant.low in
+    let same = month_of_end m in
+    let since = day_by_end a.terms.boarded m c.is_account.ensures.boarded (omega arith) in
+    omega (arith, c.loop-last.invariant.day, c.last_day-day.ensures, before_until a m (last_day m) (omega arith) since)
+
+pub fold_along-requires-clause-count : goal.fold_along-requires-clause-count
+fold_along-requires-clause-count g c = live_count c.args.kept.now.account c.live-live.result c.is_account.ensures c.live-live.ensures
+
+pub fold_along-requires-clause-entries : goal.fold_along-requires-clause-entries
+fold_along-requires-clause-entries g c = live_fold c.args.kept.now.account c.terms-terms.result.now c.live-live.result c.is_account.ensures c.terms-terms.ensures c.live-live.ensures
+
+pub fold_along-requires-clause-earlier : goal.fold_along-requires-clause-earlier
+fold_along-requires-clause-earlier g c = c.loop-last.invariant.books ∙ sym (of_account c.args.kept.now.account c.terms-terms.result.now c.live-live.result c.loop-last.books.day c.terms-terms.ensures c.live-live.ensures)
+
+pub fold_along-requires-clause-place : goal.fold_along-requires-clause-place
+fold_along-requires-clause-place g c = place_of c.args.kept.now.account c.terms-terms.result.now c.live-live.result c.loop-last.books.day c.loop-last.books.day c.loop-last.cursor c.terms-terms.ensures c.live-live.ensures refl c.loop-last.invariant.place
+
+pub fold_along-requires-2-clause-since : goal.fold_along-requires-2-clause-since
+fold_along-requires-2-clause-since g c =
+    let boarded = ap (λ (t : Terms). t.boarded) c.terms-terms.ensures in
+    omega (arith, boarded, c.loop-last.invariant.day, before_since c.args.kept.now.account c.loop-last.month c.is_account.ensures)
+
+pub fold_along-requires-2-clause-until : goal.fold_along-requires-2-clause-until
+fold_along-requires-2-clause-until g c =
+    let a = c.args.kept.now.account in
+    let high = c.loop-last.invariant.high in
+    let after = c.is_account.ensures.after in
+    let last = ap month_of c.today.ensures in
+    omega (arith, c.loop-last.invariant.day, c.today-2.ensures, before_until a c.loop-last.month a.today (omega arith) after)
+
+pub fold_along-requires-2-clause-count : goal.fold_along-requires-2-clause-count
+fold_along-requires-2-clause-count g c = live_count c.args.kept.now.account c.live-live.result c.is_account.ensures c.live-live.ensures
+
+pub fold_along-requires-2-clause-entries : goal.fold_along-requires-2-clause-entries
+fold_along-requires-2-clause-entries g c = live_fold c.args.kept.now.account c.terms-terms.result.now c.live-live.result c.is_account.ensures c.terms-terms.ensures c.live-live.ensures
+
+pub fold_along-requires-2-clause-earlier : goal.fold_along-requires-2-clause-earlier
+fold_along-requires-2-clause-earlier g c = c.loop-last.invariant.books ∙ sym (of_account c.args.kept.now.account c.terms-terms.result.now c.live-live.result c.loop-last.books.day c.terms-terms.ensures c.live-live.ensures)
+
+pub fold_along-requires-2-clause-place : goal.fold_along-requires-2-clause-place
+fold_along-requires-2-clause-place g c = place_of c.args.kept.now.account c.terms-terms.result.now c.live-live.result c.loop-last.books.day c.loop-last.books.day c.loop-last.cursor c.terms-terms.ensures c.live-live.ensures refl c.loop-last.invariant.place
+
+pub loop-last-init : goal.loop-last-init
+loop-last-init g c = record {
+  low = omega arith;
+  high = omega arith;
+  count = refl;
+  len = refl;
+  capacity = refl;
+  ends = c.requires.ends;
+  books = c.folded_before-books.ensures.books;
+  day = c.folded_before-books.ensures.day;
+  place = place_in c.args.kept.now.account c.terms-terms.result.now c.live-live.result c.folded_before-books.result.day c.folded_before-books.result.day c.after-cursor.result c.terms-terms.ensures c.live-live.ensures refl c.after-cursor.ensures;
+  steps = c.folded_before-books.ensures.steps;
+}
 
 pub loop-last-preserved : goal.loop-last-preserved
 loop-last-preserved g c =
     let a = c.args.kept.now.account in
+    let t = c.terms-terms.result.now in
+    let live = c.live-live.result in
     let m = c.loop-last.month in
-    let r = c.folded-end.result in
+    let r = c.fold_along.new.books in
     let old = c.loop-last.ends.items in
     let place = c.place_of-place.result in
     let before = c.loop-last.invariant in
     let low = before.low in
     let count = before.count in
-    let more : m < c.month_of-last.result = search rules in
-    let same = ap month_of c.last_day.ensures ∙ month_of_end m in
-    let is : r ≡ books_of a (last_day (month_of a.terms.boarded + place)) = c.folded-end.ensures.books ∙ ap (books_of a) (c.last_day.ensures ∙ ap last_day (sym c.place_of-place.ensures)) in
-    let next : counted_before a c.plus-month.result ≡ counted a.terms (live_of a) c.last_day.result = ap (counted_before a) c.plus-month.ensures ∙ counted_end a m (omega arith) ∙ ap (counted a.terms (live_of a)) (sym c.last_day.ensures) in
+    let more : m < c.month_of-last.result = search (rules, c.loop-last-test.ensures, c.loop-last-test.true, c.lt.ensures) in
+    let own = own_day t live c.last_day-day.result r c.fold_along.ensures.books in
+    let is : r ≡ books_of a (last_day (month_of a.terms.boarded + place)) = c.fold_along.ensures.books ∙ of_account a t live c.last_day-day.result c.terms-terms.ensures c.live-live.ensures ∙ ap (books_of a) (c.last_day-day.ensures ∙ ap last_day (sym c.place_of-place.ensures)) in
+    let here = counted_of a t live c.loop-last.books.day c.terms-terms.ensures c.live-live.ensures in
+    let there = counted_of a t live c.last_day-day.result c.terms-terms.ensures c.live-live.ensures in
+    let last = ap (counted a.terms (live_of a)) (sym own.0) in
     record {
       low = omega arith;
       high = omega arith;
@@ -47,5 +104,21 @@ loop-last-preserved g c =
       len = before.len;
       capacity = before.capacity;
       ends = λ i b lt. ends_set a old place r (λ k d within. before.ends k d (omega arith)) (omega arith) is i b (omega arith);
-      steps = steps_next c.folded-end.new.steps c.loop-last.steps c.args.steps.now (counted_before a c.args.from) (counted_before a m) (counted_before a (month_of c.last_day.result)) (counted a.terms (live_of a) c.last_day.result) (counted_before a c.plus-month.result) c.folded-end.ensures.steps before.steps (ap (counted_before a) same) next;
+      books = own.1 ∙ of_account a t live r.day c.terms-terms.ensures c.live-live.ensures;
+      day = own.0 ∙ c.last_day-day.ensures ∙ sym (day_next a m (omega arith)) ∙ ap (day_before a) (sym c.plus-month.ensures);
+      place = place_in a t live c.last_day-day.result r.day c.fold_along.new.cursor c.terms-terms.ensures c.live-live.ensures own.0 c.fold_along.ensures.place;
+      steps = omega (arith, c.fold_along.ensures.steps, here, there, last, before.steps);
     }
+
+pub returns-clause-books : goal.returns-clause-books
+returns-clause-books g c = c.fold_along-2.ensures.books ∙ of_account c.args.kept.now.account c.terms-terms.result.now c.live-live.result c.today-2.result c.terms-terms.ensures c.live-live.ensures ∙ ap (books_of c.args.kept.now.account) c.today-2.ensures
+
+pub returns-clause-steps : goal.returns-clause-steps
+returns-clause-steps g c =
+    let a = c.args.kept.now.account in
+    let t = c.terms-terms.result.now in
+    let live = c.live-live.result in
+    let here = counted_of a t live c.loop-last.books.day c.terms-terms.ensures c.live-live.ensures in
+    let there = counted_of a t live c.today-2.result c.terms-terms.ensures c.live-live.ensures in
+    let last = ap (counted a.terms (live_of a)) c.today-2.ensures in
+    omega (arith, here, there, last, c.loop-last.invariant.steps, c.fold_along-2.ensures.steps)

@@ -11,5 +11,5 @@ returns c quiet =
     let live = c.args.live.now in
     let at = c.after-cursor.result in
     let rest = c.next.new.self in
-    let none = nothing_follows c.next.result (left t live c.args.until at.month at.late at.entry) (left t live c.args.until rest.month rest.late rest.entry) c.is_none.result c.next.ensures c.is_none.ensures quiet in
-    none_past c.args.day (events_to t live c.args.until) (past_left t live c.args.day c.args.until at.month at.late at.entry c.requires.terms (omega arith) c.requires.later c.after-cursor.ensures ∙ none)
+    let none = nothing_follows c.next.result (left t live c.args.until at.month at.lates.count at.entry) (left t live c.args.until rest.month rest.lates.count rest.entry) c.is_none.result c.next.ensures.follows c.is_none.ensures quiet in
+    none_past c.args.day (events_to t live c.args.until) (past_left t live c.args.day c.args.until at.month at.lates.count at.entry c.requires.terms (omega arith) c.requires.later c.after-cursor.ensures.after ∙ none)

@@ -19,15 +19,16 @@ loop-event-preserved g c =
     let b = c.loop-event.books in
     let e = c.in-Some.event in
     let at = c.next.new.self in
-    let rest = left t live c.args.day at.month at.late at.entry in
+    let rest = left t live c.args.day at.month at.lates.count at.entry in
     let before = c.loop-event.invariant in
-    let can : CanFold t b (e ∷ rest) = rw c.in-Some.ensures at before.can in
-    let one = ap length c.in-Some.ensures in
+    let can : CanFold t b (e ∷ rest) = rw c.in-Some.ensures.follows at before.can in
+    let one = ap length c.in-Some.ensures.follows in
     record {
+      next = c.next.ensures.next;
       can = rw c.fold_step.ensures.step (can_fold_step t b e rest c.requires.terms can);
-      books = rw c.fold_step.ensures.step (rw c.in-Some.ensures at before.books);
+      books = rw c.fold_step.ensures.step (rw c.in-Some.ensures.follows at before.books);
       entry = c.next_number-number.ensures.bound;
-      lines = rw (c.in_ok-add_line.ensures, c.next_number-number.ensures.number, c.next_number-number.ensures.left, c.fold_step.ensures.step) (sym (walked t b (drop c.loop-event.entry live) e rest c.loop-event.lines.items) ∙ (rw c.in-Some.ensures at before.lines));
+      lines = rw (c.in_ok-add_line.ensures, c.next_number-number.ensures.number, c.next_number-number.ensures.left, c.fold_step.ensures.step) (sym (walked t b (drop c.loop-event.entry live) e rest c.loop-event.lines.items) ∙ (rw c.in-Some.ensures.follows at before.lines));
       steps = omega (arith, one, before.steps, c.fold_step.ensures.steps);
     }
 
@@ -36,9 +37,10 @@ loop-event-init g c =
     let t = c.args.terms.now in
     let live = c.args.live.now in
     let at = c.new-cursor.result in
-    let all : left t live c.args.day at.month at.late at.entry ≡ events_to t live c.args.day = rw (c.new-cursor.ensures.month, c.new-cursor.ensures.late, c.new-cursor.ensures.entry) (left_start t live c.args.day) in
+    let all : left t live c.args.day at.month at.lates.count at.entry ≡ events_to t live c.args.day = rw (c.new-cursor.ensures.month, c.new-cursor.ensures.late, c.new-cursor.ensures.entry) (left_start t live c.args.day) in
     let first = ap (λ (x : Books). x.next) c.start-books.ensures.start in
     record {
+      next = rw (c.new-cursor.ensures.late) c.new-cursor.ensures.next;
       can = rw (all, c.start-books.ensures.start) (can_fold_start t live c.args.day c.requires.terms c.requires.entries c.requires.count);
       books = rw (all, c.start-books.ensures.start) refl;
       entry = omega arith;
@@ -50,16 +52,16 @@ pub fold_step-requires-clause-amounts : goal.fold_step-requires-clause-amounts
 fold_step-requires-clause-amounts g c =
     let t = c.args.terms.now in
     let at = c.next.new.self in
-    let rest = left t c.args.live.now c.args.day at.month at.late at.entry in
-    let can : CanFold t c.loop-event.books (c.in-Some.event ∷ rest) = rw c.in-Some.ensures at c.loop-event.invariant.can in
+    let rest = left t c.args.live.now c.args.day at.month at.lates.count at.entry in
+    let can : CanFold t c.loop-event.books (c.in-Some.event ∷ rest) = rw c.in-Some.ensures.follows at c.loop-event.invariant.can in
     All-head (λ (e : Event). IsWhat e.what) c.in-Some.event rest can.whats
 
 pub fold_step-requires-clause-limits : goal.fold_step-requires-clause-limits
 fold_step-requires-clause-limits g c =
     let t = c.args.terms.now in
     let at = c.next.new.self in
-    let rest = left t c.args.live.now c.args.day at.month at.late at.entry in
-    let can : CanFold t c.loop-event.books (c.in-Some.event ∷ rest) = rw c.in-Some.ensures at c.loop-event.invariant.can in
+    let rest = left t c.args.live.now c.args.day at.month at.lates.count at.entry in
+    let can : CanFold t c.loop-event.books (c.in-Some.event ∷ rest) = rw c.in-Some.ensures.follows at c.loop-event.invariant.can in
     can_fold_within t c.loop-event.books c.in-Some.event rest c.requires.terms can
 
 pub returns-in_err-add_line-clause-steps : goal.returns-in_err-add_line-clause-steps
@@ -67,23 +69,23 @@ returns-in_err-add_line-clause-steps g c =
     let t = c.args.terms.now in
     let live = c.args.live.now in
     let at = c.next.new.self in
-    let rest = left t live c.args.day at.month at.late at.entry in
+    let rest = left t live c.args.day at.month at.lates.count at.entry in
     let before = c.loop-event.invariant in
-    let one = ap length c.in-Some.ensures in
-    let last : folded t c.fold_step.new.books rest ≡ folded t (start t) (events_to t live c.args.day) = rw c.fold_step.ensures.step (rw c.in-Some.ensures at before.books) in
+    let one = ap length c.in-Some.ensures.follows in
+    let last : folded t c.fold_step.new.books rest ≡ folded t (start t) (events_to t live c.args.day) = rw c.fold_step.ensures.step (rw c.in-Some.ensures.follows at before.books) in
     omega (arith, one, before.steps, c.fold_step.ensures.steps, folded_rises t c.fold_step.new.books rest, ap (λ (x : Books). x.next) last, books_next t live c.args.day)
 
 pub returns-clause-lines : goal.returns-clause-lines
 unfolding passed
 returns-clause-lines g c =
     let t = c.args.terms.now in
-    sym (append-nil c.loop-event.lines.items) ∙ (rw c.in_default.ensures at c.loop-event.invariant.lines)
+    sym (append-nil c.loop-event.lines.items) ∙ (rw c.in_default.ensures.follows at c.loop-event.invariant.lines)
 
 pub returns-clause-steps : goal.returns-clause-steps
 returns-clause-steps g c =
     let t = c.args.terms.now in
     let live = c.args.live.now in
     let before = c.loop-event.invariant in
-    let none = ap length c.in_default.ensures in
-    let last : c.loop-event.books ≡ folded t (start t) (events_to t live c.args.day) = rw c.in_default.ensures at before.books in
+    let none = ap length c.in_default.ensures.follows in
+    let last : c.loop-event.books ≡ folded t (start t) (events_to t live c.args.day) = rw c.in_default.ensures.follows at before.books in
     omega (arith, none, before.steps, ap (λ (x : Books). x.next) last, books_next t live c.args.day)

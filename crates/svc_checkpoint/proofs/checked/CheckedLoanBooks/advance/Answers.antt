@@ -1,9 +1,10 @@
-use Rattle.std.proofs.Common.{◌≡◌, ◌+◌, length, sym, ap, ◌∙◌, arith}
+use Rattle.std.proofs.Common.{◌≡◌, ◌+◌, ◌≤◌, length, sym, ap, ◌∙◌, arith}
 use Rattle.svc_base.specs.Calendar.{month_of}
+use Rattle.svc_types.proofs.OrderLemmas.{live_all}
 use Rattle.svc_spec.specs.Accounts.{live_of}
 use Rattle.svc_spec.specs.Months.{counted}
 use Rattle.svc_replay.specs.Kept.{Kept}
-use Rattle.svc_checkpoint.proofs.EndsLemmas.{own_day, checked_advance, within_advance}
+use Rattle.svc_checkpoint.proofs.EndsLemmas.{own_day, place_in, lates_at, checked_advance, within_advance}
 use Rattle.svc_checkpoint.proofs.checked.CheckedLoanBooks.advance.Goals as goal
 
 pub push_on-requires-clause-after : goal.push_on-requires-clause-after
@@ -43,10 +44,24 @@ push_on-requires-clause-room g c =
     let today = ap month_of c.today.ensures in
     omega (arith, c.in_ok-make_room.ensures.ok, c.months_between.ensures)
 
+pub after_all-cursor-requires-clause-until : goal.after_all-cursor-requires-clause-until
+after_all-cursor-requires-clause-until g c =
+    let a = c.self.inside.kept.account in
+    rw (c.live.ensures, c.today-2.ensures) (live_all (λ x. x.day ≤ a.today) a.entries a.reversals c.self.invariant.account.until)
+
+pub after_all-cursor-requires-clause-lates : goal.after_all-cursor-requires-clause-lates
+after_all-cursor-requires-clause-lates g c = rw (c.terms.ensures, c.today-2.ensures) c.self.invariant.lates
+
+pub push_on-requires-clause-place : goal.push_on-requires-clause-place
+push_on-requires-clause-place g c =
+    let a = c.self.inside.kept.account in
+    let own = own_day a.terms (live_of a) a.today c.self.inside.now c.self.invariant.now in
+    place_in a c.terms.result.now c.live.result c.today-2.result c.self.inside.now.day c.after_all-cursor.result c.terms.ensures c.live.ensures (own.0 ∙ sym c.today-2.ensures) c.after_all-cursor.ensures
+
 pub invariant_of-self-2 : goal.invariant_of-self-2
 invariant_of-self-2 g c =
     let same : c.args.self.now.account ≡ c.self.inside.kept.account = ap (λ (k : Kept). k.account) (sym c.self.view_is) in
-    checked_advance c.self.inside.kept.account c.advance.new.self.account c.args.today c.push_on.new.ends.items c.push_on.new.now c.self.invariant.account c.day-place.ensures.exists (rw same at c.requires) c.advance.ensures.account c.push_on.ensures.count c.push_on.ensures.ends c.push_on.ensures.books c.push_on.ensures.sound
+    checked_advance c.self.inside.kept.account c.advance.new.self.account c.args.today c.push_on.new.ends.items c.push_on.new.now c.lates-self-inside.result c.self.invariant.account c.day-place.ensures.exists (rw same at c.requires) c.advance.ensures.account c.push_on.ensures.count c.push_on.ensures.ends c.push_on.ensures.books c.push_on.ensures.sound (lates_at c.self.inside.kept.account.terms (live_of c.self.inside.kept.account) c.args.today c.push_on.new.cursor c.lates-self-inside.result c.push_on.ensures.place c.lates-self-inside.ensures)
 
 pub returns-clause-steps : goal.returns-clause-steps
 returns-clause-steps g c =

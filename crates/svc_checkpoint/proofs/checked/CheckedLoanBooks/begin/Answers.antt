@@ -2,7 +2,7 @@ use Rattle.std.proofs.Common.{◌+◌, length, sym, ap, ◌∙◌, arith}
 use Rattle.svc_base.specs.Calendar.{month_of}
 use Rattle.svc_spec.specs.Accounts.{Account, live_of}
 use Rattle.svc_spec.specs.Months.{counted}
-use Rattle.svc_checkpoint.proofs.EndsLemmas.{own_day, within_begin}
+use Rattle.svc_checkpoint.proofs.EndsLemmas.{own_day, live_fold, place_in, within_begin}
 use Rattle.svc_checkpoint.proofs.checked.CheckedLoanBooks.begin.Goals as goal
 
 pub push_on-requires-clause-after : goal.push_on-requires-clause-after
@@ -47,6 +47,17 @@ push_on-requires-clause-room g c =
     let boarded = ap (λ (x : Account). x.terms.boarded) c.new-kept.ensures in
     let month = ap month_of day in
     omega (arith, c.in_ok-make_room.ensures.ok, c.months_between.ensures)
+
+pub after-cursor-requires-clause-order : goal.after-cursor-requires-clause-order
+after-cursor-requires-clause-order g c =
+    let all = live_fold c.new-kept.result.account c.terms.result.now c.live.result c.refolded-now.ensures.account c.terms.ensures c.live.ensures in
+    all.order
+
+pub push_on-requires-clause-place : goal.push_on-requires-clause-place
+push_on-requires-clause-place g c =
+    let a = c.new-kept.result.account in
+    let own = own_day a.terms (live_of a) c.args.terms.boarded c.refolded-now.result c.refolded-now.ensures.books in
+    place_in a c.terms.result.now c.live.result c.args.terms.boarded c.refolded-now.result.day c.after-cursor.result c.terms.ensures c.live.ensures own.0 c.after-cursor.ensures
 
 pub returns-clause-steps : goal.returns-clause-steps
 returns-clause-steps g c =

@@ -19,7 +19,7 @@ refreshed-self-inside-requires-clause-ends g c =
 
 pub invariant_of-self-2 : goal.invariant_of-self-2
 invariant_of-self-2 g c =
-    checked_change c.self.inside.kept.account c.post.new.self.account c.self.inside.ends.items c.refreshed-self-inside.new.ends.items c.self.inside.now c.refreshed-self-inside.result c.self.invariant (ap (λ (a : Account). a.terms) c.in_ok-post.ensures.ok) (ap (λ (a : Account). a.today) c.in_ok-post.ensures.ok) c.refreshed-self-inside.ensures.account c.refreshed-self-inside.ensures.count c.refreshed-self-inside.ensures.ends c.refreshed-self-inside.ensures.books c.refreshed-self-inside.ensures.sound
+    checked_change c.self.inside.kept.account c.post.new.self.account c.self.inside.ends.items c.refreshed-self-inside.new.ends.items c.self.inside.now c.refreshed-self-inside.result c.self.inside.lates c.self.invariant (ap (λ (a : Account). a.terms) c.in_ok-post.ensures.ok) (ap (λ (a : Account). a.today) c.in_ok-post.ensures.ok) c.refreshed-self-inside.ensures.account c.refreshed-self-inside.ensures.count c.refreshed-self-inside.ensures.ends c.refreshed-self-inside.ensures.books c.refreshed-self-inside.ensures.sound
 
 pub returns-clause-steps : goal.returns-clause-steps
 returns-clause-steps g c =
@@ -41,7 +41,7 @@ pub invariant_of-self-then-is_last : goal.invariant_of-self-then-is_last
 invariant_of-self-then-is_last g c =
     let same : c.args.self.now.account ≡ c.self.inside.kept.account = ap (λ (k : Kept). k.account) (sym c.self.view_is) in
     let may = rw same at c.requires in
-    checked_last c.self.inside.kept.account c.post.new.self.account c.terms.result.now c.args.entry c.self.inside.ends.items c.self.inside.now c.fold_last.new.books c.self.invariant may c.is_account-then-is_last.ensures c.in_ok-post.ensures.ok (c.is_quiet_after-is_last.ensures c.if-is_last.true) c.terms.ensures c.fold_last.ensures.books c.fold_last.ensures.sound
+    checked_last c.self.inside.kept.account c.post.new.self.account c.terms.result.now c.args.entry c.self.inside.ends.items c.self.inside.now c.fold_last.new.books c.self.inside.lates c.self.invariant may c.is_account-then-is_last.ensures c.in_ok-post.ensures.ok (c.is_quiet_after-is_last.ensures c.if-is_last.true) c.terms.ensures c.fold_last.ensures.books c.fold_last.ensures.sound
 
 pub returns-then-is_last-clause-steps : goal.returns-then-is_last-clause-steps
 returns-then-is_last-clause-steps g c =

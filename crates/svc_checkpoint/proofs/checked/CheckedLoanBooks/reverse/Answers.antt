@@ -24,7 +24,7 @@ refreshed-self-inside-requires-clause-ends g c =
 
 pub invariant_of-self-2 : goal.invariant_of-self-2
 invariant_of-self-2 g c =
-    checked_change c.self.inside.kept.account c.reverse.new.self.account c.self.inside.ends.items c.refreshed-self-inside.new.ends.items c.self.inside.now c.refreshed-self-inside.result c.self.invariant (ap (λ (a : Account). a.terms) c.in_ok-reverse.ensures.ok) (ap (λ (a : Account). a.today) c.in_ok-reverse.ensures.ok) c.refreshed-self-inside.ensures.account c.refreshed-self-inside.ensures.count c.refreshed-self-inside.ensures.ends c.refreshed-self-inside.ensures.books c.refreshed-self-inside.ensures.sound
+    checked_change c.self.inside.kept.account c.reverse.new.self.account c.self.inside.ends.items c.refreshed-self-inside.new.ends.items c.self.inside.now c.refreshed-self-inside.result c.self.inside.lates c.self.invariant (ap (λ (a : Account). a.terms) c.in_ok-reverse.ensures.ok) (ap (λ (a : Account). a.today) c.in_ok-reverse.ensures.ok) c.refreshed-self-inside.ensures.account c.refreshed-self-inside.ensures.count c.refreshed-self-inside.ensures.ends c.refreshed-self-inside.ensures.books c.refreshed-self-inside.ensures.sound
 
 pub returns-clause-again : goal.returns-clause-again
 returns-clause-again g c =
