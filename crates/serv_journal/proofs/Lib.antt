@@ -5,6 +5,7 @@ pub mod RecordLemmas
 pub mod OutcomeLemmas
 pub mod UniqueLemmas
 pub mod ReadingLemmas
+pub mod FrameLemmas
 pub mod StepLemmas
 pub mod ScanLemmas
 pub mod FindLemmas

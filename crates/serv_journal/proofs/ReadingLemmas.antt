@@ -1,18 +1,15 @@
 -- Runs of reads through a window, and what the bytes that were read say of the file.
-use Rattle.std.proofs.Common.{◌≡◌, ℕ, ◌+◌, ◌-◌, ◌*◌, ◌/◌, ◌%◌, ◌<◌, ◌≤◌, List, [], ◌∷◌, ◌++◌, Option, Some, None, MatchOption, ◌≢◌, append_assoc, length, take, drop, get_or, map, refl, sym, ap, subst, ◌∙◌, inl, inr, ⊎_elim, arith}
-use Rattle.std.proofs.lemmas.List.{take_at, take-take, drop-take, take_all, length-take, get_or-map, length-map, drop_at, drop-drop}
+use Rattle.std.proofs.Common.{◌≡◌, ℕ, ◌+◌, ◌-◌, ◌*◌, ◌/◌, ◌%◌, ◌<◌, ◌≤◌, List, [], ◌∷◌, ◌++◌, Option, Some, None, MatchOption, ◌≢◌, append_assoc, length, take, drop, get_or, refl, sym, ap, subst, ◌∙◌, inl, inr, ⊎_elim, arith}
+use Rattle.std.proofs.lemmas.List.{take_at, take-take, drop-take, take_all, length-take, length-drop, drop_at, drop-drop}
 use Rattle.std.proofs.lemmas.Bool.{cases_lt}
-use Rattle.std.specs.declared.vec.Vec.{Vec}
-use Rattle.std.specs.declared.alloc.Global.{Global}
 use Rattle.serv_journal.specs.declared.format.Version.TheVariants.{Two}
 use Rattle.serv_disk.specs.Faults.{HasRisen}
-use Rattle.serv_journal.specs.declared.frames.Frame.{Frame}
 use Rattle.serv_journal.specs.declared.faults.JournalFault.{JournalFault}
-use Rattle.serv_journal.specs.Bytes.{Starts}
+use Rattle.serv_journal.specs.Bytes.{Starts, piece}
 use Rattle.serv_journal.specs.Format.{two_bytes, four_bytes, body}
-use Rattle.serv_journal.specs.Reading.{lines_in, places_in, IsBadLine, IsBadRecord}
+use Rattle.serv_journal.specs.Reading.{IsBadLine, IsBadRecord}
 use Rattle.serv_journal.specs.Outcomes.{IsPassing}
-use Rattle.serv_journal.specs.Windows.{WindowState, ShowsTold, IsReading}
+use Rattle.serv_journal.specs.Windows.{WindowState, Shows, ShowsTold, IsReading}
 use Rattle.serv_journal.proofs.ByteLemmas.{taken_starts, starts_fits}
 use Rattle.serv_journal.proofs.UniqueLemmas.{four_same}
 use Rattle.serv_journal.proofs.StaysLemmas.{stays_here, stays_on}
@@ -113,22 +110,14 @@ part_shown bytes file n at place is from to =
     ∙ take-take n m (drop k (drop at file)) (omega arith)
     ∙ ap (take n) (drop-drop k at file ∙ ap (λ x. drop x file) (omega arith))
 
-view_at : (frames : List Frame) (seen : List (ℕ × List ℕ)) (i : ℕ) (frame : Frame) → map (λ (f : Frame). (f.place, f.line.items)) frames ≡ seen
-    → i < length seen → frame ≡ get_or frames i frame → get_or seen i (frame.place, frame.line.items) ≡ (frame.place, frame.line.items)
-view_at frames seen i frame view within is =
-    let v : Frame → ℕ × List ℕ = λ f. (f.place, f.line.items) in
-    let few : i < length frames = omega (arith, within, ap length view, length-map frames v) in
-    ap (λ t. get_or t i (v frame)) (sym view) ∙ (get_or-map v frames i frame (v frame) few ∙ ap v (sym is))
-
-pub line_at : (frames : List Frame) (seen : List (ℕ × List ℕ)) (i : ℕ) (frame : Frame) → map (λ (f : Frame). (f.place, f.line.items)) frames ≡ seen
-    → i < length seen → frame ≡ get_or frames i frame → frame.line.items ≡ get_or (lines_in seen) i []
-line_at frames seen i frame view within is =
-    sym (get_or-map (λ (f : ℕ × List ℕ). f.1) seen i (frame.place, frame.line.items) [] within ∙ ap (λ (f : ℕ × List ℕ). f.1) (view_at frames seen i frame view within is))
-
-pub place_at : (frames : List Frame) (seen : List (ℕ × List ℕ)) (i : ℕ) (frame : Frame) → map (λ (f : Frame). (f.place, f.line.items)) frames ≡ seen
-    → i < length seen → frame ≡ get_or frames i frame → frame.place ≡ get_or (places_in seen) i 0
-place_at frames seen i frame view within is =
-    sym (get_or-map (λ (f : ℕ × List ℕ). f.0) seen i (frame.place, frame.line.items) 0 within ∙ ap (λ (f : ℕ × List ℕ). f.0) (view_at frames seen i frame view within is))
+-- the line of a record at a place, as a window holds it
+pub line_shown : (window : WindowState) (file : List ℕ) (place start n count : ℕ) (line : List ℕ) → Shows window file → start ≡ place + 1 + n
+    → window.at ≤ place + 1 + n → place + 1 + n + count ≤ window.at + length window.bytes → line ≡ take count (drop (start - window.at) window.bytes)
+    → line ≡ piece (1 + n) count (drop place file)
+line_shown window file place start n count line shows start_is from to is =
+    let after : start ≡ place + (1 + n) = omega (arith, start_is) in
+    is ∙ (part_shown window.bytes file count window.at start shows.bytes (omega (arith, start_is, from)) (omega (arith, start_is, to))
+    ∙ ap (take count) (ap (λ k. drop k file) after ∙ sym (drop-drop (1 + n) place file)))
 
 -- a list, and what comes after it
 pub follows : (front rest file : List ℕ) (n : ℕ) → length front ≡ n → Starts front file → Starts rest (drop n file) → Starts (front ++ rest) file
@@ -143,23 +132,31 @@ follows front rest file n long first second =
 pub too_few : (text rest : List ℕ) → length rest < length text → Starts text rest → ⊥
 too_few text rest few starts = omega (arith, starts_fits text rest starts)
 
-pub line_found : (s items : List ℕ) (place count : ℕ) → Starts (two_bytes count) (drop place s) → items ≡ take count (drop (place + 2) s) → length items ≡ count
-    → Starts (two_bytes (length items) ++ items) (drop place s)
+pub line_found : (s : List ℕ) (place count : ℕ) → Starts (two_bytes count) (drop place s) → place + 2 + count ≤ length s
+    → Starts (two_bytes (length (piece 2 count (drop place s))) ++ piece 2 count (drop place s)) (drop place s)
 unfolding two_bytes
-line_found s items place count number is long =
-    let after : Starts items (drop 2 (drop place s)) = taken_starts items (drop 2 (drop place s)) count (ap (take count) (drop-drop 2 place s) ∙ sym is) in
-    follows (two_bytes (length items)) items (drop place s) 2 refl (subst (λ n. Starts (two_bytes n) (drop place s)) (sym long) number) after
+line_found s place count number fits =
+    let rest : List ℕ = drop place s in
+    let line : List ℕ = piece 2 count rest in
+    let long : length line ≡ count = omega (arith, length-take count (drop 2 rest), length-drop 2 rest, length-drop place s, fits) in
+    let after : Starts line (drop 2 rest) = taken_starts line (drop 2 rest) count refl in
+    follows (two_bytes (length line)) line rest 2 refl (subst (λ n. Starts (two_bytes n) rest) (sym long) number) after
 
 -- a record of version 2, read as its line after its number
-pub numbered_found : (s : List ℕ) (place number : ℕ) (found : Option (Vec ℕ Global)) → Starts (four_bytes number) (drop place s)
-    → MatchOption found (IsBadLine (drop (place + 4) s)) (λ line. Starts (two_bytes (length line.items) ++ line.items) (drop (place + 4) s))
-    → MatchOption found (IsBadRecord Two number (drop place s)) (λ line. Starts (body Two number line.items) (drop place s))
+pub numbered_found : (s : List ℕ) (place number : ℕ) (found : Option ℕ) → Starts (four_bytes number) (drop place s)
+    → MatchOption found (IsBadLine (drop (place + 4) s)) (λ count. Starts (two_bytes (length (piece 2 count (drop (place + 4) s))) ++ piece 2 count (drop (place + 4) s)) (drop (place + 4) s))
+    → MatchOption found (IsBadRecord Two number (drop place s)) (λ count. Starts (body Two number (piece 6 count (drop place s))) (drop place s))
 unfolding four_bytes
 numbered_found s place number None starts bad = inr (inr (subst IsBadLine (sym (drop-drop 4 place s)) bad))
-numbered_found s place number (Some line) starts good =
-    let content : List ℕ = two_bytes (length line.items) ++ line.items in
-    let after : Starts content (drop 4 (drop place s)) = subst (λ t. Starts content t) (sym (drop-drop 4 place s)) good in
-    subst (λ t. Starts t (drop place s)) (sym (append_assoc (four_bytes number) (two_bytes (length line.items)) line.items)) (follows (four_bytes number) content (drop place s) 4 refl starts after)
+numbered_found s place number (Some count) starts good =
+    let six : place + 4 + 2 ≡ place + 6 = omega arith in
+    let same : piece 2 count (drop (place + 4) s) ≡ piece 6 count (drop place s) =
+    ap (take count) (drop-drop 2 (place + 4) s ∙ (ap (λ n. drop n s) six ∙ sym (drop-drop 6 place s))) in
+    let line : List ℕ = piece 6 count (drop place s) in
+    let content : List ℕ = two_bytes (length line) ++ line in
+    let here : Starts content (drop (place + 4) s) = subst (λ (t : List ℕ). Starts (two_bytes (length t) ++ t) (drop (place + 4) s)) same good in
+    let after : Starts content (drop 4 (drop place s)) = subst (λ t. Starts content t) (sym (drop-drop 4 place s)) here in
+    subst (λ t. Starts t (drop place s)) (sym (append_assoc (four_bytes number) (two_bytes (length line)) line)) (follows (four_bytes number) content (drop place s) 4 refl starts after)
 
 -- another number stands there
 pub other_number : (rest : List ℕ) (a b : ℕ) → a ≢ b → Starts (four_bytes a) rest → Starts (four_bytes b) rest → ⊥

@@ -1,5 +1,5 @@
 -- Parts of a file by what it begins with.
-use Rattle.std.specs.Prelude.{◌≡◌, ◌⊎◌, ℕ, List, [], ◌∷◌, ◌++◌}
+use Rattle.std.specs.Prelude.{◌≡◌, ◌⊎◌, ℕ, List, [], ◌∷◌, ◌++◌, take, drop}
 
 -- the file begins with these bytes
 pub record Starts (front file : List ℕ) : Type 0 where
@@ -15,3 +15,7 @@ pub record Between (front rest file : List ℕ) : Type 0 where
 -- commit byte
 abbrev pub IsOpening : List ℕ → List ℕ → List ℕ → Type 0
 IsOpening front bytes file = Starts (front ++ 0 ∷ []) file ⊎ Between front bytes file
+
+-- so many bytes after the first n
+abbrev pub piece : ℕ → ℕ → List ℕ → List ℕ
+piece n count bytes = take count (drop n bytes)

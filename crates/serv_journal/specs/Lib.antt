@@ -6,6 +6,7 @@ pub mod Outcomes
 pub mod Stays
 pub mod Reading
 pub mod Windows
+pub mod Frames
 pub mod Steps
 pub mod Scans
 pub mod Finds

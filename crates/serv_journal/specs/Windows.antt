@@ -1,5 +1,5 @@
 -- A window on a file, and reading through it.
-use Rattle.std.specs.Prelude.{◌≡◌, ℕ, ◌≤◌, List, Option, Some, length, take, drop}
+use Rattle.std.specs.Prelude.{◌≡◌, ℕ, ◌+◌, ◌≤◌, List, Option, Some, length, take, drop}
 use Rattle.serv_journal.specs.Stays.{Stays}
 
 -- how long the file is, and the bytes that the window holds from a place on
@@ -11,6 +11,10 @@ pub record WindowState : Type 0 where
 pub record Shows (window : WindowState) (file : List ℕ) : Type 0 where
   pub size : window.size ≡ length file
   pub bytes : window.bytes ≡ take (length window.bytes) (drop window.at file)
+
+-- the window has so many bytes from a place on
+abbrev pub Has : WindowState → ℕ → ℕ → Type 0
+Has window place count = (window.at ≤ place) × (place + count ≤ window.at + length window.bytes)
 
 -- the window shows the file that the disk tells
 abbrev pub ShowsTold : Option (List ℕ) → WindowState → Type 0

@@ -1,30 +1,36 @@
 //! The records that opening a journal finds.
 
-ghost use Rattle.std.specs.Prelude.{◌≡◌, ℕ, ◌+◌, ◌<◌, List, [], ◌∷◌, ◌++◌, length, slice_index, slice_index_or, OnOk, OnErr, ◌==◌};
+ghost use Rattle.std.specs.Prelude.{◌≡◌, ◌<◌, [], ◌∷◌, ◌++◌, length, slice_index, slice_index_or, OnOk, OnErr, ◌==◌};
 ghost use Rattle.serv_journal.specs.Reading.{lines_in, places_in};
 
 use std::alloc::{AllocError, Global};
 use std::marker::Model;
 
-#[derive(Drop)]
+/// The place of a record's commit byte, and where its line stands among the bytes of all lines.
+#[derive(Clone, Copy)]
 struct Frame {
     place: u64,
-    line: Vec<u8>,
+    start: usize,
+    end: usize,
 }
 
-/// Lines with the places of their records in the file, in their order.
+/// Lines with the places of their records in the file, in their order. The bytes of all lines lie one after
+/// another.
 #[derive(Drop)]
 pub struct Frames {
     list: Vec<Frame>,
+    bytes: Vec<u8>,
 }
 
 impl Model for Frames {
-    ghost use Rattle.std.specs.Prelude.{ℕ, List, map};
-    ghost use Rattle.serv_journal.specs.declared.frames.Frame.{Frame};
+    ghost use Rattle.std.specs.Prelude.{ℕ, List};
+    ghost use Rattle.serv_journal.specs.Frames.{frames_of, AreWithin};
 
     ghost Value = { List (ℕ × List ℕ) };
 
-    ghost view = { λ f. map (λ (frame : Frame). (frame.place, frame.line.items)) f.list.items };
+    ghost view = { λ f. frames_of f.bytes.items f.list.items };
+
+    ghost invariant = { λ f. AreWithin f.bytes.items f.list.items };
 }
 
 impl Frames {
@@ -34,15 +40,20 @@ impl Frames {
     {
         Frames {
             list: Vec::new(alloc),
+            bytes: Vec::new(alloc),
         }
     }
 
     /// Adds a record.
-    pub(crate) fn push(&mut self, place: u64, line: Vec<u8>) -> Result<(), AllocError>
-        ensures added { OnOk result (self.new ≡ self.old ++ (place, line.items) ∷ []) }
+    #[tactic(auto, using(crate::proofs::FrameLemmas::frames_more, crate::proofs::FrameLemmas::frames_push, crate::proofs::FrameLemmas::within_more, crate::proofs::FrameLemmas::within_push))]
+    pub(crate) fn push(&mut self, place: u64, line: &[u8]) -> Result<(), AllocError>
+        ensures added { OnOk result (self.new ≡ self.old ++ (place, line.now) ∷ []) }
         ensures kept { OnErr result (self.new ≡ self.old) }
     {
-        self.list.push(Frame { place, line })?;
+        let start = self.bytes.len();
+        self.bytes.extend_from_slice(line)?;
+        let end = self.bytes.len();
+        self.list.push(Frame { place, start, end })?;
         Ok(())
     }
 
@@ -73,6 +84,7 @@ impl Frames {
         requires { i < length self.now }
         ensures { result.now ≡ slice_index_or (lines_in self.now) i [] }
     {
-        &self.list[i].line
+        let frame = self.list[i];
+        &self.bytes[frame.start..frame.end]
     }
 }

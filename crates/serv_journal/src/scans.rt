@@ -59,11 +59,11 @@ pub(crate) fn scan_from<D: Disk>(
     let mut place = from;
     loop {
         let number = frames.len() as u64 + 1;
-        match step_at(alloc, window, disk, version, number, place)? {
-            Step::Record(line) => {
-                let next = place + 1 + head_of(version) + line.len() as u64;
-                frames.push(place, line)?;
-                place = next;
+        match step_at(window, disk, version, number, place)? {
+            Step::Record(size) => {
+                let start = place + 1 + head_of(version);
+                frames.push(place, window.part(start, size))?;
+                place = start + size as u64;
             }
             Step::Ends(end) => return Ok(Scan { frames, place, end }),
         }

@@ -1,18 +1,17 @@
 //! What stands at a place where a record may begin.
 
 ghost use Rattle.std.specs.Prelude.{◌≡◌, ◌≢◌, ℕ, ◌+◌, ◌-◌, ◌≤◌, ◌<◌, List, [], ◌∷◌, ◌++◌, length, drop, Some, false, IfOk, IfErr, IfSome, IsTrue, MatchOption};
-ghost use Rattle.serv_journal.specs.Bytes.{Starts};
-ghost use Rattle.serv_journal.specs.Format.{IsLine, two_bytes, four_bytes, body, head_size, header};
+ghost use Rattle.serv_journal.specs.Bytes.{Starts, piece};
+ghost use Rattle.serv_journal.specs.Format.{two_bytes, four_bytes, body, head_size, header};
 ghost use Rattle.serv_journal.specs.Reading.{IsBadLine, IsBadRecord, IsMark};
-ghost use Rattle.serv_journal.specs.Steps.{IsStep, StepFits};
+ghost use Rattle.serv_journal.specs.Steps.{HasLine, IsLength, IsStep, StepFits};
 ghost use Rattle.serv_journal.specs.Outcomes.{IsPassing};
-ghost use Rattle.serv_journal.specs.Windows.{ShowsTold, IsReading};
+ghost use Rattle.serv_journal.specs.Windows.{ShowsTold, IsReading, Has};
 
 use crate::faults::JournalFault;
 use crate::format::Version;
 use crate::window::Window;
 use serv_disk::Disk;
-use std::alloc::Global;
 
 /// The text with which a file of version 2 begins, and which ends a part of version 1.
 pub(crate) const HEADER_TWO: [u8; 8] = [77, 83, 82, 86, 74, 48, 48, 50];
@@ -28,10 +27,10 @@ pub(crate) enum End {
     Bad,
 }
 
-/// A record's line, or the end of the records.
+/// A record, whose line is in the window and has so many bytes, or the end of the records.
 #[derive(Drop)]
 pub(crate) enum Step {
-    Record(Vec<u8>),
+    Record(usize),
     Ends(End),
 }
 
@@ -46,9 +45,9 @@ fn two_at<D: Disk>(window: &mut Window, disk: &mut D, place: u64) -> Result<u16,
         window.old window.new }
     ensures fault { IfErr result (IsPassing (D.faults disk.old) (D.faults disk.new)) }
 {
-    let mut room = [0; 2];
-    window.fill(disk, place, &mut room)?;
-    Ok(two_of(room[0], room[1]))
+    window.bring(disk, place, 2)?;
+    let bytes = window.part(place, 2);
+    Ok(two_of(bytes[0], bytes[1]))
 }
 
 #[tactic(auto, using(crate::proofs::ReadingLemmas::two_is))]
@@ -69,9 +68,9 @@ fn four_at<D: Disk>(window: &mut Window, disk: &mut D, place: u64) -> Result<u32
         window.old window.new }
     ensures fault { IfErr result (IsPassing (D.faults disk.old) (D.faults disk.new)) }
 {
-    let mut room = [0; 4];
-    window.fill(disk, place, &mut room)?;
-    Ok(four_of(room[0], room[1], room[2], room[3]))
+    window.bring(disk, place, 4)?;
+    let bytes = window.part(place, 4);
+    Ok(four_of(bytes[0], bytes[1], bytes[2], bytes[3]))
 }
 
 #[tactic(auto, using(crate::proofs::ReadingLemmas::four_is))]
@@ -81,21 +80,22 @@ fn four_of(a: u8, b: u8, c: u8, d: u8) -> u32
     ((u32::from(a) * 256 + u32::from(b)) * 256 + u32::from(c)) * 256 + u32::from(d)
 }
 
-/// A length and a line.
+/// A length and a line, of which the window then has the bytes: how many they are.
 #[tactic(auto, using(crate::proofs::ReadingLemmas::reading_on, crate::proofs::ReadingLemmas::passing_from))]
 fn line_at<D: Disk>(
-    alloc: Global,
     window: &mut Window,
     disk: &mut D,
     place: u64,
-) -> Result<Option<Vec<u8>>, JournalFault>
+) -> Result<Option<usize>, JournalFault>
     requires within { place ≤ window.old.size }
     requires shows { ShowsTold (D.seen disk.old) window.old }
-    ensures line { IfOk result (λ found. IfSome found (λ line. IsLine line.items
-        × (place + 2 + length line.items ≤ window.old.size))) }
+    ensures line { IfOk result (λ found. IfSome found (λ count. IsLength count
+        × (place + 2 + count ≤ window.old.size))) }
+    ensures has { IfOk result (λ found. IfSome found (Has window.new (place + 2))) }
     ensures found { IfOk result (λ found. (s : List ℕ) → D.seen disk.old ≡ Some s
         → MatchOption found (IsBadLine (drop place s))
-        (λ line. Starts (two_bytes (length line.items) ++ line.items) (drop place s))) }
+        (λ count. (let line = piece 2 count (drop place s) in
+        Starts (two_bytes (length line) ++ line) (drop place s)))) }
     ensures reading { IsReading D.seen D.images D.moment D.images_since D.faults disk.old disk.new
         window.old window.new }
     ensures fault { IfErr result (IsPassing (D.faults disk.old) (D.faults disk.new)) }
@@ -107,25 +107,27 @@ fn line_at<D: Disk>(
     if count == 0 || count > 512 || window.size() - place - 2 < u64::from(count) {
         return Ok(None);
     }
-    Ok(Some(window.bytes_at(alloc, disk, place + 2, usize::from(count))?))
+    let count = usize::from(count);
+    window.bring(disk, place + 2, count)?;
+    Ok(Some(count))
 }
 
 /// A number, a length and a line. Another number than this one is no record.
 #[tactic(auto, using(crate::proofs::ReadingLemmas::reading_on, crate::proofs::ReadingLemmas::passing_from))]
 fn numbered_at<D: Disk>(
-    alloc: Global,
     window: &mut Window,
     disk: &mut D,
     number: u64,
     place: u64,
-) -> Result<Option<Vec<u8>>, JournalFault>
+) -> Result<Option<usize>, JournalFault>
     requires within { place ≤ window.old.size }
     requires shows { ShowsTold (D.seen disk.old) window.old }
-    ensures line { IfOk result (λ found. IfSome found (λ line. IsLine line.items
-        × (place + 6 + length line.items ≤ window.old.size))) }
+    ensures line { IfOk result (λ found. IfSome found (λ count. IsLength count
+        × (place + 6 + count ≤ window.old.size))) }
+    ensures has { IfOk result (λ found. IfSome found (Has window.new (place + 6))) }
     ensures found { IfOk result (λ found. (s : List ℕ) → D.seen disk.old ≡ Some s
         → MatchOption found (IsBadRecord Version.Two number (drop place s))
-        (λ line. Starts (body Version.Two number line.items) (drop place s))) }
+        (λ count. Starts (body Version.Two number (piece 6 count (drop place s))) (drop place s))) }
     ensures reading { IsReading D.seen D.images D.moment D.images_since D.faults disk.old disk.new
         window.old window.new }
     ensures fault { IfErr result (IsPassing (D.faults disk.old) (D.faults disk.new)) }
@@ -137,35 +139,36 @@ fn numbered_at<D: Disk>(
     if u64::from(found) != number {
         return Ok(None);
     }
-    line_at(alloc, window, disk, place + 4)
+    line_at(window, disk, place + 4)
 }
 
-/// A record's line after its commit byte.
+/// A record after its commit byte: how long its line is.
 #[tactic(auto, using(crate::proofs::ReadingLemmas::reading_on, crate::proofs::ReadingLemmas::passing_from))]
 fn record_at<D: Disk>(
-    alloc: Global,
     window: &mut Window,
     disk: &mut D,
     version: Version,
     number: u64,
     place: u64,
-) -> Result<Option<Vec<u8>>, JournalFault>
+) -> Result<Option<usize>, JournalFault>
     requires within { place ≤ window.old.size }
     requires shows { ShowsTold (D.seen disk.old) window.old }
     requires unmarked { version ≡ Version.One → (s : List ℕ) → D.seen disk.old ≡ Some s
         → Starts (header Version.Two) (drop place s) → ⊥ }
-    ensures line { IfOk result (λ found. IfSome found (λ line. IsLine line.items
-        × (place + head_size version + length line.items ≤ window.old.size))) }
+    ensures line { IfOk result (λ found. IfSome found (λ count. IsLength count
+        × (place + head_size version + count ≤ window.old.size))) }
+    ensures has { IfOk result (λ found. IfSome found (Has window.new (place + head_size version))) }
     ensures found { IfOk result (λ found. (s : List ℕ) → D.seen disk.old ≡ Some s
         → MatchOption found (IsBadRecord version number (drop place s))
-        (λ line. Starts (body version number line.items) (drop place s))) }
+        (λ count. Starts (body version number (piece (head_size version) count (drop place s)))
+        (drop place s))) }
     ensures reading { IsReading D.seen D.images D.moment D.images_since D.faults disk.old disk.new
         window.old window.new }
     ensures fault { IfErr result (IsPassing (D.faults disk.old) (D.faults disk.new)) }
 {
     match version {
-        Version::One => line_at(alloc, window, disk, place),
-        Version::Two => numbered_at(alloc, window, disk, number, place),
+        Version::One => line_at(window, disk, place),
+        Version::Two => numbered_at(window, disk, number, place),
     }
 }
 
@@ -202,7 +205,6 @@ fn ends_part<D: Disk>(
 /// What stands at a place where a record with this number may begin.
 #[tactic(auto, using(crate::proofs::ReadingLemmas::reading_on, crate::proofs::ReadingLemmas::reading_here, crate::proofs::ReadingLemmas::passing_from))]
 pub(crate) fn step_at<D: Disk>(
-    alloc: Global,
     window: &mut Window,
     disk: &mut D,
     version: Version,
@@ -212,6 +214,7 @@ pub(crate) fn step_at<D: Disk>(
     requires within { place ≤ window.old.size }
     requires shows { ShowsTold (D.seen disk.old) window.old }
     ensures fits { IfOk result (StepFits version place window.old.size) }
+    ensures has { IfOk result (HasLine version place window.new) }
     ensures step { IfOk result (λ step. (s : List ℕ) → D.seen disk.old ≡ Some s
         → IsStep version number (drop place s) step) }
     ensures reading { IsReading D.seen D.images D.moment D.images_since D.faults disk.old disk.new
@@ -228,8 +231,8 @@ pub(crate) fn step_at<D: Disk>(
     if commit != 1 {
         return Ok(Step::Ends(End::Closed(commit)));
     }
-    match record_at(alloc, window, disk, version, number, place + 1)? {
-        Some(line) => Ok(Step::Record(line)),
+    match record_at(window, disk, version, number, place + 1)? {
+        Some(size) => Ok(Step::Record(size)),
         None => Ok(Step::Ends(End::Bad)),
     }
 }

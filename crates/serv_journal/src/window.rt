@@ -4,11 +4,10 @@ ghost use Rattle.std.specs.Prelude.{◌≡◌, ℕ, ◌+◌, ◌-◌, ◌≤◌,
 ghost use Rattle.serv_disk.specs.Faults.{HasCause};
 ghost use Rattle.serv_journal.specs.Bytes.{Starts};
 ghost use Rattle.serv_journal.specs.Outcomes.{IsPassing};
-ghost use Rattle.serv_journal.specs.Windows.{Shows, ShowsTold, IsReading};
+ghost use Rattle.serv_journal.specs.Windows.{Shows, ShowsTold, IsReading, Has};
 
 use crate::faults::JournalFault;
 use serv_disk::{Disk, Failed};
-use std::alloc::Global;
 use std::marker::Model;
 
 /// The most bytes that are read at once.
@@ -83,7 +82,12 @@ impl Window {
     }
 
     /// Moves the window, unless it has so many bytes from this place on.
-    fn bring<D: Disk>(&mut self, disk: &mut D, place: u64, count: usize) -> Result<(), Failed>
+    pub(crate) fn bring<D: Disk>(
+        &mut self,
+        disk: &mut D,
+        place: u64,
+        count: usize,
+    ) -> Result<(), JournalFault>
         requires within { place + count ≤ self.old.size }
         requires some { 1 ≤ count }
         requires few { count ≤ 4096 }
@@ -92,22 +96,24 @@ impl Window {
         ensures to { OnOk result (place + count ≤ self.new.at + length self.new.bytes) }
         ensures reading { IsReading D.seen D.images D.moment D.images_since D.faults disk.old disk.new
             self.old self.new }
-        ensures cause { HasCause (D.faults disk.old) (D.faults disk.new) result }
+        ensures fault { IfErr result (IsPassing (D.faults disk.old) (D.faults disk.new)) }
     {
         if self.has(place, count) {
             return Ok(());
         }
-        self.load(disk, place)
+        self.load(disk, place)?;
+        Ok(())
     }
 
-    /// Copies bytes that the window has, from this place on.
-    fn copy_to(&self, place: u64, room: &mut [u8])
+    /// Bytes that the window has, from this place on.
+    pub(crate) fn part(&self, place: u64, count: usize) -> &[u8]
         requires from { self.now.at ≤ place }
-        requires to { place + length room.old ≤ self.now.at + length self.now.bytes }
-        ensures { room.new ≡ take (length room.old) (drop (place - self.now.at) self.now.bytes) }
+        requires to { place + count ≤ self.now.at + length self.now.bytes }
+        ensures bytes { result.now ≡ take count (drop (place - self.now.at) self.now.bytes) }
+        ensures count { length result.now ≡ count }
     {
         let start = (place - self.at) as usize;
-        room.copy_from_slice(&self.room[start..start + room.len()]);
+        &self.room[start..start + count]
     }
 
     /// The byte at a place that the window has.
@@ -132,53 +138,6 @@ impl Window {
         Ok(self.byte_here(place))
     }
 
-    /// Fills the room with the bytes from this place on.
-    pub(crate) fn fill<D: Disk>(
-        &mut self,
-        disk: &mut D,
-        place: u64,
-        room: &mut [u8],
-    ) -> Result<(), JournalFault>
-        requires within { place + length room.old ≤ self.old.size }
-        requires some { 1 ≤ length room.old }
-        requires few { length room.old ≤ 4096 }
-        requires shows { ShowsTold (D.seen disk.old) self.old }
-        ensures bytes { OnOk result ((s : List ℕ) → D.seen disk.old ≡ Some s
-            → room.new ≡ take (length room.old) (drop place s)) }
-        ensures reading { IsReading D.seen D.images D.moment D.images_since D.faults disk.old disk.new
-            self.old self.new }
-        ensures fault { IfErr result (IsPassing (D.faults disk.old) (D.faults disk.new)) }
-    {
-        self.bring(disk, place, room.len())?;
-        self.copy_to(place, room);
-        Ok(())
-    }
-
-    /// As many bytes from this place on.
-    #[tactic(auto, using(crate::proofs::ReadingLemmas::reading_on, crate::proofs::ReadingLemmas::passing_from))]
-    pub(crate) fn bytes_at<D: Disk>(
-        &mut self,
-        alloc: Global,
-        disk: &mut D,
-        place: u64,
-        count: usize,
-    ) -> Result<Vec<u8>, JournalFault>
-        requires within { place + count ≤ self.old.size }
-        requires some { 1 ≤ count }
-        requires few { count ≤ 4096 }
-        requires shows { ShowsTold (D.seen disk.old) self.old }
-        ensures count { IfOk result (λ bytes. length bytes.items ≡ count) }
-        ensures bytes { IfOk result (λ bytes. (s : List ℕ) → D.seen disk.old ≡ Some s
-            → bytes.items ≡ take count (drop place s)) }
-        ensures reading { IsReading D.seen D.images D.moment D.images_since D.faults disk.old disk.new
-            self.old self.new }
-        ensures fault { IfErr result (IsPassing (D.faults disk.old) (D.faults disk.new)) }
-    {
-        let mut bytes = vec![in alloc; 0; count]?;
-        self.fill(disk, place, &mut bytes)?;
-        Ok(bytes)
-    }
-
     /// Whether this text stands at a place.
     #[tactic(auto, using(crate::proofs::ReadingLemmas::reading_on, crate::proofs::ReadingLemmas::passing_from))]
     pub(crate) fn has_text<D: Disk>(
@@ -199,8 +158,7 @@ impl Window {
         if self.size() - place < 8 {
             return Ok(false);
         }
-        let mut room = [0; 8];
-        self.fill(disk, place, &mut room)?;
-        Ok(room == *text)
+        self.bring(disk, place, 8)?;
+        Ok(self.part(place, 8) == text.as_slice())
     }
 }
