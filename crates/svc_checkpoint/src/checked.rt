@@ -1,6 +1,6 @@
 //! The books of a loan, kept at each month's end and now.
 
-ghost use Rattle.std.specs.Prelude.{◌≡◌, ◌-◌, MatchOption, None, Some};
+ghost use Rattle.std.specs.Prelude.{◌≡◌, ◌-◌, ◌<◌, MatchOption, IfSome, None, Some, true};
 ghost use Rattle.svc_base.specs.Calendar.{month_of as month_number};
 ghost use Rattle.svc_spec.specs.Accounts.{entry_of};
 
@@ -126,6 +126,11 @@ impl LoanBooks for Checked {
         // the calendar has the business day
         let place = today.day();
         prove!(place >= 1);
+        if is_quiet_to(&self.kept, &self.lates, today) {
+            self.now.day = today;
+            self.kept.advance(today);
+            return Ok(());
+        }
         make_room(
             &mut self.ends,
             months_between(self.kept.today(), today),
@@ -209,5 +214,19 @@ fn month_of_entry(kept: &LoanAccount, number: u32) -> Option<Month>
     match &kept.entry(number) {
         Some(entry) => Some(month_of(entry.day)),
         None => None,
+    }
+}
+
+/// Whether no month begins and no late charge falls due after the business day, up to a later day.
+fn is_quiet_to(kept: &LoanAccount, lates: &Lates, day: Day) -> bool
+    ensures month { result ≡ true → month_number day ≡ month_number kept.now.account.today }
+    ensures late { result ≡ true → IfSome lates.now.next (λ late. day < late) }
+{
+    if month_of(day) != month_of(kept.today()) {
+        return false;
+    }
+    match &lates.next {
+        Some(late) => day < *late,
+        None => true,
     }
 }

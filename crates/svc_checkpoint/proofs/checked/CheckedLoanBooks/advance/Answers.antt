@@ -1,10 +1,11 @@
-use Rattle.std.proofs.Common.{◌≡◌, ◌+◌, ◌≤◌, length, sym, ap, ◌∙◌, arith}
+use Rattle.std.proofs.Common.{◌≡◌, ◌+◌, ◌≤◌, length, refl, sym, ap, ◌∙◌, arith}
 use Rattle.svc_base.specs.Calendar.{month_of}
 use Rattle.svc_types.proofs.OrderLemmas.{live_all}
 use Rattle.svc_spec.specs.Accounts.{live_of}
 use Rattle.svc_spec.specs.Months.{counted}
 use Rattle.svc_replay.specs.Kept.{Kept}
 use Rattle.svc_checkpoint.proofs.EndsLemmas.{own_day, place_in, lates_at, checked_advance, within_advance}
+use Rattle.svc_checkpoint.proofs.QuietLemmas.{IsQuietTo, quiet_checked, quiet_steps}
 use Rattle.svc_checkpoint.proofs.checked.CheckedLoanBooks.advance.Goals as goal
 
 pub push_on-requires-clause-after : goal.push_on-requires-clause-after
@@ -61,7 +62,7 @@ push_on-requires-clause-place g c =
 pub invariant_of-self-2 : goal.invariant_of-self-2
 invariant_of-self-2 g c =
     let same : c.args.self.now.account ≡ c.self.inside.kept.account = ap (λ (k : Kept). k.account) (sym c.self.view_is) in
-    checked_advance c.self.inside.kept.account c.advance.new.self.account c.args.today c.push_on.new.ends.items c.push_on.new.now c.lates-self-inside.result c.self.invariant.account c.day-place.ensures.exists (rw same at c.requires) c.advance.ensures.account c.push_on.ensures.count c.push_on.ensures.ends c.push_on.ensures.books c.push_on.ensures.sound (lates_at c.self.inside.kept.account.terms (live_of c.self.inside.kept.account) c.args.today c.push_on.new.cursor c.lates-self-inside.result c.push_on.ensures.place c.lates-self-inside.ensures)
+    checked_advance c.self.inside.kept.account c.advance-2.new.self.account c.args.today c.push_on.new.ends.items c.push_on.new.now c.lates-self-inside.result c.self.invariant.account c.day-place.ensures.exists (rw same at c.requires) c.advance-2.ensures.account c.push_on.ensures.count c.push_on.ensures.ends c.push_on.ensures.books c.push_on.ensures.sound (lates_at c.self.inside.kept.account.terms (live_of c.self.inside.kept.account) c.args.today c.push_on.new.cursor c.lates-self-inside.result c.push_on.ensures.place c.lates-self-inside.ensures)
 
 pub returns-clause-steps : goal.returns-clause-steps
 returns-clause-steps g c =
@@ -70,4 +71,24 @@ returns-clause-steps g c =
     let day = own.0 in
     let a = c.self.inside.kept.account in
     let here = ap (counted a.terms (live_of a)) day in
-    rw same (within_advance a c.advance.new.self.account c.args.today c.args.steps.now c.push_on.new.steps c.self.invariant.account (rw same at c.requires) c.advance.ensures.account (ap (λ x. c.push_on.new.steps + x) (sym here) ∙ c.push_on.ensures.steps))
+    rw same (within_advance a c.advance-2.new.self.account c.args.today c.args.steps.now c.push_on.new.steps c.self.invariant.account (rw same at c.requires) c.advance-2.ensures.account (ap (λ x. c.push_on.new.steps + x) (sym here) ∙ c.push_on.ensures.steps))
+
+pub invariant_of-self : goal.invariant_of-self
+invariant_of-self g c =
+    let same : c.args.self.now.account ≡ c.self.inside.kept.account = ap (λ (k : Kept). k.account) (sym c.self.view_is) in
+    let quiet : IsQuietTo c.self.inside.kept.account c.args.today c.self.inside.lates = record {
+      later = rw same at c.requires;
+      month = c.is_quiet_to.ensures.month c.if-is_quiet_to.true;
+      late = c.is_quiet_to.ensures.late c.if-is_quiet_to.true;
+    } in
+    quiet_checked c.self.inside.kept.account c.advance.new.self.account c.args.today c.self.inside.ends.items c.self.inside.now _ c.self.inside.lates c.self.invariant c.day-place.ensures.exists quiet c.advance.ensures.account refl
+
+pub returns-then-is_quiet_to-clause-steps : goal.returns-then-is_quiet_to-clause-steps
+returns-then-is_quiet_to-clause-steps g c =
+    let same : c.args.self.now.account ≡ c.self.inside.kept.account = ap (λ (k : Kept). k.account) (sym c.self.view_is) in
+    let quiet : IsQuietTo c.self.inside.kept.account c.args.today c.self.inside.lates = record {
+      later = rw same at c.requires;
+      month = c.is_quiet_to.ensures.month c.if-is_quiet_to.true;
+      late = c.is_quiet_to.ensures.late c.if-is_quiet_to.true;
+    } in
+    rw same (within_advance c.self.inside.kept.account c.advance.new.self.account c.args.today c.args.steps.now c.args.steps.now c.self.invariant.account (rw same at c.requires) c.advance.ensures.account (quiet_steps c.self.inside.kept.account c.args.today c.args.steps.now c.self.inside.lates c.self.invariant.account c.self.invariant.lates quiet))
