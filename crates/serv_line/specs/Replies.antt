@@ -55,6 +55,10 @@ text_of_extra (extra.Remitted net) = signed_field (codes "net") net
 unfoldable pub text_of_reply : Reply → List ℕ
 text_of_reply r = ended (codes "ok " ++ text_of_number r.number ++ text_of_extra r.extra)
 
+-- the same, where there is nothing to say beside the number
+abbrev pub text_of_plain : ℕ → List ℕ
+text_of_plain number = ended (codes "ok " ++ text_of_number number)
+
 -- the reply to a line that is no request, with the place of its fault
 unfoldable pub text_of_bad : ℕ → List ℕ
 text_of_bad place = ended (codes "bad " ++ text_of_number place)

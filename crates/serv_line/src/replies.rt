@@ -2,12 +2,13 @@
 
 ghost use Rattle.std.specs.Prelude.{◌≡◌, ◌++◌, IfOk, OnErr, OnOk};
 ghost use Rattle.serv_line.specs.Pushed.{Keeps};
-ghost use Rattle.serv_line.specs.Replies.{text_of_bad, text_of_extra, text_of_figures, text_of_found, text_of_full, text_of_parts, text_of_reply, text_of_settled};
+ghost use Rattle.serv_line.specs.Replies.{text_of_bad, text_of_extra, text_of_figures, text_of_found, text_of_full, text_of_parts, text_of_plain, text_of_reply, text_of_settled};
 
 use crate::pushing::{
     push_amount_field, push_bytes, push_number, push_number_field, push_signed_field, push_wide,
     undone,
 };
+use itoa::write_digits;
 use std::alloc::Global;
 use svc_base::OutOfMemory;
 use svc_types::{Extra, Figures, Reply};
@@ -27,9 +28,24 @@ pub fn push_reply(out: &mut Vec<u8>, reply: &Reply) -> Result<(), OutOfMemory>
     ensures pushed { OnOk result (out.new.items ≡ out.old.items ++ text_of_reply reply.now) }
     ensures kept { OnErr result (out.new.items ≡ out.old.items) }
 {
+    if let Extra::Plain = reply.extra {
+        return push_plain(out, reply.number);
+    }
     let start = out.len();
     let pushed = append_reply(out, reply);
     undone(out, start, pushed)
+}
+
+/// Appends a reply that says no more than its number, in one piece.
+fn push_plain(out: &mut Vec<u8>, number: u32) -> Result<(), OutOfMemory>
+    ensures pushed { OnOk result (out.new.items ≡ out.old.items ++ text_of_plain number) }
+    ensures kept { OnErr result (out.new.items ≡ out.old.items) }
+{
+    // The digits end before the line feed, and `ok` comes before them.
+    let mut room = *b"0000000000000\n";
+    let start = write_digits(u64::from(number), &mut room, 13);
+    room[start - 3..start].copy_from_slice(b"ok ");
+    push_bytes(out, &room[start - 3..])
 }
 
 /// Appends the reply to an accepted command.
