@@ -14,6 +14,7 @@ ghost use Rattle.svc_loan.specs.Closed as closed;
 ghost use Rattle.svc_loan.specs.Loans.{Rise, IsPlaceIn, OfLoan, find_kept, with_kept, held_in, closed_in, remitted_in};
 ghost use Rattle.svc_loan.specs.Kept.{IsReady, HasMonth, IsAhead, KeepsMonths};
 ghost use Rattle.svc_loan.specs.Loans.{remitted_by, MayCloseMonth, closed_by, advance_cost, close_cost};
+ghost use Rattle.svc_loan.specs.Loans.{first_boarded, earlier_of};
 
 use crate::loan::Loan;
 use escrow_lines::Line;
@@ -40,6 +41,8 @@ pub struct Loans<B: LoanBooks> {
     until: u32,
     /// For so many closed months each loan has room.
     closings: usize,
+    /// The first month in which a loan was boarded.
+    first: Option<Month>,
 }
 
 impl<B: LoanBooks> Model for Loans<B> {
@@ -53,7 +56,7 @@ impl<B: LoanBooks> Model for Loans<B> {
       room = vec_capacity l.loans - vec_len l.loans;
     } };
 
-    ghost invariant = { λ l. AreLoans l.until l.closings (map (λ b. b.value) l.loans.items) };
+    ghost invariant = { λ l. AreLoans l.until l.closings l.first (map (λ b. b.value) l.loans.items) };
 }
 
 impl<B: LoanBooks> Loans<B> {
@@ -66,6 +69,7 @@ impl<B: LoanBooks> Loans<B> {
             last: 0,
             until: 0,
             closings: 0,
+            first: None,
         }
     }
 
@@ -83,6 +87,13 @@ impl<B: LoanBooks> Loans<B> {
     {
         self.loans.reserve(1)?;
         Ok(())
+    }
+
+    /// The first month in which a loan was boarded, where one is there.
+    pub fn first_boarded(&self) -> Option<Month>
+        ensures { result ≡ first_boarded (held_in self.now.loans) }
+    {
+        self.first
     }
 
     /// The loan with that number.
@@ -197,6 +208,9 @@ impl<B: LoanBooks> Loans<B> {
         ensures held { held_in self.new.loans ≡ held.with_loan loan.value.held (held_in self.old.loans) }
     {
         let place = place_for(&self.loans, loan.id());
+        let boarded = month_of(loan.terms().boarded);
+        let first = earlier_of(self.first, boarded);
+        self.first = Some(first);
         // nothing is known of the room of the new one
         self.until = 0;
         self.closings = 0;
@@ -335,6 +349,16 @@ fn some_months_after(day: Day) -> Day
         return first_day(month.plus(AHEAD));
     }
     day
+}
+
+/// The earlier of two months, of which the first may not be there.
+fn earlier_of(first: Option<Month>, month: Month) -> Month
+    ensures { result ≡ earlier_of first month }
+{
+    match first {
+        Some(first) if first.number() <= month.number() => first,
+        _ => month,
+    }
 }
 
 /// Closes a month of a loan, where it was boarded by it.

@@ -4,7 +4,7 @@ use Rattle.std.proofs.lemmas.Int.{to_z-of_z}
 use Rattle.std.specs.Box.{with_value}
 use Rattle.std.proofs.Math.ListN.{set}
 use Rattle.svc_loan.specs.Kept.{KeptLoan}
-use Rattle.svc_loan.specs.Loans.{KeptLoans, IsPlaceIn, find_kept, held_in, closed_in, remitted_by}
+use Rattle.svc_loan.specs.Loans.{KeptLoans, IsPlaceIn, find_kept, held_in, closed_in, remitted_by, first_boarded}
 use Rattle.svc_loan.proofs.KeptLemmas.{ahead_behind, Stays, of_found, at_place, stay_behind, remitted_rises}
 use Rattle.svc_loan.proofs.loans.Loans.remit.Given.{Over}
 use Rattle.svc_loan.proofs.loans.Loans.remit.Goals as goal
@@ -46,6 +46,7 @@ invariant_of-self g c =
     record {
       rise = (whole g c).rise;
       ahead = ahead_behind (λ (b : Box KeptLoan Global). b.value) c.self.inside.until c.self.inside.closings xs c.args.id i x (with_value x c.remit.new.self) c.deref_mut.result.now c.self.invariant.ahead place old c.remit.ensures.months;
+      first = c.self.invariant.first ∙ sym (ap first_boarded (whole g c).held);
     }
 
 pub returns-clause-held : goal.returns-clause-held
