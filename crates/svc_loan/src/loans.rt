@@ -31,8 +31,9 @@ const AHEAD: u32 = 4;
 /// The months of the calendar.
 const MONTHS: u32 = 25_692;
 
-/// All loans by rising number. A loan is found where room was made last, or just behind it, and else by binary search;
-/// it is put in by moving pointers. Room for business days and closed months is made in all loans for some months at once.
+/// All loans by rising number. A loan is found where room was made or something was remitted last, or just behind it,
+/// and else by binary search; it is put in by moving pointers. Room for business days and closed months is made in all
+/// loans for some months at once.
 #[derive(Drop)]
 pub struct Loans<B: LoanBooks> {
     loans: Vec<Box<Loan<B>>>,
@@ -196,6 +197,8 @@ impl<B: LoanBooks> Loans<B> {
         ensures loan_room { self.new.room ≡ self.old.room }
     {
         let place = place_there(&self.loans, id, self.last);
+        // the lines of a report are in the order of numbers
+        self.last = place;
         let loan = &mut self.loans[place];
         loan.remit(cents);
     }

@@ -26,7 +26,7 @@ remit-requires-clause-low g c = let fits : FitsSigned w64 c.args.cents = c.range
 pub remit-requires-clause-high : goal.remit-requires-clause-high
 remit-requires-clause-high g c = let fits : FitsSigned w64 c.args.cents = c.ranges.cents in simp to_z-of_z (of_found (λ (k : KeptLoan). (k.remitted +ℤ c.args.cents) ≤ℤ pos 1_000_000_000_000_000_000) c.args.id c.args.self.now.loans c.deref_mut.result.now c.requires.high (lent g c))
 
-whole : (g : Over) (c : goal.After-self-1 g) → Stays (map (λ (b : Box KeptLoan Global). b.value) c.self.inside.loans.items) (map (λ (b : Box KeptLoan Global). b.value) (set c.self.inside.loans.items c.place_there-place.result (with_value c.index_mut-loan.result.now c.remit.new.self))) c.args.id c.remit.new.self
+whole : (g : Over) (c : goal.After-self-2-1 g) → Stays (map (λ (b : Box KeptLoan Global). b.value) c.self.inside.loans.items) (map (λ (b : Box KeptLoan Global). b.value) (set c.self.inside.loans.items c.place_there-place.result (with_value c.index_mut-loan.result.now c.remit.new.self))) c.args.id c.remit.new.self
 whole g c =
     let xs = c.self.inside.loans.items in
     let i = c.place_there-place.result in
