@@ -1,6 +1,6 @@
 -- What custody holds for a loan, and what it counts for in the custodial line.
-use Rattle.std.specs.Prelude.{ℕ, ◌≤◌, List, length, map, Option, Some, None, ℤ, pos, neg_ℤ, ◌+ℤ◌, ◌-ℤ◌, ◌≤ℤ◌}
-use Rattle.std.specs.List.{All}
+use Rattle.std.specs.Prelude.{◌≡◌, ◌≢◌, ℕ, ◌≤◌, ◌<◌, List, length, map, get_or, Option, Some, None, ℤ, pos, neg_ℤ, ◌+ℤ◌, ◌-ℤ◌, ◌≤ℤ◌}
+use Rattle.std.specs.List.{All, AllPairs}
 use Rattle.custodial_book.specs.declared.row.Totals.{Totals}
 use Rattle.custodial_book.specs.Rows.{AreTotals}
 use Rattle.svc_world.specs.declared.custody.Custody.{Custody}
@@ -50,6 +50,16 @@ totals_in positions = map (λ (x : Position). x.totals) positions
 pub record KeptPositions : Type 0 where
   pub items : List Position
   pub room : ℕ
+
+-- positions by places, each of which is that of one of them
+abbrev pub listed : List Position → List ℕ → List Position
+listed positions places = map (λ (i : ℕ). get_or positions i no_position) places
+
+-- each position has one place
+pub record ArePlaces (positions : List Position) (places : List ℕ) : Type 0 where
+  pub count : length places ≡ length positions
+  pub within : All (λ (i : ℕ). i < length positions) places
+  pub apart : AllPairs (λ (i j : ℕ). i ≢ j) places
 
 -- what a loan counts for in the custodial line
 abbrev pub share_of : Position → Custody
