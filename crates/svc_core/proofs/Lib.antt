@@ -28,5 +28,6 @@ pub mod AppendLemmas
 pub mod PositionLemmas
 pub mod LineLemmas
 pub mod AcceptLemmas
+pub mod ListedLemmas
 pub mod PlaceLemmas
 pub mod PostingLemmas

@@ -1,11 +1,13 @@
 -- The numbers of the custodial line.
-use Rattle.std.proofs.Common.{◌≡◌, ℕ, zero, suc, ◌+◌, ◌*◌, ◌≤◌, ◌<◌, List, [], ◌∷◌, length, take, get_or, ℤ, pos, neg_ℤ, ◌+ℤ◌, ◌-ℤ◌, ◌≤ℤ◌, w64, to_z, of_z, arith, refl, ap}
+use Rattle.std.proofs.Common.{◌≡◌, ℕ, zero, suc, ◌*◌, ◌≤◌, ◌<◌, List, [], ◌∷◌, map, length, get_or, ℤ, pos, neg_ℤ, ◌+ℤ◌, ◌-ℤ◌, ◌≤ℤ◌, w64, to_z, of_z, arith, refl, sym, subst, ◌∙◌}
 use Rattle.std.specs.Prelude.{Some}
 use Rattle.std.specs.List.{All}
 use Rattle.std.proofs.lemmas.Int.{ints}
-use Rattle.std.proofs.lemmas.List.Elements.{All-head, All-tail}
+use Rattle.std.proofs.lemmas.List.{length-map}
+use Rattle.std.proofs.lemmas.List.Elements.{All-head, All-tail, All-map}
+use Rattle.std.proofs.Math.ListN.{set}
 use Rattle.svc_base.specs.Sums.{total_by}
-use Rattle.svc_base.proofs.SumLemmas.{total_by-same}
+use Rattle.svc_base.proofs.SumLemmas.{total_by-same, total_by-map}
 use Rattle.svc_base.proofs.CentsRules.{cents}
 use Rattle.advance_book.specs.Positions.{escrow_advanced}
 use Rattle.svc_world.specs.declared.custody.Custody.{Custody}
@@ -14,7 +16,8 @@ use Rattle.svc_world.specs.World.{World}
 use Rattle.svc_world.specs.Custody.{totals_of, held_for, advanced_for, borrower_cash, custody_of}
 use Rattle.svc_world.proofs.CashLemmas.{sum_with_loan}
 use Rattle.svc_loan.proofs.ClosedLemmas.{cents_same}
-use Rattle.svc_core.specs.Positions.{IsHolding, IsPosition, IsShare, IsLineSum, IsLine, position_of, no_position, line_after}
+use Rattle.svc_core.specs.declared.position.Position.{Position}
+use Rattle.svc_core.specs.Positions.{IsHolding, IsPosition, IsShare, IsLineSum, IsLine, position_of, positions_of, no_position, share_of, line_in, line_after}
 use Rattle.svc_core.proofs.SameLemmas.{SameReports, held_same, advanced_same, sum_changed}
 
 abbrev lined : ℤ → ℤ → ℤ → ℤ → ℤ → ℤ → ℤ → Custody
@@ -73,18 +76,18 @@ record AreWithin (n : ℕ) (z : ℤ) : Type 0 where
   low : neg_ℤ (pos (300_000_000_000_000 * n)) ≤ℤ z
   high : z ≤ℤ pos (300_000_000_000_000 * n)
 
-shares_within : (f : Held → ℤ) (ls : List Held) → All (λ (l : Held). IsShare (f l)) ls → AreWithin (length ls) (total_by f ls)
+shares_within : (f : Position → ℤ) (xs : List Position) → All (λ (x : Position). IsShare (f x)) xs → AreWithin (length xs) (total_by f xs)
 shares_within f [] h = record { low = omega (arith, ints); high = omega (arith, ints) }
-shares_within f (l ∷ ls) h =
-    let here = All-head (λ (k : Held). IsShare (f k)) l ls h in
-    let rest = shares_within f ls (All-tail (λ (k : Held). IsShare (f k)) l ls h) in
+shares_within f (x ∷ xs) h =
+    let here = All-head (λ (y : Position). IsShare (f y)) x xs h in
+    let rest = shares_within f xs (All-tail (λ (y : Position). IsShare (f y)) x xs h) in
     let l1 = here.low in let h1 = here.high in
     let l2 = rest.low in let h2 = rest.high in
     record { low = omega (arith, ints, l1, l2); high = omega (arith, ints, h1, h2) }
 
-shares_sum : (f : Held → ℤ) (ls : List Held) → length ls ≤ 12_000 → All (λ (l : Held). IsShare (f l)) ls → IsLineSum (total_by f ls)
-shares_sum f ls few h =
-    let sum = shares_within f ls h in
+shares_sum : (f : Position → ℤ) (xs : List Position) → length xs ≤ 12_000 → All (λ (x : Position). IsShare (f x)) xs → IsLineSum (total_by f xs)
+shares_sum f xs few h =
+    let sum = shares_within f xs h in
     let l = sum.low in let m = sum.high in
     record { low = omega (arith, ints, l, few); high = omega (arith, ints, m, few) }
 
@@ -98,37 +101,67 @@ three_shares x y z a b c =
     let l3 = c.low in let h3 = c.high in
     record { low = omega (arith, ints, l1, l2, l3); high = omega (arith, ints, h1, h2, h3) }
 
-pub line_within : (w : World) (ls : List Held) → length ls ≤ 12_000 → All (λ (l : Held). IsPosition (position_of w l)) ls → IsLine (line_over w ls)
-unfolding totals_of
-line_within w ls few h = record {
-  t = shares_sum borrower_cash ls few (λ k d lt. three_shares _ _ _ (h k d lt).suspense (h k d lt).escrow (h k d lt).escrow_advance);
-  p = shares_sum (held_for w) ls few (λ k d lt. as_share _ (h k d lt).held);
-  suspense = shares_sum (λ (l : Held). (books_now l).suspense) ls few (λ k d lt. as_share _ (h k d lt).suspense);
-  escrow = shares_sum (λ (l : Held). (books_now l).escrow) ls few (λ k d lt. as_share _ (h k d lt).escrow);
-  escrow_advance = shares_sum (λ (l : Held). escrow_advanced (books_now l).escrow) ls few (λ k d lt. as_share _ (h k d lt).escrow_advance);
-  held = shares_sum (held_for w) ls few (λ k d lt. as_share _ (h k d lt).held);
-  pi_advance = shares_sum (advanced_for w) ls few (λ k d lt. as_share _ (h k d lt).pi_advance);
+-- and of their positions
+pub positions_line : (xs : List Position) → length xs ≤ 12_000 → All IsPosition xs → IsLine (line_in xs)
+positions_line xs few h = record {
+  t = shares_sum (λ (x : Position). (share_of x).t) xs few (λ k d lt. three_shares _ _ _ (h k d lt).suspense (h k d lt).escrow (h k d lt).escrow_advance);
+  p = shares_sum (λ (x : Position). (share_of x).p) xs few (λ k d lt. as_share _ (h k d lt).held);
+  suspense = shares_sum (λ (x : Position). (share_of x).suspense) xs few (λ k d lt. as_share _ (h k d lt).suspense);
+  escrow = shares_sum (λ (x : Position). (share_of x).escrow) xs few (λ k d lt. as_share _ (h k d lt).escrow);
+  escrow_advance = shares_sum (λ (x : Position). (share_of x).escrow_advance) xs few (λ k d lt. as_share _ (h k d lt).escrow_advance);
+  held = shares_sum (λ (x : Position). (share_of x).held) xs few (λ k d lt. as_share _ (h k d lt).held);
+  pi_advance = shares_sum (λ (x : Position). (share_of x).pi_advance) xs few (λ k d lt. as_share _ (h k d lt).pi_advance);
 }
 
--- with one loan more
-total_more : (f : Held → ℤ) (ls : List Held) (i : ℕ) (d : Held) → i < length ls → total_by f (take i ls) +ℤ (f (get_or ls i d) -ℤ pos 0) ≡ total_by f (take (i + 1) ls)
-total_more f [] i d lt = absurd (omega arith)
-total_more f (l ∷ ls) zero d lt = omega (arith, ints)
-total_more f (l ∷ ls) (suc i) d lt =
-    let next : suc i + 1 ≡ suc (i + 1) = omega arith in
-    let same = ap (λ j. total_by f (take j (l ∷ ls))) next in
-    omega (arith, ints, same, total_more f ls i d (omega arith))
-
-pub line_more : (w : World) (ls : List Held) (i : ℕ) (d : Held) → i < length ls → line_after (line_over w (take i ls)) no_position (position_of w (get_or ls i d)) ≡ line_over w (take (i + 1) ls)
+pub line_of_held : (w : World) (ls : List Held) → line_in (map (position_of w) ls) ≡ line_over w ls
 unfolding totals_of
-line_more w ls i d lt = same_line
-    (total_more borrower_cash ls i d lt)
-    (total_more (held_for w) ls i d lt)
-    (total_more (λ (l : Held). (books_now l).suspense) ls i d lt)
-    (total_more (λ (l : Held). (books_now l).escrow) ls i d lt)
-    (total_more (λ (l : Held). escrow_advanced (books_now l).escrow) ls i d lt)
-    (total_more (held_for w) ls i d lt)
-    (total_more (advanced_for w) ls i d lt)
+line_of_held w ls = same_line
+    (total_by-map (λ (x : Position). (share_of x).t) (position_of w) ls)
+    (total_by-map (λ (x : Position). (share_of x).p) (position_of w) ls)
+    (total_by-map (λ (x : Position). (share_of x).suspense) (position_of w) ls)
+    (total_by-map (λ (x : Position). (share_of x).escrow) (position_of w) ls)
+    (total_by-map (λ (x : Position). (share_of x).escrow_advance) (position_of w) ls)
+    (total_by-map (λ (x : Position). (share_of x).held) (position_of w) ls)
+    (total_by-map (λ (x : Position). (share_of x).pi_advance) (position_of w) ls)
+
+pub line_of_world : (w : World) → line_in (positions_of w) ≡ custody_of w
+line_of_world w = line_of_held w w.loans ∙ sym (custody_is w)
+
+pub line_within : (w : World) (ls : List Held) → length ls ≤ 12_000 → All (λ (l : Held). IsPosition (position_of w l)) ls → IsLine (line_over w ls)
+line_within w ls few h =
+    let count = length-map ls (position_of w) in
+    subst IsLine (line_of_held w ls) (positions_line (map (position_of w) ls) (omega (arith, few, count)) (All-map IsPosition (position_of w) ls h))
+
+-- ---- the line after one position changed
+
+total_set : (f : Position → ℤ) (xs : List Position) (i : ℕ) (d y : Position) → i < length xs → total_by f (set xs i y) ≡ total_by f xs +ℤ (f y -ℤ f (get_or xs i d))
+total_set f [] i d y lt = absurd (omega arith)
+total_set f (x ∷ xs) zero d y lt = omega (arith, ints)
+total_set f (x ∷ xs) (suc i) d y lt = let rest = total_set f xs i d y (omega arith) in omega (arith, ints, rest)
+
+pub line_set : (xs : List Position) (i : ℕ) (d y : Position) → i < length xs → line_in (set xs i y) ≡ line_after (line_in xs) (get_or xs i d) y
+line_set xs i d y lt = same_line
+    (total_set (λ (x : Position). (share_of x).t) xs i d y lt)
+    (total_set (λ (x : Position). (share_of x).p) xs i d y lt)
+    (total_set (λ (x : Position). (share_of x).suspense) xs i d y lt)
+    (total_set (λ (x : Position). (share_of x).escrow) xs i d y lt)
+    (total_set (λ (x : Position). (share_of x).escrow_advance) xs i d y lt)
+    (total_set (λ (x : Position). (share_of x).held) xs i d y lt)
+    (total_set (λ (x : Position). (share_of x).pi_advance) xs i d y lt)
+
+stays : (z a : ℤ) → z +ℤ (a -ℤ a) ≡ z
+stays z a = omega (arith, ints)
+
+-- nothing changes where the position is the same
+pub line_stays : (c : Custody) (x : Position) → line_after c x x ≡ c
+line_stays c x = same_line
+    (stays c.t (share_of x).t)
+    (stays c.p (share_of x).p)
+    (stays c.suspense (share_of x).suspense)
+    (stays c.escrow (share_of x).escrow)
+    (stays c.escrow_advance (share_of x).escrow_advance)
+    (stays c.held (share_of x).held)
+    (stays c.pi_advance (share_of x).pi_advance)
 
 -- ---- the line after one loan changed
 

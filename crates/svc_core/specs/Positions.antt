@@ -1,6 +1,7 @@
 -- What custody holds for a loan, and what it counts for in the custodial line.
-use Rattle.std.specs.Prelude.{ℕ, ◌≤◌, List, length, map, Option, Some, None, ℤ, pos, neg_ℤ, ◌+ℤ◌, ◌-ℤ◌, ◌≤ℤ◌}
-use Rattle.std.specs.List.{All}
+use Rattle.std.specs.Prelude.{◌≡◌, ◌≢◌, ℕ, ◌≤◌, ◌<◌, List, length, map, get_or, Option, Some, None, ℤ, pos, neg_ℤ, ◌+ℤ◌, ◌-ℤ◌, ◌≤ℤ◌}
+use Rattle.std.specs.List.{All, AllPairs}
+use Rattle.svc_base.specs.Sums.{total_by}
 use Rattle.custodial_book.specs.declared.row.Totals.{Totals}
 use Rattle.custodial_book.specs.Rows.{AreTotals}
 use Rattle.svc_world.specs.declared.custody.Custody.{Custody}
@@ -51,6 +52,16 @@ pub record KeptPositions : Type 0 where
   pub items : List Position
   pub room : ℕ
 
+-- positions by places, each of which is that of one of them
+abbrev pub listed : List Position → List ℕ → List Position
+listed positions places = map (λ (i : ℕ). get_or positions i no_position) places
+
+-- each position has one place
+pub record ArePlaces (positions : List Position) (places : List ℕ) : Type 0 where
+  pub count : length places ≡ length positions
+  pub within : All (λ (i : ℕ). i < length positions) places
+  pub apart : AllPairs (λ (i j : ℕ). i ≢ j) places
+
 -- what a loan counts for in the custodial line
 abbrev pub share_of : Position → Custody
 share_of x = record {
@@ -73,6 +84,18 @@ line_after c before later = record {
   escrow_advance = c.escrow_advance +ℤ ((share_of later).escrow_advance -ℤ (share_of before).escrow_advance);
   held = c.held +ℤ ((share_of later).held -ℤ (share_of before).held);
   pi_advance = c.pi_advance +ℤ ((share_of later).pi_advance -ℤ (share_of before).pi_advance);
+}
+
+-- the custodial line of some positions
+abbrev pub line_in : List Position → Custody
+line_in xs = record {
+  t = total_by (λ (x : Position). (share_of x).t) xs;
+  p = total_by (λ (x : Position). (share_of x).p) xs;
+  suspense = total_by (λ (x : Position). (share_of x).suspense) xs;
+  escrow = total_by (λ (x : Position). (share_of x).escrow) xs;
+  escrow_advance = total_by (λ (x : Position). (share_of x).escrow_advance) xs;
+  held = total_by (λ (x : Position). (share_of x).held) xs;
+  pi_advance = total_by (λ (x : Position). (share_of x).pi_advance) xs;
 }
 
 -- an amount that custody may hold for a loan: no further from 0 than 10^14 cents

@@ -1,6 +1,6 @@
 //! The cash side of accepting a command: its rows, and the custodial line after it.
 
-ghost use Rattle.std.specs.Prelude.{◌≡◌, ◌+◌, ◌*◌, ◌≤◌, None, Some, ◌++◌, is_some, length, true, vec_capacity};
+ghost use Rattle.std.specs.Prelude.{◌≡◌, ◌+◌, ◌*◌, ◌≤◌, ◌<◌, None, Some, ◌++◌, is_some, length, set, slice_index_or, true, vec_capacity, IsTrue};
 ghost use Rattle.std.specs.List.{All};
 ghost use Rattle.svc_types.specs.declared.requests.Command.TheVariants.{Board};
 ghost use Rattle.svc_types.specs.Requests.{IsCommand};
@@ -14,15 +14,16 @@ ghost use Rattle.svc_core.specs.Appending.{MayAppend, MayAppendAll, rows_along};
 ghost use Rattle.svc_core.specs.Cash.{IsKeptIn};
 ghost use Rattle.svc_core.specs.Costs.{accepting_cost};
 ghost use Rattle.svc_core.specs.Positions as rule;
-ghost use Rattle.svc_core.specs.Positions.{CanRead, IsLine, IsPosition, positions_of, totals_in};
+ghost use Rattle.svc_core.specs.Positions.{CanRead, IsLine, IsPosition, line_in, positions_of, totals_in};
 ghost use Rattle.svc_core.specs.Ready.{HasRoomForOne, HasRoomForNew, HasRoomForAll, IsBoarding};
 ghost use Rattle.svc_core.specs.Rows.{IsCash};
 ghost use Rattle.svc_core.specs.Scope.{scope_of};
 ghost use Rattle.svc_core.specs.State.{world_of, IsState};
+ghost use Rattle.svc_core.specs.declared.position.Position.{Position as AnyPosition};
 ghost use Rattle.svc_core.specs.declared.scope.Scope.TheVariants as scope;
 
 use crate::changing::change_one;
-use crate::custody_line::{line_after, share_of};
+use crate::custody_line::line_after;
 use crate::everyone::change_all;
 use crate::position::{Position, no_position, position_at, position_of};
 use crate::state::{Cash, Scratch, State};
@@ -118,8 +119,8 @@ pub(crate) fn accept_new<B: LoanBooks>(
     cash.positions.insert(place, &later);
 }
 
-/// Accepts a command on all loans, for which there is room: changes them, adds the command's rows, and sums
-/// the custodial line anew.
+/// Accepts a command on all loans, for which there is room: changes them, adds the command's rows, and moves
+/// the custodial line.
 pub(crate) fn accept_all<B: LoanBooks, L: Ledger>(
     count: u32,
     command: &Command,
@@ -171,6 +172,7 @@ fn add(cash: &mut Cash, number: u32, loan: u32, before: &Position, later: &Posit
         ≡ cash.old.book.rows ++ rows_of number loan before.now.totals later.now.totals }
     ensures custody { cash.new.custody ≡ rule.line_after cash.old.custody before.now later.now }
     ensures positions { cash.new.positions ≡ cash.old.positions }
+    ensures spare { cash.old.book.spare ≤ cash.new.book.spare + 11 }
 {
     append_one(&mut cash.book, number, loan, &before.totals, &later.totals);
     cash.custody = line_after(&cash.custody, before, later);
@@ -189,13 +191,15 @@ fn append_one(book: &mut Book, number: u32, loan: u32, before: &Totals, later: &
     }
 }
 
-/// Adds the rows of a command for all loans, by what custody held for each before it, and sums the custodial
-/// line anew.
+/// Adds the rows of a command for all loans, by what custody held for each before it, and moves the custodial
+/// line by what changed.
 fn append_all<B: LoanBooks>(cash: &mut Cash, number: u32, state: &State<B>)
     requires read { CanRead (world_of state.now.today state.now.loans state.now.seals) state.now.loans.loans }
     requires may { MayAppendAll number (world_of state.now.today state.now.loans state.now.seals)
         (totals_in cash.old.positions.items) cash.old.book.rows }
     requires room { 11 * length state.now.loans.loans ≤ cash.old.book.spare }
+    requires line { cash.old.custody ≡ line_in cash.old.positions.items }
+    requires before { All IsPosition cash.old.positions.items }
     ensures rows { cash.new.book.rows ≡ cash.old.book.rows ++ rows_along number
         (world_of state.now.today state.now.loans state.now.seals) (totals_in cash.old.positions.items)
         (held_in state.now.loans.loans) }
@@ -203,17 +207,46 @@ fn append_all<B: LoanBooks>(cash: &mut Cash, number: u32, state: &State<B>)
     ensures positions { cash.new.positions.items
         ≡ positions_of (world_of state.now.today state.now.loans state.now.seals) }
 {
-    let none = no_position();
-    let mut line = share_of(&none);
     for i in 0..state.loans.len() {
         let id = state.loans.at(i).id();
-        let before = cash.positions.at(i);
         let later = position_at(state, i);
-        append_one(&mut cash.book, number, id, &before.totals, &later.totals);
-        line = line_after(&line, &none, &later);
-        cash.positions.set(i, &later);
+        move_to(cash, number, id, i, &later);
     }
-    cash.custody = line;
+}
+
+/// Adds the rows of a command for the loan at a place, moves the custodial line, and keeps what custody holds for the
+/// loan then: for most loans of a command on all that is what it held before.
+#[inline(always)]
+fn move_to(cash: &mut Cash, number: u32, loan: u32, place: usize, later: &Position)
+    requires place { place < length cash.old.positions.items }
+    requires may { (d : AnyPosition) → MayAppend number loan cash.old.book.rows
+        (slice_index_or cash.old.positions.items place d).totals later.now.totals }
+    requires room { 11 ≤ cash.old.book.spare }
+    requires line { IsLine cash.old.custody }
+    requires before { All IsPosition cash.old.positions.items }
+    requires later { IsPosition later.now }
+    ensures rows { (d : AnyPosition) → cash.new.book.rows ≡ cash.old.book.rows
+        ++ rows_of number loan (slice_index_or cash.old.positions.items place d).totals later.now.totals }
+    ensures custody { (d : AnyPosition) → cash.new.custody
+        ≡ rule.line_after cash.old.custody (slice_index_or cash.old.positions.items place d) later.now }
+    ensures positions { cash.new.positions.items ≡ set cash.old.positions.items place later.now }
+    ensures spare { cash.old.book.spare ≤ cash.new.book.spare + 11 }
+{
+    let before = cash.positions.at(place);
+    if is_same(before, later) {
+        return;
+    }
+    let before = *before;
+    add(cash, number, loan, &before, later);
+    cash.positions.set(place, later);
+}
+
+/// Whether custody holds the same.
+#[inline(always)]
+fn is_same(before: &Position, later: &Position) -> bool
+    ensures { IsTrue result → before.now ≡ later.now }
+{
+    before == later
 }
 
 /// The place of the loan with that number, which is there.

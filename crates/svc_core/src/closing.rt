@@ -43,25 +43,18 @@ pub(crate) fn next_to_close<B: LoanBooks>(state: &State<B>) -> Month
 {
     match state.seals.closed() {
         Some(last) => last.plus(1),
-        None => first_boarded(&state.loans, month_of(state.today)),
+        None => first_expected(&state.loans, month_of(state.today)),
     }
 }
 
 /// The first month in which a loan was boarded; a month where no loan is there.
-fn first_boarded<B: LoanBooks>(loans: &Loans<B>, month: Month) -> Month
+fn first_expected<B: LoanBooks>(loans: &Loans<B>, month: Month) -> Month
     ensures { result ≡ rule.first_expected month (held_in loans.now.loans) }
 {
-    if loans.len() == 0 {
-        return month;
+    match loans.first_boarded() {
+        Some(first) => first,
+        None => month,
     }
-    let mut least = month_of(loans.at(0).terms().boarded);
-    for i in 1..loans.len() {
-        let boarded = month_of(loans.at(i).terms().boarded);
-        if boarded < least {
-            least = boarded;
-        }
-    }
-    least
 }
 
 /// Why a month is not remitted: it is not closed, or another one is next.

@@ -15,7 +15,7 @@ use svc_replay::LoanBooks;
 
 /// What custody holds for a loan, in cents: what it moved so far of each part of custodial cash, its money
 /// that is not yet applied, its escrow balance, and the principal and interest that are held for it.
-#[derive(Clone, Copy)]
+#[derive(Clone, Copy, PartialEq, Eq)]
 pub(crate) struct Position {
     pub(crate) totals: Totals,
     pub(crate) suspense: Cents,

@@ -1,9 +1,10 @@
 -- All loans that are kept, by rising number.
-use Rattle.std.specs.Prelude.{◌≡◌, ℕ, ◌+◌, ◌≤◌, ◌<◌, ◌==◌, nat_lt, nat_le, Bool, List, [], ◌∷◌, map, length, get_or, Option, Some, None, if◌then◌else◌, MatchOption, ℤ, ◌+ℤ◌}
+use Rattle.std.specs.Prelude.{◌≡◌, ℕ, ◌+◌, ◌≤◌, ◌<◌, ◌==◌, nat_lt, nat_le, Bool, List, [], ◌∷◌, map, length, min, get_or, Option, Some, None, if◌then◌else◌, MatchOption, ℤ, ◌+ℤ◌}
 use Rattle.std.specs.List.{All, AllPairs, find}
 use Rattle.svc_base.specs.Calendar.{month_of}
 use Rattle.svc_spec.specs.Accounts.{Account, advanced_to}
 use Rattle.svc_world.specs.Held.{Held, boarded_month}
+use Rattle.svc_world.specs.Refusals.{least_boarded}
 use Rattle.svc_loan.specs.Kept.{KeptLoan, IsAhead}
 
 -- loans, and for how many more there is room
@@ -25,10 +26,22 @@ remitted_in ks = map (λ (k : KeptLoan). k.remitted) ks
 abbrev pub Rise : List KeptLoan → Type 0
 Rise ks = AllPairs (λ (j k : KeptLoan). j.held.id < k.held.id) ks
 
--- the numbers of loans rise, and each has room for business days up to a month and for so many closed months
-pub record AreLoans (until closings : ℕ) (ks : List KeptLoan) : Type 0 where
+-- the first month in which a loan was boarded
+abbrev pub first_boarded : List Held → Option ℕ
+first_boarded [] = None
+first_boarded (l ∷ ls) = Some (least_boarded (boarded_month l) ls)
+
+-- the earlier of two months, of which the first may not be there
+abbrev pub earlier_of : Option ℕ → ℕ → ℕ
+earlier_of None month = month
+earlier_of (Some first) month = min first month
+
+-- the numbers of loans rise, each has room for business days up to a month and for so many closed months, and the
+-- first boarded month is kept
+pub record AreLoans (until closings : ℕ) (month : Option ℕ) (ks : List KeptLoan) : Type 0 where
   pub rise : Rise ks
   pub ahead : All (IsAhead until closings) ks
+  pub first : month ≡ first_boarded (held_in ks)
 
 abbrev pub is_numbered : ℕ → KeptLoan → Bool
 is_numbered id k = k.held.id == id

@@ -31,8 +31,9 @@ use svc_base::{Cents, Day, Month, OutOfMemory, Steps, make_room, month_of};
 use svc_replay::{LoanAccount, LoanBooks};
 use svc_types::{Books, Entry, RemitType, Terms, TypeChange};
 
-/// By how many months at least the lists of closed ones grow.
-const STEP: usize = 6;
+/// By how many months at least the lists of closed ones grow: by twice those for which `Loans` makes room at once, so
+/// that they grow every second time.
+const STEP: usize = 8;
 
 /// A loan: its number, its books however they are kept, its escrow lines and changes of remittance type,
 /// the dues of its closed months, and what was remitted to the investor for it.

@@ -14,6 +14,7 @@ ghost use Rattle.svc_loan.specs.Closed as closed;
 ghost use Rattle.svc_loan.specs.Loans.{Rise, IsPlaceIn, OfLoan, find_kept, with_kept, held_in, closed_in, remitted_in};
 ghost use Rattle.svc_loan.specs.Kept.{IsReady, HasMonth, IsAhead, KeepsMonths};
 ghost use Rattle.svc_loan.specs.Loans.{remitted_by, MayCloseMonth, closed_by, advance_cost, close_cost};
+ghost use Rattle.svc_loan.specs.Loans.{first_boarded, earlier_of};
 
 use crate::loan::Loan;
 use escrow_lines::Line;
@@ -30,8 +31,9 @@ const AHEAD: u32 = 4;
 /// The months of the calendar.
 const MONTHS: u32 = 25_692;
 
-/// All loans by rising number. A loan is found where room was made last, or just behind it, and else by binary search;
-/// it is put in by moving pointers. Room for business days and closed months is made in all loans for some months at once.
+/// All loans by rising number. A loan is found where room was made or something was remitted last, or just behind it,
+/// and else by binary search; it is put in by moving pointers. Room for business days and closed months is made in all
+/// loans for some months at once.
 #[derive(Drop)]
 pub struct Loans<B: LoanBooks> {
     loans: Vec<Box<Loan<B>>>,
@@ -40,6 +42,8 @@ pub struct Loans<B: LoanBooks> {
     until: u32,
     /// For so many closed months each loan has room.
     closings: usize,
+    /// The first month in which a loan was boarded.
+    first: Option<Month>,
 }
 
 impl<B: LoanBooks> Model for Loans<B> {
@@ -53,7 +57,7 @@ impl<B: LoanBooks> Model for Loans<B> {
       room = vec_capacity l.loans - vec_len l.loans;
     } };
 
-    ghost invariant = { λ l. AreLoans l.until l.closings (map (λ b. b.value) l.loans.items) };
+    ghost invariant = { λ l. AreLoans l.until l.closings l.first (map (λ b. b.value) l.loans.items) };
 }
 
 impl<B: LoanBooks> Loans<B> {
@@ -66,6 +70,7 @@ impl<B: LoanBooks> Loans<B> {
             last: 0,
             until: 0,
             closings: 0,
+            first: None,
         }
     }
 
@@ -83,6 +88,13 @@ impl<B: LoanBooks> Loans<B> {
     {
         self.loans.reserve(1)?;
         Ok(())
+    }
+
+    /// The first month in which a loan was boarded, where one is there.
+    pub fn first_boarded(&self) -> Option<Month>
+        ensures { result ≡ first_boarded (held_in self.now.loans) }
+    {
+        self.first
     }
 
     /// The loan with that number.
@@ -185,6 +197,8 @@ impl<B: LoanBooks> Loans<B> {
         ensures loan_room { self.new.room ≡ self.old.room }
     {
         let place = place_there(&self.loans, id, self.last);
+        // the lines of a report are in the order of numbers
+        self.last = place;
         let loan = &mut self.loans[place];
         loan.remit(cents);
     }
@@ -197,6 +211,9 @@ impl<B: LoanBooks> Loans<B> {
         ensures held { held_in self.new.loans ≡ held.with_loan loan.value.held (held_in self.old.loans) }
     {
         let place = place_for(&self.loans, loan.id());
+        let boarded = month_of(loan.terms().boarded);
+        let first = earlier_of(self.first, boarded);
+        self.first = Some(first);
         // nothing is known of the room of the new one
         self.until = 0;
         self.closings = 0;
@@ -335,6 +352,16 @@ fn some_months_after(day: Day) -> Day
         return first_day(month.plus(AHEAD));
     }
     day
+}
+
+/// The earlier of two months, of which the first may not be there.
+fn earlier_of(first: Option<Month>, month: Month) -> Month
+    ensures { result ≡ earlier_of first month }
+{
+    match first {
+        Some(first) if first.number() <= month.number() => first,
+        _ => month,
+    }
 }
 
 /// Closes a month of a loan, where it was boarded by it.

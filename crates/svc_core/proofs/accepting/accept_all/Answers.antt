@@ -1,10 +1,13 @@
-use Rattle.std.proofs.Common.{◌≡◌, ◌+◌, ◌++◌, length, refl, arith, ap, ◌∙◌}
+use Rattle.std.proofs.Common.{◌≡◌, ◌+◌, ◌++◌, length, refl, arith, sym, ap, subst, ◌∙◌}
+use Rattle.std.specs.List.{All}
 use Rattle.std.proofs.lemmas.List.{length-map}
+use Rattle.std.proofs.lemmas.List.Elements.{All-map}
 use Rattle.svc_loan.specs.Kept.{KeptLoan}
 use Rattle.svc_loan.specs.Loans.{held_in}
-use Rattle.svc_core.specs.Positions.{totals_in}
+use Rattle.svc_core.specs.Positions.{IsPosition, position_of, totals_in, line_in}
 use Rattle.svc_core.specs.State.{world_of}
-use Rattle.svc_core.proofs.AcceptLemmas.{AreAdded, can_read, accepted_all}
+use Rattle.svc_core.proofs.AcceptLemmas.{AreAdded, can_read, accepted_all, positions_within}
+use Rattle.svc_core.proofs.LineLemmas.{line_of_world}
 use Rattle.svc_core.proofs.PlaceLemmas.{totals_are}
 use Rattle.svc_core.proofs.accepting.accept_all.Given.{Over}
 use Rattle.svc_core.proofs.accepting.accept_all.Goals as goal
@@ -24,6 +27,16 @@ append_all-requires-clause-read g c =
 
 pub append_all-requires-clause-may : goal.append_all-requires-clause-may
 append_all-requires-clause-may g c = (asked g c).may
+
+pub append_all-requires-clause-line : goal.append_all-requires-clause-line
+append_all-requires-clause-line g c =
+    let w = world_of c.args.state.now.today c.args.state.now.loans c.args.state.now.seals in
+    c.requires.cash.line ∙ sym (line_of_world w) ∙ ap line_in (sym c.requires.cash.places)
+
+pub append_all-requires-clause-before : goal.append_all-requires-clause-before
+append_all-requires-clause-before g c =
+    let w = world_of c.args.state.now.today c.args.state.now.loans c.args.state.now.seals in
+    subst (All IsPosition) (sym c.requires.cash.places) (All-map IsPosition (position_of w) w.loans (positions_within c.args.count w c.requires.state.world))
 
 pub append_all-requires-clause-room : goal.append_all-requires-clause-room
 append_all-requires-clause-room g c =

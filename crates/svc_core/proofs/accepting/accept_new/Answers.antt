@@ -1,7 +1,8 @@
-use Rattle.std.proofs.Common.{◌+◌, ◌≤◌, ◌++◌, length, refl, sym, ap, subst, ◌∙◌}
+use Rattle.std.proofs.Common.{◌≡◌, ◌+◌, ◌≤◌, ◌++◌, length, arith, refl, sym, ap, subst, ◌∙◌}
+use Rattle.std.proofs.lemmas.List.{length-map}
 use Rattle.svc_types.specs.declared.requests.Command.TheVariants.{Board}
 use Rattle.std.specs.List.{insert}
-use Rattle.svc_core.specs.Positions.{KeptPositions, IsLine, line_after}
+use Rattle.svc_core.specs.Positions.{KeptPositions, IsLine, line_after, position_of}
 use Rattle.svc_core.specs.State.{world_of}
 use Rattle.svc_core.proofs.AcceptLemmas.{IsAdded, can_read, custody_within, accepted_new, later_world}
 use Rattle.svc_core.proofs.PlaceLemmas.{insert_here, room_after, there_after}
@@ -38,6 +39,13 @@ insert-requires-clause-place g c =
     let w = world_of c.args.state.now.today c.args.state.now.loans c.args.state.now.seals in
     let within = room_after c.args.count c.args.id c.place_there-place.result w (world_of s.today s.loans s.seals) c.args.terms.now s.loans.loans c.args.cash.now.positions.items c.requires.fresh c.change_new.ensures.world refl c.requires.cash.places c.place_there-place.ensures in
     subst (λ (p : KeptPositions). c.place_there-place.result ≤ length p.items) (sym c.add.ensures.positions) within
+
+pub insert-requires-clause-few : goal.insert-requires-clause-few
+insert-requires-clause-few g c =
+    let w = world_of c.args.state.now.today c.args.state.now.loans c.args.state.now.seals in
+    let count : length c.args.cash.now.positions.items ≡ length w.loans = ap length c.requires.cash.places ∙ length-map w.loans (position_of w) in
+    let few = c.requires.state.world.few in
+    subst (λ (p : KeptPositions). length p.items ≤ 12_000) (sym c.add.ensures.positions) (omega (arith, count, few))
 
 pub insert-requires-clause-room : goal.insert-requires-clause-room
 insert-requires-clause-room g c = subst (λ (p : KeptPositions). 1 ≤ p.room) (sym c.add.ensures.positions) c.requires.room.places_room

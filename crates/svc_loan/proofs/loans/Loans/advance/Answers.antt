@@ -4,7 +4,8 @@ use Rattle.std.specs.List.{All}
 use Rattle.svc_base.specs.Calendar.{month_of as month_number}
 use Rattle.svc_world.specs.Held.{on_day}
 use Rattle.svc_loan.specs.Kept.{KeptLoan}
-use Rattle.svc_loan.specs.Loans.{KeptLoans, advance_cost, held_in}
+use Rattle.svc_loan.specs.Loans.{KeptLoans, advance_cost, held_in, first_boarded}
+use Rattle.svc_loan.proofs.FirstLemmas.{first_mapped}
 use Rattle.svc_loan.proofs.KeptLemmas.{ahead_at}
 use Rattle.svc_loan.proofs.EachLemmas.{AllDone, one_done, all_done, done_rises, asked_next, next_old, held_mapped, sum_more}
 use Rattle.svc_loan.proofs.loans.Loans.advance.Given.{Over}
@@ -55,6 +56,7 @@ loop-i-preserved g c =
           (e.closed ∙ ap (λ (k : KeptLoan). k.closed) old)
           (e.remitted ∙ ap (λ (k : KeptLoan). k.remitted) old);
       ahead = ahead_at v c.loop-i.self-inside.until c.loop-i.self-inside.closings news i x (with_value x c.advance.new.self) c.deref_mut.result.now inv.ahead (let same = inv.done.count in omega arith) old e.months;
+      first = inv.first;
       end = inv.end;
       count = search;
       capacity = search;
@@ -70,6 +72,7 @@ pub invariant_of-self : goal.invariant_of-self
 invariant_of-self g c = record {
   rise = done_rises (λ (k : KeptLoan). on_day c.args.today k.held) (λ (k : KeptLoan). k.closed) _ _ (all g c) (λ k. refl) c.self.invariant.rise;
   ahead = c.loop-i.invariant.ahead;
+  first = c.loop-i.invariant.first ∙ c.self.invariant.first ∙ sym (ap first_boarded ((all g c).held ∙ held_mapped (on_day c.args.today) _) ∙ first_mapped (on_day c.args.today) _ (λ l. refl));
 }
 
 pub returns-clause-held : goal.returns-clause-held

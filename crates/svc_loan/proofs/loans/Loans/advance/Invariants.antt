@@ -10,6 +10,7 @@ abbrev pub invariant-loop-i : goal.invariant-loop-i
 invariant-loop-i g l = record {
   done : Done (λ (b : Box KeptLoan Global). b.value) (λ (k : KeptLoan). on_day l.today k.held) (λ (k : KeptLoan). k.closed) l.initial.self-inside.loans.items l.self-inside.loans.items l.i;
   ahead : All (IsAhead l.self-inside.until l.self-inside.closings) (map (λ (b : Box KeptLoan Global). b.value) l.self-inside.loans.items);
+  first : l.self-inside.first ≡ l.initial.self-inside.first;
   end : l.i-end ≡ length l.initial.self-inside.loans.items;
   count : vec_len l.self-inside.loans ≡ vec_len l.initial.self-inside.loans;
   capacity : vec_capacity l.self-inside.loans ≡ vec_capacity l.initial.self-inside.loans;

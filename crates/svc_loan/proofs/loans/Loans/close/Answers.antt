@@ -2,7 +2,7 @@ use Rattle.std.proofs.Common.{◌≡◌, ◌<◌, Box, Global, map, length, get_
 use Rattle.std.specs.Box.{with_value}
 use Rattle.std.specs.List.{All}
 use Rattle.svc_loan.specs.Kept.{KeptLoan, IsAhead}
-use Rattle.svc_loan.specs.Loans.{KeptLoans, MayCloseMonth, closed_by, close_cost, held_in}
+use Rattle.svc_loan.specs.Loans.{KeptLoans, MayCloseMonth, closed_by, close_cost, held_in, first_boarded}
 use Rattle.svc_loan.proofs.KeptLemmas.{closed_at}
 use Rattle.svc_loan.proofs.EachLemmas.{AllDone, one_done, all_done, done_rises, asked_next, next_old, sum_more}
 use Rattle.svc_loan.proofs.loans.Loans.close.Given.{Over}
@@ -42,6 +42,7 @@ loop-i-preserved g c =
       same_until = inv.same_until;
       same_closings = inv.same_closings;
       ahead = closed_at v c.self.inside.until c.self.inside.closings c.saturating_sub-self-inside.result news i (with_value x c.close_one.new.loan) c.deref_mut.result.now inv.ahead c.saturating_sub-self-inside.ensures (subst (IsAhead c.self.inside.until c.self.inside.closings) (sym old) (asked_next v (IsAhead c.self.inside.until c.self.inside.closings) olds news i x c.self.invariant.ahead lt inv.done.rest)) e.months;
+      first = inv.first;
       end = inv.end;
       count = search;
       capacity = search;
@@ -57,6 +58,7 @@ pub invariant_of-self : goal.invariant_of-self
 invariant_of-self g c = record {
   rise = done_rises (λ (k : KeptLoan). k.held) (closed_by c.args.month) _ _ (all g c) (λ k. refl) c.self.invariant.rise;
   ahead = rw (c.loop-i.invariant.same_until, c.loop-i.invariant.same_closings) c.loop-i.invariant.ahead;
+  first = c.loop-i.invariant.first ∙ c.self.invariant.first ∙ sym (ap first_boarded (all g c).held);
 }
 
 pub returns-clause-held : goal.returns-clause-held

@@ -11,6 +11,7 @@ invariant-loop-i g l = record {
   same_until : l.self-inside.until ≡ l.initial.self-inside.until;
   same_closings : l.self-inside.closings ≡ l.initial.self-inside.closings;
   ahead : All (IsAhead l.initial.self-inside.until l.initial.self-inside.closings) (map (λ (b : Box KeptLoan Global). b.value) l.self-inside.loans.items);
+  first : l.self-inside.first ≡ l.initial.self-inside.first;
   end : l.i-end ≡ length l.initial.self-inside.loans.items;
   count : vec_len l.self-inside.loans ≡ vec_len l.initial.self-inside.loans;
   capacity : vec_capacity l.self-inside.loans ≡ vec_capacity l.initial.self-inside.loans;

@@ -1,9 +1,12 @@
 use Rattle.std.proofs.Common.{◌≡◌, ◌≤◌, Box, Global, map, length, sym, ap, subst, ◌∙◌}
-use Rattle.std.specs.Prelude.{None, nat_lt, true, false}
+use Rattle.std.specs.Prelude.{None, Some, nat_lt, true, false}
 use Rattle.std.specs.List.Sorted.{IsPartitionPoint}
-use Rattle.svc_world.specs.Held.{with_loan}
+use Rattle.svc_base.specs.Calendar.{month_of}
+use Rattle.svc_types.specs.declared.terms.Terms.{Terms}
+use Rattle.svc_world.specs.Held.{with_loan, boarded_month}
 use Rattle.svc_loan.specs.Kept.{KeptLoan}
-use Rattle.svc_loan.specs.Loans.{KeptLoans, Rise, find_kept, with_kept, held_in}
+use Rattle.svc_loan.specs.Loans.{KeptLoans, Rise, find_kept, with_kept, held_in, first_boarded, earlier_of}
+use Rattle.svc_loan.proofs.FirstLemmas.{first_with}
 use Rattle.svc_loan.proofs.KeptLemmas.{none_ahead, placed_kept, with_rises, with_held}
 use Rattle.svc_loan.proofs.loans.Loans.insert.Given.{Over}
 use Rattle.svc_loan.proofs.loans.Loans.insert.Goals as goal
@@ -24,10 +27,22 @@ placed g c =
     let le : i ≤ length xs = subst (λ ys. i ≤ length ys) c.deref.ensures.value c.place_for-place.ensures.bound in
     ap (map (λ (b : Box KeptLoan Global). b.value)) c.in-Ok.ensures.items ∙ placed_kept (λ (b : Box KeptLoan Global). b.value) xs i x le point (none g c)
 
+-- the first boarded month is that of the loans with the new one
+first_is : (g : Over) (c : goal.In-Ok g) → Some c.earlier_of-first.result ≡ first_boarded (held_in (map (λ (b : Box KeptLoan Global). b.value) c.insert.new.self.items))
+first_is g c =
+    let olds = map (λ (b : Box KeptLoan Global). b.value) c.self.inside.loans.items in
+    let l = c.args.loan.value.held in
+    let boarded : c.month_of-boarded.result ≡ boarded_month l = c.month_of-boarded.ensures ∙ ap (λ (t : Terms). month_of t.boarded) c.terms.ensures ∙ ap (λ (k : KeptLoan). boarded_month k.held) c.deref-3.ensures in
+    ap Some (c.earlier_of-first.ensures ∙ ap (earlier_of c.self.inside.first) boarded)
+    ∙ ap (λ o. Some (earlier_of o (boarded_month l))) c.self.invariant.first
+    ∙ sym (first_with l (held_in olds))
+    ∙ sym (ap first_boarded (ap held_in (placed g c) ∙ with_held c.args.loan.value olds))
+
 pub invariant_of-self : goal.invariant_of-self
 invariant_of-self g c = record {
   rise = subst Rise (sym (placed g c)) (with_rises c.args.loan.value (map (λ (b : Box KeptLoan Global). b.value) c.self.inside.loans.items) c.self.invariant.rise (none g c));
   ahead = none_ahead (map (λ (b : Box KeptLoan Global). b.value) c.insert.new.self.items);
+  first = first_is g c;
 }
 
 pub returns-clause-loans : goal.returns-clause-loans

@@ -4,7 +4,7 @@ use Rattle.std.proofs.lemmas.Int.{to_z-of_z}
 use Rattle.std.specs.Box.{with_value}
 use Rattle.std.proofs.Math.ListN.{set}
 use Rattle.svc_loan.specs.Kept.{KeptLoan}
-use Rattle.svc_loan.specs.Loans.{KeptLoans, IsPlaceIn, find_kept, held_in, closed_in, remitted_by}
+use Rattle.svc_loan.specs.Loans.{KeptLoans, IsPlaceIn, find_kept, held_in, closed_in, remitted_by, first_boarded}
 use Rattle.svc_loan.proofs.KeptLemmas.{ahead_behind, Stays, of_found, at_place, stay_behind, remitted_rises}
 use Rattle.svc_loan.proofs.loans.Loans.remit.Given.{Over}
 use Rattle.svc_loan.proofs.loans.Loans.remit.Goals as goal
@@ -26,7 +26,7 @@ remit-requires-clause-low g c = let fits : FitsSigned w64 c.args.cents = c.range
 pub remit-requires-clause-high : goal.remit-requires-clause-high
 remit-requires-clause-high g c = let fits : FitsSigned w64 c.args.cents = c.ranges.cents in simp to_z-of_z (of_found (λ (k : KeptLoan). (k.remitted +ℤ c.args.cents) ≤ℤ pos 1_000_000_000_000_000_000) c.args.id c.args.self.now.loans c.deref_mut.result.now c.requires.high (lent g c))
 
-whole : (g : Over) (c : goal.After-self-1 g) → Stays (map (λ (b : Box KeptLoan Global). b.value) c.self.inside.loans.items) (map (λ (b : Box KeptLoan Global). b.value) (set c.self.inside.loans.items c.place_there-place.result (with_value c.index_mut-loan.result.now c.remit.new.self))) c.args.id c.remit.new.self
+whole : (g : Over) (c : goal.After-self-2-1 g) → Stays (map (λ (b : Box KeptLoan Global). b.value) c.self.inside.loans.items) (map (λ (b : Box KeptLoan Global). b.value) (set c.self.inside.loans.items c.place_there-place.result (with_value c.index_mut-loan.result.now c.remit.new.self))) c.args.id c.remit.new.self
 whole g c =
     let xs = c.self.inside.loans.items in
     let i = c.place_there-place.result in
@@ -46,6 +46,7 @@ invariant_of-self g c =
     record {
       rise = (whole g c).rise;
       ahead = ahead_behind (λ (b : Box KeptLoan Global). b.value) c.self.inside.until c.self.inside.closings xs c.args.id i x (with_value x c.remit.new.self) c.deref_mut.result.now c.self.invariant.ahead place old c.remit.ensures.months;
+      first = c.self.invariant.first ∙ sym (ap first_boarded (whole g c).held);
     }
 
 pub returns-clause-held : goal.returns-clause-held

@@ -4,7 +4,7 @@ use Rattle.std.proofs.Math.ListN.{set}
 use Rattle.std.proofs.lemmas.List.{length-set}
 use Rattle.svc_base.specs.Calendar.{month_of as month_number}
 use Rattle.svc_loan.specs.Kept.{KeptLoan, IsAhead}
-use Rattle.svc_loan.specs.Loans.{KeptLoans, held_in, closed_in, remitted_in}
+use Rattle.svc_loan.specs.Loans.{KeptLoans, held_in, closed_in, remitted_in, first_boarded}
 use Rattle.svc_loan.proofs.KeptLemmas.{ahead_at}
 use Rattle.svc_loan.proofs.EachLemmas.{AllDone, done_rises, replaced_same, holds_more, holds_all}
 use Rattle.svc_loan.proofs.loans.Loans.reserve_each.Given.{Over}
@@ -30,6 +30,7 @@ pub invariant_of-self : goal.invariant_of-self
 invariant_of-self g c = record {
   rise = done_rises (λ (k : KeptLoan). k.held) (λ (k : KeptLoan). k.closed) _ _ c.loop-i.invariant.same (λ k. refl) c.self.invariant.rise;
   ahead = c.loop-i.invariant.ahead;
+  first = c.loop-i.invariant.first ∙ c.self.invariant.first ∙ sym (ap first_boarded c.loop-i.invariant.same.held);
 }
 
 pub invariant_of-self-in_err-reserve_months : goal.invariant_of-self-in_err-reserve_months
@@ -40,6 +41,7 @@ invariant_of-self-in_err-reserve_months g c = record {
       let news = c.loop-i.self-inside.loans.items in
       let lt : c.loop-i.i < length news = (let t = c.loop-i-test.true in let e = inv.end in omega arith) in
       ahead_at (λ (b : Box KeptLoan Global). b.value) c.loop-i.self-inside.until c.loop-i.self-inside.closings news c.loop-i.i c.index_mut-loan.result.now (with_value c.index_mut-loan.result.now c.reserve_months.new.self) c.deref_mut.result.now inv.ahead lt (c.deref_mut.ensures.value ∙ ap (λ (b : Box KeptLoan Global). b.value) c.index_mut-loan.ensures.value) c.reserve_months.ensures.months;
+  first = c.loop-i.invariant.first ∙ c.self.invariant.first ∙ sym (ap first_boarded (set_err g c).held);
 }
 
 pub returns-in_err-reserve_months-clause-held : goal.returns-in_err-reserve_months-clause-held
@@ -63,6 +65,7 @@ loop-i-preserved g c =
       same = set_ok g c;
       ready = holds_more (λ (b : Box KeptLoan Global). b.value) (IsAhead (month_number c.args.later) 4) news i (with_value x c.reserve_months.new.self) lt inv.ready c.in_ok-reserve_months.ensures.ahead;
       ahead = ahead_at (λ (b : Box KeptLoan Global). b.value) c.loop-i.self-inside.until c.loop-i.self-inside.closings news i x (with_value x c.reserve_months.new.self) c.deref_mut.result.now inv.ahead lt (c.deref_mut.ensures.value ∙ ap (λ (b : Box KeptLoan Global). b.value) c.index_mut-loan.ensures.value) c.reserve_months.ensures.months;
+      first = inv.first;
       end = inv.end ∙ sym count;
       count = search;
       capacity = search;

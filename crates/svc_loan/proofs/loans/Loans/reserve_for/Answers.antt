@@ -3,7 +3,7 @@ use Rattle.std.specs.Prelude.{Some}
 use Rattle.std.specs.Box.{with_value}
 use Rattle.std.proofs.Math.ListN.{set}
 use Rattle.svc_loan.specs.Kept.{KeptLoan, IsReady}
-use Rattle.svc_loan.specs.Loans.{KeptLoans, OfLoan, find_kept, IsPlaceIn, held_in, closed_in, remitted_in}
+use Rattle.svc_loan.specs.Loans.{KeptLoans, OfLoan, find_kept, IsPlaceIn, held_in, closed_in, remitted_in, first_boarded}
 use Rattle.svc_loan.proofs.KeptLemmas.{ahead_behind, at_place, of_found, Stays, on_ok, found_of, stay_behind, remitted_stays}
 use Rattle.svc_loan.proofs.loans.Loans.reserve_for.Given.{Over}
 use Rattle.svc_loan.proofs.loans.Loans.reserve_for.Goals as goal
@@ -28,6 +28,7 @@ invariant_of-self g c =
     record {
       rise = (whole g c).rise;
       ahead = ahead_behind (λ (b : Box KeptLoan Global). b.value) c.self.inside.until c.self.inside.closings xs c.args.id i x (with_value x c.reserve.new.self) c.deref_mut.result.now c.self.invariant.ahead place old c.reserve.ensures.months;
+      first = c.self.invariant.first ∙ sym (ap first_boarded (whole g c).held);
     }
 
 pub returns-clause-held : goal.returns-clause-held

@@ -4,7 +4,8 @@ use Rattle.std.specs.Box.{with_value}
 use Rattle.std.proofs.Math.ListN.{set}
 use Rattle.svc_world.specs.Held.{changed}
 use Rattle.svc_loan.specs.Kept.{KeptLoan}
-use Rattle.svc_loan.specs.Loans.{KeptLoans, IsPlaceIn, find_kept, held_in, closed_in, remitted_in}
+use Rattle.svc_loan.specs.Loans.{KeptLoans, IsPlaceIn, find_kept, held_in, closed_in, remitted_in, first_boarded}
+use Rattle.svc_loan.proofs.FirstLemmas.{first_changed}
 use Rattle.svc_loan.proofs.KeptLemmas.{ahead_behind, Changed, of_found, at_place, change_behind}
 use Rattle.std.specs.Prelude.{None}
 use Rattle.escrow_lines.specs.BillLists.{set_fault}
@@ -52,6 +53,7 @@ invariant_of-self g c =
     record {
       rise = (whole g c).rise;
       ahead = ahead_behind (λ (b : Box KeptLoan Global). b.value) c.self.inside.until c.self.inside.closings xs c.args.id i x (with_value x c.set_line.new.self) c.deref_mut.result.now c.self.invariant.ahead place old c.set_line.ensures.months;
+      first = c.self.invariant.first ∙ sym (ap first_boarded (whole g c).held ∙ first_changed c.args.id (with_bill c.args.line) _ (λ l. refl));
     }
 
 pub returns-clause-held : goal.returns-clause-held
