@@ -114,6 +114,10 @@ fn take_late(books: &mut Books, terms: &Terms, day: Day)
     requires sums { MaySettle books.old }
     ensures { books.new ≡ rule.late_taken terms.now day books.old }
 {
+    // an empty suspense pays nothing
+    if books.suspense <= 0 {
+        return;
+    }
     if is_overdue(books, terms, day) {
         return;
     }
