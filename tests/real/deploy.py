@@ -362,7 +362,7 @@ def manual(room):
     text = shown.stdout.decode()
     table = read(TOP, "docs", "PROGRAM.md").decode()
     words, statuses = re.findall(r"^\| `(.*?)` \|", table, re.M), re.findall(r"^\| (\d+) \| (\w+)", table, re.M)
-    same((16, 14), (len(words), len(statuses)))
+    same((17, 14), (len(words), len(statuses)))
     for it in [*words, *(" ".join(it) for it in statuses)]:
         same(True, f"\n       {it}" in text, it)
 

@@ -13,6 +13,7 @@ usage: jaqhendulu JOURNAL WORDS
   report YYYY-MM            writes the report of a month
   trial YYYY-MM             writes the trial balance of a month
   custodial                 writes what both custodial accounts hold
+  ask QUERY                 writes the reply to one query: ask books 101
   serve PORT CONNECTIONS    answers HTTP at a port of 127.0.0.1
   transfer FROM TO          writes the lines of the loans of these numbers
   remain FROM TO            writes the lines of all other loans

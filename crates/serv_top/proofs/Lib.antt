@@ -16,3 +16,4 @@ pub mod ReviewLemmas
 pub mod LinksLemmas
 pub mod FeedLemmas
 pub mod ExtractLemmas
+pub mod AskLemmas

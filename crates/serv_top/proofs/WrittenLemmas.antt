@@ -6,6 +6,7 @@ use Rattle.std.proofs.lemmas.List.Folds.{flat_map-map}
 use Rattle.std.specs.Prelude.{Option, Some}
 use Rattle.std.proofs.KnownBytes.{Appends-nil}
 use Rattle.svc_types.specs.declared.requests.Command.{Command}
+use Rattle.svc_types.specs.declared.requests.Query.{Query}
 use Rattle.svc_world.specs.World.{Accepted, accepted}
 use Rattle.svc_world.specs.Judging.{IsHistory}
 use Rattle.svc_core.specs.Posted.{history_of}
@@ -17,6 +18,7 @@ use Rattle.serv_top.specs.declared.status.Status.{Status}
 use Rattle.serv_top.specs.declared.status.Status.TheVariants as status
 use Rattle.serv_top.specs.Journal.{IsUnopened}
 use Rattle.serv_top.specs.Written.{IsWrittenAs, Writes}
+use Rattle.serv_top.specs.Asked.{IsAsked}
 use Rattle.serv_top.specs.Extracts.{IsExtracted, lines_of_commands}
 use Rattle.serv_top.proofs.Applied.{Completes, unopened_ends}
 
@@ -71,6 +73,16 @@ pub complete_extract : {D A : Type 0} (seen : D → Option (List ℕ)) (images :
     → (st ≡ status.WriteFault → ⊥) → (HasRisen (faults old) (faults new) → ⊥)
     → (IsUnopened seen images moment images_since faults old new st steps steps' × A) ⊎ IsExtracted seen images moment images_since old new st x steps steps' held held' → Completes st
 complete_extract {D} seen images moment images_since faults old new st x steps steps' held held' s h a told is_history good writes calm which =
+    ⊎_elim
+    (λ closed. unopened_ends st s h a (faults old) (faults new) (seen old) told is_history good closed.0.cause calm)
+    (λ over. written_ends st _ over.wrote.written writes over.wrote.says)
+    which
+
+pub complete_asked : {D A : Type 0} (seen : D → Option (List ℕ)) (images : D → List ℕ → Type 0) (moment : D → ℕ) (images_since : D → ℕ → List ℕ → Type 0) (faults : D → ℕ) (old new : D) (st : Status) (q : Query)
+    (steps steps' : ℕ) (held held' : Option (List ℕ)) (s : List ℕ) (h : List Accepted) (a : Accepted) → seen old ≡ Some s → IsHistory (h ++ a ∷ []) → IsGoodFound h a s
+    → (st ≡ status.WriteFault → ⊥) → (HasRisen (faults old) (faults new) → ⊥)
+    → (IsUnopened seen images moment images_since faults old new st steps steps' × A) ⊎ IsAsked seen images moment images_since old new st q steps steps' held held' → Completes st
+complete_asked {D} seen images moment images_since faults old new st q steps steps' held held' s h a told is_history good writes calm which =
     ⊎_elim
     (λ closed. unopened_ends st s h a (faults old) (faults new) (seen old) told is_history good closed.0.cause calm)
     (λ over. written_ends st _ over.wrote.written writes over.wrote.says)

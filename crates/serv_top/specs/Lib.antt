@@ -9,6 +9,7 @@ pub mod Serving
 pub mod Stop
 pub mod Journal
 pub mod Shown
+pub mod Asked
 pub mod Written
 pub mod Extracts
 pub mod Reviews

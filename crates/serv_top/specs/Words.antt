@@ -1,11 +1,14 @@
 -- The words of the command line that the program knows.
-use Rattle.std.specs.Prelude.{ℕ, ◌≤◌, ◌+◌, ◌-◌, ◌*◌, ◌==◌, nat_le, Bool, ◌&&◌, List, [], ◌∷◌, length, codes, Option, Some, None, if◌then◌else◌}
+use Rattle.std.specs.Prelude.{◌≡◌, ◌≢◌, ℕ, ◌≤◌, ◌+◌, ◌-◌, ◌*◌, ◌==◌, nat_le, Bool, ◌&&◌, List, [], ◌∷◌, length, drop, codes, Option, Some, None, if◌then◌else◌}
 use Rattle.std.specs.Str.{bytes_eq}
 use Rattle.std.specs.Str.Parse.{digits_value}
 use Rattle.svc_base.specs.Calendar.{year_of_month}
 use Rattle.svc_base.specs.Text.{IsReadMonth, text_of_month, text_of_number}
 use Rattle.svc_types.specs.declared.requests.Query.{Query}
 use Rattle.svc_types.specs.declared.requests.Query.TheVariants as query
+use Rattle.svc_types.specs.declared.requests.Request.TheVariants as request
+use Rattle.svc_types.specs.Requests.{IsQuery}
+use Rattle.serv_line.specs.Lines.{words_of_request}
 use Rattle.serv_top.specs.declared.extracts.Extract.TheVariants as extract
 use Rattle.serv_top.specs.declared.reviews.Review.TheVariants as review
 use Rattle.serv_top.specs.Extracts.{IsAskedExtract}
@@ -102,7 +105,7 @@ task_with word first second =
     else (if bytes_eq word (codes "serve") then served_at (number_in 65535 first) (number_in 1000000 second)
     else task_over word (range_in first second))
 
--- the queries that words ask
+-- the queries that words of their own ask
 abbrev pub IsShowing : Query → Type 0
 IsShowing (query.Report m) = IsReadMonth m
 IsShowing (query.Trial m) = IsReadMonth m
@@ -145,3 +148,20 @@ task_in words = None
 abbrev pub port_of_task : Option Task → ℕ
 port_of_task (Some (Serve port links)) = port
 port_of_task other = 0
+
+-- ---- any query
+
+-- the words of a query: those of its line after `?`
+abbrev pub words_of_query : Query → List (List ℕ)
+words_of_query q = drop 1 (words_of_request (request.Ask q))
+
+-- words that ask a query: a journal's name, which is not empty, `ask`, and the words of the query
+pub record IsAsking (words : List (List ℕ)) (q : Query) : Type 0 where
+  pub well : IsQuery q
+  pub journal : List ℕ
+  pub named : journal ≢ []
+  pub words_are : words ≡ journal ∷ codes "ask" ∷ words_of_query q
+
+-- words that the program does not know: they are no task, and ask no query
+abbrev pub IsUnknown : List (List ℕ) → Type 0
+IsUnknown words = (task_in words ≡ None) × ((q : Query) → IsAsking words q → ⊥)

@@ -2,6 +2,7 @@
 #![tactic(auto)]
 
 mod answering;
+mod asking;
 mod drilling;
 mod extracts;
 mod importing;
@@ -9,6 +10,7 @@ mod laws;
 mod one_link;
 mod over_doors;
 mod over_journal;
+mod query_words;
 mod reviews;
 mod serving;
 mod showing;

@@ -16,6 +16,7 @@ ghost use Rattle.serv_drill.specs.Machine.{cost_of_works, first_tally};
 ghost use Rattle.serv_drill.specs.Works.{year_works};
 ghost use Rattle.serv_top.specs.Drilled.{Drills};
 ghost use Rattle.serv_links.specs.Doors.{ServedLink};
+ghost use Rattle.serv_top.specs.Asked.{IsAsked};
 ghost use Rattle.serv_top.specs.Shown.{IsShown};
 ghost use Rattle.serv_top.specs.declared.extracts.Extract.{Extract};
 ghost use Rattle.serv_top.specs.Extracts.{IsExtracted};
@@ -23,13 +24,15 @@ ghost use Rattle.serv_top.specs.declared.reviews.Review.{Review};
 ghost use Rattle.serv_top.specs.Reviews.{IsReviewed};
 ghost use Rattle.serv_top.specs.Served.{IsServedOver};
 ghost use Rattle.serv_top.specs.Outcome.{Ran, input_limit};
-ghost use Rattle.serv_top.specs.Words.{task_in};
+ghost use Rattle.serv_top.specs.Words.{IsAsking, IsUnknown, task_in};
 
+use crate::asking::ask;
 use crate::drilling::write_year;
 use crate::extracts::write_extract;
 use crate::importing::import;
 use crate::over_doors::serve_over;
 use crate::over_journal::{apply, make_journal};
+use crate::query_words::read_asking;
 use crate::reviews::write_review;
 use crate::showing::show;
 use crate::status::Status;
@@ -77,7 +80,8 @@ fn session<S: Source, K: Sink, L: Ledger>(
 /// makes an empty journal. `<journal> apply` answers the lines of the source, each on the sink, over the
 /// journal of the disk: an accepted command is in it before it is answered. `<journal> session` does so
 /// over books in memory that begin empty. `<journal> report <month>`, `<journal> trial <month>` and `<journal>
-/// custodial` write that text over the journal. `<journal> transfer <from> <to>` writes the lines of the part of its
+/// custodial` write that text over the journal. `<journal> ask` with the words of any query writes the reply to its
+/// line over the journal. `<journal> transfer <from> <to>` writes the lines of the part of its
 /// commands that is of the loans with these numbers, which a servicer who takes them over applies to a new journal;
 /// `<journal> remain <from> <to>` writes those of the part that is of all other loans. `<journal> statement` writes the
 /// statement of all loans, and `<journal> confirm` reads one and writes how it differs from the books. `<journal> pmi`
@@ -99,7 +103,7 @@ pub fn run<S: Source, K: Sink, D: Disk, G: Doors, L: Ledger>(
 ) -> Status
     requires out { G.out doors.old ≡ 0 }
     // Words that the program does not know, and no others, are refused, and all objects are left as they were.
-    ensures usage { (result ≡ Status.Usage) ↔ (task_in (map (λ w. w.now) words.now) ≡ None) }
+    ensures usage { (result ≡ Status.Usage) ↔ IsUnknown (map (λ w. w.now) words.now) }
     ensures untouched_source { result ≡ Status.Usage → src.new ≡ src.old }
     ensures untouched_sink { result ≡ Status.Usage → snk.new ≡ snk.old }
     ensures untouched_disk { result ≡ Status.Usage → disk.new ≡ disk.old }
@@ -145,6 +149,16 @@ pub fn run<S: Source, K: Sink, D: Disk, G: Doors, L: Ledger>(
     ensures show_sink { (q : Query) (last : Option ℕ) → task_in (map (λ w. w.now) words.now) ≡ Some (task.Show q)
         → result ≡ Status.NoReport last → snk.new ≡ snk.old }
     ensures show_file { (q : Query) → task_in (map (λ w. w.now) words.now) ≡ Some (task.Show q)
+        → HasFileFaults (D.seen disk.old) result }
+
+    // The reply to any query over a journal is written, as its line has it: its answer, or its refusal.
+    ensures ask { (q : Query) → IsAsking (map (λ w. w.now) words.now) q
+        → (IsUnopened D.seen D.images D.moment D.images_since D.faults disk.old disk.new result
+        steps.old steps.new × (snk.new ≡ snk.old))
+        ⊎ IsAsked D.seen D.images D.moment D.images_since disk.old disk.new result q
+        steps.old steps.new (K.held snk.old) (K.held snk.new) }
+    ensures ask_source { (q : Query) → IsAsking (map (λ w. w.now) words.now) q → src.new ≡ src.old }
+    ensures ask_file { (q : Query) → IsAsking (map (λ w. w.now) words.now) q
         → HasFileFaults (D.seen disk.old) result }
 
     // A text over the commands of a journal is written.
@@ -237,6 +251,12 @@ pub fn run<S: Source, K: Sink, D: Disk, G: Doors, L: Ledger>(
         → ((result ≡ Status.Done) ⊎ ((result ≡ Status.OutOfMemory)
         ⊎ ((bytes : ℕ) × (result ≡ Status.JournalFull bytes))))
         ⊎ ((last : Option ℕ) × (result ≡ Status.NoReport last)) }
+    ensures complete_ask { (q : Query) (s : List ℕ) (h : List Accepted) (a : Accepted)
+        → D.seen disk.old ≡ Some s → IsHistory (h ++ a ∷ []) → Each (D.images disk.old) (IsGoodFound h a)
+        → ¬ HasRisen (K.faults snk.old) (K.faults snk.new) → ¬ HasRisen (D.faults disk.old) (D.faults disk.new)
+        → IsAsking (map (λ w. w.now) words.now) q
+        → (result ≡ Status.Done) ⊎ ((result ≡ Status.OutOfMemory)
+        ⊎ ((bytes : ℕ) × (result ≡ Status.JournalFull bytes))) }
     ensures complete_extract { (x : Extract) (s : List ℕ) (h : List Accepted) (a : Accepted)
         → D.seen disk.old ≡ Some s → IsHistory (h ++ a ∷ []) → Each (D.images disk.old) (IsGoodFound h a)
         → ¬ HasRisen (K.faults snk.old) (K.faults snk.new) → ¬ HasRisen (D.faults disk.old) (D.faults disk.new)
@@ -266,7 +286,10 @@ pub fn run<S: Source, K: Sink, D: Disk, G: Doors, L: Ledger>(
         → (result ≡ Status.Done) ⊎ (result ≡ Status.AlreadyThere) }
 {
     match read_words(words) {
-        None => Status::Usage,
+        None => match read_asking(words) {
+            Some(query) => ask(alloc, &query, snk, disk, steps),
+            None => Status::Usage,
+        },
         Some(Task::Init) => make_journal(disk),
         Some(Task::Apply) => apply(alloc, src, snk, disk, steps),
         Some(Task::Show(query)) => show(alloc, &query, snk, disk, steps),

@@ -2,7 +2,8 @@
 
 ghost use Rattle.std.specs.Prelude.{◌≡◌, ◌≤◌, IfSome, map};
 ghost use Rattle.svc_base.specs.Text.{IsReadMonth};
-ghost use Rattle.serv_top.specs.Words.{IsTask, month_in, number_in, port_of_task, range_in, served_at, task_about, task_in, task_of_word, task_over, task_with, text_of_word, year_of};
+ghost use Rattle.svc_types.specs.declared.requests.Query as queries;
+ghost use Rattle.serv_top.specs.Words.{IsAsking, IsTask, month_in, number_in, port_of_task, range_in, served_at, task_about, task_in, task_of_word, task_over, task_with, text_of_word, year_of};
 ghost use Rattle.serv_top.specs.Words as words;
 
 use crate::extracts::Extract;
@@ -211,6 +212,7 @@ fn task_of_numbers(word: &str, first: &str, second: &str) -> Option<Task>
 pub(crate) fn read_words(words: &[&str]) -> Option<Task>
     ensures task { result ≡ task_in (map (λ w. w.now) words.now) }
     ensures well { IfSome result IsTask }
+    ensures other { IfSome result (λ task. (q : queries.Query) → IsAsking (map (λ w. w.now) words.now) q → ⊥) }
 {
     match words {
         [journal, word] => {

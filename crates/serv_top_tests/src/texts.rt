@@ -94,7 +94,7 @@ fn reports_and_the_custodial_line_are_written(rt: HostRuntime) {
 }
 
 /// Whether the words end with this status over the journal of the lines, and write nothing.
-fn ends_silent(
+pub(crate) fn ends_silent(
     alloc: Global,
     lines: &str,
     words: &[&str],

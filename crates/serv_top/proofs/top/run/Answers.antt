@@ -1,7 +1,9 @@
+use Rattle.std.proofs.Common.{refl, sym}
+use Rattle.serv_top.proofs.AskLemmas.{asks_none, one_asked}
 use Rattle.serv_top.proofs.ImportLemmas.{complete_import}
 use Rattle.serv_top.proofs.LinksLemmas.{complete_served}
 use Rattle.serv_top.proofs.ShownLemmas.{complete_shown}
-use Rattle.serv_top.proofs.WrittenLemmas.{complete_extract}
+use Rattle.serv_top.proofs.WrittenLemmas.{complete_asked, complete_extract}
 use Rattle.serv_top.proofs.ReviewLemmas.{complete_review}
 use Rattle.serv_top.proofs.Applied.{complete_run}
 use Rattle.serv_top.proofs.top.run.Goals as goal
@@ -45,3 +47,30 @@ returns-in-Some-Review-clause-complete_review g c = λ x input s h a left short 
     complete_review g.D.Disk.seen g.D.Disk.images g.D.Disk.moment g.D.Disk.images_since g.D.Disk.faults c.args.disk.now c.write_review.new.disk c.write_review.result c.in-Some-Review.review c.args.steps.now c.write_review.new.steps
     _ _ _ _ input s h a left short told is_history (good s (g.met.D.Disk.reads_image c.args.disk.now s told)) (λ is. reads (c.write_review.ensures.read is)) (λ is. writes (c.write_review.ensures.write is))
     disks c.write_review.ensures.reviewed
+
+pub returns-in-Some-clause-ask : goal.returns-in-Some-clause-ask
+returns-in-Some-clause-ask g c = λ q asking. rw (one_asked c.in-Some.query q (c.in-Some.ensures.only q asking)) c.ask.ensures.asked
+
+pub returns-in-Some-clause-complete_ask : goal.returns-in-Some-clause-complete_ask
+returns-in-Some-clause-complete_ask g c = λ q s h a told is_history good writes disks asking.
+    complete_asked g.D.Disk.seen g.D.Disk.images g.D.Disk.moment g.D.Disk.images_since g.D.Disk.faults c.args.disk.now c.ask.new.disk c.ask.result c.in-Some.query c.args.steps.now c.ask.new.steps
+    _ _ s h a told is_history (good s (g.met.D.Disk.reads_image c.args.disk.now s told)) (λ is. writes (c.ask.ensures.write is)) disks c.ask.ensures.asked
+
+pub returns-in-None-read_asking-clause-usage : goal.returns-in-None-read_asking-clause-usage
+returns-in-None-read_asking-clause-usage g c = (λ is. (sym c.in-None.ensures.task, asks_none _ c.in-None-read_asking.ensures.only), λ unknown. refl)
+
+pub returns-in-None-read_asking-clause-ask : goal.returns-in-None-read_asking-clause-ask
+returns-in-None-read_asking-clause-ask g c = λ q asking. absurd (asks_none _ c.in-None-read_asking.ensures.only q asking)
+
+pub returns-in-None-read_asking-clause-ask_file : goal.returns-in-None-read_asking-clause-ask_file
+returns-in-None-read_asking-clause-ask_file g c = λ q asking. absurd (asks_none _ c.in-None-read_asking.ensures.only q asking)
+
+pub returns-in-None-read_asking-clause-complete_ask : goal.returns-in-None-read_asking-clause-complete_ask
+returns-in-None-read_asking-clause-complete_ask g c = λ q s h a told is_history good writes disks asking.
+    absurd (asks_none _ c.in-None-read_asking.ensures.only q asking)
+
+pub returns-in-Some-Init-clause-ask_file : goal.returns-in-Some-Init-clause-ask_file
+returns-in-Some-Init-clause-ask_file g c = λ q asking. absurd (c.in-Some-Init.ensures.other q asking)
+
+pub returns-in-Some-Drill-clause-ask_file : goal.returns-in-Some-Drill-clause-ask_file
+returns-in-Some-Drill-clause-ask_file g c = λ q asking. absurd (c.in-Some-Drill.ensures.other q asking)
