@@ -82,6 +82,7 @@ impl Window {
     }
 
     /// Moves the window, unless it has so many bytes from this place on.
+    #[inline(always)]
     pub(crate) fn bring<D: Disk>(
         &mut self,
         disk: &mut D,
