@@ -17,7 +17,7 @@ use Rattle.svc_spec.specs.Events.{books_at}
 use Rattle.svc_spec.specs.Accounts.{Account, posted, reversed_in, advanced_to, live_of, books_of, entry_of, IsAccount, MayPost}
 use Rattle.svc_spec.specs.Months.{counted, cost_of_month, books_at_end}
 use Rattle.svc_spec.proofs.SettlingLemmas.{nat_le-true, nat_le-false}
-use Rattle.svc_spec.proofs.AccountLemmas.{live_few, live_entries_fold, account_books, advanced_account}
+use Rattle.svc_spec.proofs.AccountLemmas.{live_few, live_entries_fold, advanced_account}
 use Rattle.svc_spec.proofs.MonthLemmas.{day_by_end, end_before_next, from_boarded}
 use Rattle.svc_spec.proofs.CostLemmas.{refold_within}
 use Rattle.svc_spec.proofs.SameLemmas.{posted_same, reversed_same}
@@ -34,9 +34,6 @@ counted_first a m le = rw (nat_le-true m (month_of a.terms.boarded) le)
 
 pub counted_later : (a : Account) (m : ℕ) → month_of a.terms.boarded < m → counted_before a m ≡ counted a.terms (live_of a) (last_day (m - 1))
 counted_later a m lt = rw (nat_le-false m (month_of a.terms.boarded) lt)
-
-pub counted_end : (a : Account) (m : ℕ) → month_of a.terms.boarded ≤ m → counted_before a (m + 1) ≡ counted a.terms (live_of a) (last_day m)
-counted_end a m le = let same : m + 1 - 1 ≡ m = omega arith in counted_later a (m + 1) (omega arith) ∙ ap (λ x. counted a.terms (live_of a) (last_day x)) same
 
 -- a fold up to a day from the end of the month before is within the cost of the month
 pub within_day : (a : Account) (m d old new : ℕ) → IsAccount a → month_of a.terms.boarded ≤ m → m ≤ month_of d → a.terms.boarded ≤ d → d ≤ a.today → new + counted_before a m ≡ old + counted a.terms (live_of a) d → new ≤ old + cost_of_month a m
@@ -141,9 +138,6 @@ reversed_ends a a' number by m ends n h kept found is le = rw is (λ i b lt.
     kept i b (omega arith) ∙ sym (reversed_same a number by d h after))
 
 -- ---- facts of months
-
-pub end_sound : (a : Account) (m : ℕ) → IsAccount a → month_of a.terms.boarded ≤ m → AreBooks a.terms (books_of a (last_day m))
-end_sound a m h le = account_books a (last_day m) h
 
 -- of the business day's month the end so far is that of the business day
 pub end_now : (a : Account) (m : ℕ) (b : Books) → IsDay a.today → month_of a.terms.boarded ≤ m → m ≡ month_of a.today → b ≡ books_of a a.today → b ≡ books_at_end a m
@@ -289,7 +283,3 @@ entry_until a number m h found = month_high (entry_of a number) m a.today found 
 pub entry_steps : (o : Option Entry) (m old new : ℕ) (cost : ℕ → ℕ) → MatchOption o (Some m ≡ None) (λ e. Some m ≡ Some (month_of e.day)) → new ≤ old + cost m → MatchOption o (new ≡ old) (λ e. new ≤ old + cost (month_of e.day))
 entry_steps None m old new cost h le = absurd (cc)
 entry_steps (Some e) m old new cost h le = let same = same_Some m (month_of e.day) h in subst (λ x. new ≤ old + cost x) same le
-
--- steps of one month after those before it
-pub steps_next : (new mid old from before end last next : ℕ) → new + end ≡ mid + last → mid + from ≡ old + before → end ≡ before → next ≡ last → new + from ≡ old + next
-steps_next new mid old from before end last next a b c d = omega arith

@@ -14,8 +14,9 @@ use svc_replay::{
 };
 use svc_types::{Books, Entry, MonthFacts, Terms};
 
-/// By how many months at least the list of their ends grows.
-const STEP: usize = 5;
+/// By how many months at least the list of their ends grows: by twice those for which room is made ahead, so that it grows
+/// every second time.
+const STEP: usize = 8;
 
 /// Books with checkpoints: all entries and reversals, the live entries in order, the books at the end
 /// of each month from the boarded one to the one before the business day's, and those of the business
