@@ -3,27 +3,17 @@ use Rattle.std.proofs.Common.{◌≡◌, ℕ, zero, suc, ◌+◌, ◌-◌, ◌�
 use Rattle.std.proofs.lemmas.Bool.Decides.{Decides-eqb}
 use Rattle.std.proofs.lemmas.Slice.Eq.{slice_eq-Decides}
 use Rattle.std.specs.Prelude.{Option, Some, None, if◌then◌else◌}
+use Rattle.std.specs.List.{position, position_from}
+use Rattle.std.specs.Map.{keys_of, lookup}
+use Rattle.std.specs.Option.{option_map}
+use Rattle.std.proofs.lemmas.Iterator.Adapters.{position_from-zero}
+use Rattle.indexmap.specs.IndexMap.{IndexMap, insert_entry}
+use Rattle.indexmap.proofs.CallerLemmas.{insert_entry-new}
 use Rattle.svc_types.specs.declared.requests.Command.{Command}
 use Rattle.svc_types.specs.declared.replies.Reply.{Reply}
 use Rattle.svc_world.specs.World.{World, Accepted, accepted, first_world, after, world_from, world}
 use Rattle.svc_world.specs.Judging.{is_key, nth_accepted, reply_of, next_reply, known_from}
 use Rattle.svc_core.specs.Posted.{number_from, number_of, history_of, known_as, known_among, replies_from, replies_to}
-
--- what is found after one command more: what was found before it, else that command
-after_push : ℕ → Accepted → List ℕ → Option ℕ → Option ℕ
-after_push n a key None = if is_key a.key key then Some n else None
-after_push n a key (Some k) = Some k
-
-number_push : (n : ℕ) (h : List Accepted) (a : Accepted) (key : List ℕ) → number_from n (h ++ a ∷ []) key ≡ after_push (n + length h) a key (number_from n h key)
-unfolding after_push
-number_push n [] a key = let same : n + 0 ≡ n = omega arith in ap (λ m. if is_key a.key key then Some m else None) (sym same)
-number_push n (x ∷ h) a key =
-    let rest = number_push (n + 1) h a key in
-    let place : n + 1 + length h ≡ n + length (x ∷ h) = omega arith in
-    elim (is_key x.key key) as (λ v. (if v then Some n else number_from (n + 1) (h ++ a ∷ []) key) ≡ after_push (n + length (x ∷ h)) a key (if v then Some n else number_from (n + 1) h key)) [
-      | true ↦ refl
-      | false ↦ rest ∙ ap (λ m. after_push m a key (number_from (n + 1) h key)) place
-    ]
 
 pub history_push : (ps : List (List ℕ × Command)) (p : List ℕ × Command) → history_of (ps ++ p ∷ []) ≡ history_of ps ++ accepted p.0 p.1 ∷ []
 history_push [] p = refl
@@ -32,24 +22,45 @@ history_push (q ∷ qs) p = ap (λ h. accepted q.0 q.1 ∷ h) (history_push qs p
 same_key : (a b : List ℕ) → is_key a b ≡ true → a ≡ b
 same_key a b h = (slice_eq-Decides Decides-eqb a b (is_key a b) refl).0 h
 
--- the look-up after a key was put in with the next number
-pub look_up_push : (look_up : List ℕ → Option ℕ) (h : List Accepted) (key : List ℕ) (c : Command) (n : ℕ) (q : List ℕ) → ((k : List ℕ) → look_up k ≡ number_of h k) → number_of h key ≡ None → n ≡ length h + 1 → cond (is_key key q) (Some n) (look_up q) ≡ number_of (h ++ accepted key c ∷ []) q
-unfolding after_push
-look_up_push look_up h key c n q found none is =
-    let push = number_push 1 h (accepted key c) q in
-    let place : 1 + length h ≡ n = omega arith in
-    let push' = push ∙ ap (λ m. after_push m (accepted key c) q (number_of h q)) place in
-    elim (is_key key q) as (λ v. is_key key q ≡ v → cond v (Some n) (look_up q) ≡ number_of (h ++ accepted key c ∷ []) q) [
-      | true ↦ λ e.
-          let same = same_key key q e in
-          let absent : number_of h q ≡ None = ap (number_of h) (sym same) ∙ none in
-          sym (push' ∙ ap (after_push n (accepted key c) q) absent ∙ ap (λ v. if v then Some n else None) e)
-      | false ↦ λ e. found q ∙ sym (push' ∙ kept n (accepted key c) q (number_of h q) e)
-    ] refl
+-- two keys are compared either way
+same_way : (a b : List ℕ) → is_key a b ≡ is_key b a
+same_way a b = elim (is_key a b) as (λ v. is_key a b ≡ v → v ≡ is_key b a) [
+  | true ↦ λ e. (let same = same_key a b e in sym (ap (λ k. is_key k a) (sym same) ∙ (ap (is_key a) same ∙ e)))
+  | false ↦ λ e. elim (is_key b a) as (λ v. is_key b a ≡ v → false ≡ v) [
+    | true ↦ λ e'. (let same = same_key b a e' in sym e ∙ (ap (λ k. is_key k b) (sym same) ∙ (ap (is_key b) same ∙ e')))
+    | false ↦ λ e'. refl
+  ] refl
+] refl
+
+numbered : (i : ℕ) (ps : List (List ℕ × Command)) (key : List ℕ) → number_from (i + 1) (history_of ps) key ≡ option_map (λ k. k + 1) (position_from (is_key key) i (keys_of ps))
+numbered i [] key = refl
+numbered i (p ∷ ps) key =
+    ap (λ v. if v then Some (i + 1) else number_from (i + 1 + 1) (history_of ps) key) (same_way p.0 key)
+    ∙ elim (is_key key p.0) as (λ v. (if v then Some (i + 1) else number_from (i + 1 + 1) (history_of ps) key) ≡ option_map (λ k. k + 1) (cond v (Some i) (position_from (is_key key) (i + 1) (keys_of ps)))) [
+      | true ↦ refl
+      | false ↦ numbered (i + 1) ps key
+    ]
+
+-- the number of a key's command is one more than its place
+pub number_at : (ps : List (List ℕ × Command)) (key : List ℕ) → option_map (λ k. k + 1) (position (is_key key) (keys_of ps)) ≡ number_of (history_of ps) key
+number_at ps key = ap (option_map (λ k. k + 1)) (position_from-zero (is_key key) (keys_of ps)) ∙ sym (numbered 0 ps key)
+
+-- a key that has no number has no command
+pub none_there : (ps : List (List ℕ × Command)) (key : List ℕ) → number_of (history_of ps) key ≡ None → lookup (is_key key) ps ≡ None
+none_there ps key none = absent_from 0 ps key none
   where
-    kept : (n : ℕ) (a : Accepted) (q : List ℕ) (o : Option ℕ) → is_key a.key q ≡ false → after_push n a q o ≡ o
-    kept n a q None e = ap (λ v. if v then Some n else None) e
-    kept n a q (Some k) e = refl
+    absent_from : (i : ℕ) (ps : List (List ℕ × Command)) (key : List ℕ) → number_from (i + 1) (history_of ps) key ≡ None → lookup (is_key key) ps ≡ None
+    absent_from i [] key e = refl
+    absent_from i (p ∷ ps) key e =
+        elim (is_key key p.0) as (λ v. (if v then Some (i + 1) else number_from (i + 1 + 1) (history_of ps) key) ≡ None → cond v (Some p.1) (lookup (is_key key) ps) ≡ None) [
+          | true ↦ λ is. absurd (cc)
+          | false ↦ λ is. absent_from (i + 1) ps key is
+        ] (sym (ap (λ v. if v then Some (i + 1) else number_from (i + 1 + 1) (history_of ps) key) (same_way p.0 key)) ∙ e)
+
+-- a command that is put in under such a key stands last
+pub stands_last : {S : Type 0} (map : IndexMap (List ℕ) Command S) (new : List (List ℕ × Command)) (key : List ℕ) (c : Command) → new ≡ insert_entry is_key map.entries key c
+    → number_of (history_of map.entries) key ≡ None → new ≡ map.entries ++ (key, c) ∷ []
+stands_last map new key c is none = is ∙ insert_entry-new is_key map key c (none_there map.entries key none)
 
 -- the command with a number
 pub nth_some : (ps : List (List ℕ × Command)) (n : ℕ) (d : List ℕ × Command) → 1 ≤ n → n ≤ length ps → Some (accepted (get_or ps (n - 1) d).0 (get_or ps (n - 1) d).1) ≡ nth_accepted (history_of ps) n

@@ -1,5 +1,5 @@
 -- The accepted commands with their replies, and the place of a key among them.
-use Rattle.std.specs.Prelude.{◌≡◌, ℕ, ◌+◌, List, [], ◌∷◌, length, map, Option, Some, None, if◌then◌else◌}
+use Rattle.std.specs.Prelude.{◌≡◌, ℕ, ◌+◌, ◌≤◌, List, [], ◌∷◌, length, map, Option, Some, None, if◌then◌else◌}
 use Rattle.svc_types.specs.declared.requests.Command.{Command}
 use Rattle.svc_types.specs.declared.replies.Extra.{Extra}
 use Rattle.svc_types.specs.declared.replies.Reply.{Reply}
@@ -26,14 +26,14 @@ number_of h key = number_from 1 h key
 abbrev pub history_of : List (List ℕ × Command) → List Accepted
 history_of ps = map (λ p. accepted p.0 p.1) ps
 
--- each key is found under the number of its command, and each command has a reply
-pub record AreIndexed (look_up : List ℕ → Option ℕ) (h : List Accepted) (replies : List Reply) : Type 0 where
-  pub found : (key : List ℕ) → look_up key ≡ number_of h key
-  pub replied : length replies ≡ length h
-
 -- the most commands of a history
 abbrev pub most_commands : ℕ
 most_commands = 1_000_000
+
+-- there are no more commands than that, and each has a reply
+pub record AreReplied (commands : List (List ℕ × Command)) (replies : List Reply) : Type 0 where
+  pub few : length commands ≤ most_commands
+  pub replied : length replies ≡ length commands
 
 abbrev pub reply : ℕ → Extra → Reply
 reply number extra = record { number = number; extra = extra }

@@ -7,37 +7,34 @@ ghost use Rattle.svc_world.specs.Judging.{nth_accepted};
 ghost use Rattle.svc_core.specs.Posted.{number_of, known_as, known_among, most_commands, reply};
 
 use crate::replies::Replies;
+use indexmap::IndexMap;
 use std::alloc::Global;
-use std::collections::HashMap;
 use std::marker::Model;
-use svc_base::{OutOfMemory, make_room};
+use svc_base::OutOfMemory;
 use svc_types::{Command, Extra, Key, Reply};
 
 /// The accepted commands by number, from 1, each with its key and the reply that was given. A key is
 /// found by one look-up.
 #[derive(Drop)]
 pub struct Posted {
-    numbers: HashMap<Key, u32>,
-    commands: Vec<(Key, Command)>,
+    commands: IndexMap<Key, Command>,
     replies: Replies,
 }
 
 impl Model for Posted {
-    ghost use Rattle.std.specs.Prelude.{◌-◌, min, vec_len, vec_capacity};
-    ghost use Rattle.std.specs.HashMap.{get, spare};
-    ghost use Rattle.svc_world.specs.Judging.{is_key};
-    ghost use Rattle.svc_core.specs.Posted.{PostedCommands, AreIndexed, history_of};
+    ghost use Rattle.std.specs.Prelude.{min};
+    ghost use Rattle.indexmap.specs.IndexMap.{spare};
+    ghost use Rattle.svc_core.specs.Posted.{PostedCommands, AreReplied, history_of};
 
     ghost Value = { PostedCommands };
 
     ghost view = { λ p. record {
-      history = history_of p.commands.items;
+      history = history_of p.commands.entries;
       replies = p.replies.list;
-      room = min (spare p.numbers)
-          (min (vec_capacity p.commands - vec_len p.commands) p.replies.room);
+      room = min (spare p.commands) p.replies.room;
     } };
 
-    ghost invariant = { λ p. AreIndexed (get is_key p.numbers) (history_of p.commands.items) p.replies.list };
+    ghost invariant = { λ p. AreReplied p.commands.entries p.replies.list };
 }
 
 impl Posted {
@@ -47,8 +44,7 @@ impl Posted {
         ensures replies { result.replies ≡ [] }
     {
         Posted {
-            numbers: HashMap::new(alloc),
-            commands: Vec::new(alloc),
+            commands: IndexMap::new(alloc),
             replies: Replies::new(alloc),
         }
     }
@@ -71,7 +67,10 @@ impl Posted {
     pub fn number_of(&self, key: &Key) -> Option<u32>
         ensures { result ≡ number_of self.now.history key.now }
     {
-        self.numbers.get(key).copied()
+        match self.commands.get_index_of(key) {
+            Some(place) => Some(place as u32 + 1),
+            None => None,
+        }
     }
 
     /// The command under a key, and the reply that was given.
@@ -84,7 +83,7 @@ impl Posted {
         match self.number_of(key) {
             Some(number) => {
                 let place = number as usize - 1;
-                Some((self.commands[place].1, self.replies.get(number)))
+                Some((self.commands[place], self.replies.get(number)))
             }
             None => None,
         }
@@ -97,8 +96,7 @@ impl Posted {
         ensures replies { self.new.replies ≡ self.old.replies }
         ensures room { OnOk result (1 ≤ self.new.room) }
     {
-        self.numbers.reserve(1)?;
-        make_room(&mut self.commands, 1, 0)?;
+        self.commands.reserve(1)?;
         self.replies.reserve()?;
         Ok(())
     }
@@ -114,12 +112,10 @@ impl Posted {
         ensures replies { self.new.replies
             ≡ self.old.replies ++ reply (length self.old.history + 1) extra ∷ [] }
     {
-        let number = self.commands.len() as u32 + 1;
-        match self.numbers.insert(*key, number) {
+        match self.commands.insert(*key, *command) {
             Ok(_) => {}
             Err(_) => unreachable!(),
         }
-        self.commands.push_reserved((*key, *command));
         self.replies.push(extra);
     }
 
@@ -127,11 +123,13 @@ impl Posted {
     pub fn command(&self, number: u32) -> Option<(Key, Command)>
         ensures { option_map (λ p. accepted p.0 p.1) result ≡ nth_accepted self.now.history number }
     {
-        let number = number as usize;
-        if number < 1 || self.commands.len() < number {
+        if number < 1 {
             return None;
         }
-        Some(self.commands[number - 1])
+        match self.commands.get_index(number as usize - 1) {
+            Some((key, command)) => Some((*key, *command)),
+            None => None,
+        }
     }
 
     /// The reply to the command with a number, from 1.

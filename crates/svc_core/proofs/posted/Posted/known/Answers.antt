@@ -1,8 +1,9 @@
-use Rattle.std.proofs.Common.{◌≡◌, ◌-◌, length, vec_len, get_or, rules, arith, sym, ap, subst, ◌∙◌}
+use Rattle.std.proofs.Common.{◌≡◌, ◌-◌, length, get_or, arith, sym, ap, subst, ◌∙◌}
 use Rattle.std.proofs.Math.ListN.{get_or-map as get_mapped}
 use Rattle.std.specs.Prelude.{Some, None}
 use Rattle.std.proofs.lemmas.List.{length-map}
 use Rattle.std.proofs.lemmas.Option.{get_or_from_slice_get}
+use Rattle.std.specs.Map.{values_of}
 use Rattle.svc_types.specs.declared.key.Key.{Key}
 use Rattle.svc_types.specs.declared.requests.Command.{Command}
 use Rattle.svc_types.specs.declared.replies.Reply.{Reply}
@@ -12,43 +13,46 @@ use Rattle.svc_core.proofs.PostedLemmas.{known_at_place, known_nothing, number_w
 use Rattle.svc_core.proofs.posted.Posted.known.Goals as goal
 
 -- the number that was found, from 1, is at most that of the last command
-found : (c : goal.In-Some) → number_of (history_of c.self.inside.commands.items) c.args.key.now ≡ Some c.in-Some.number
+found : (c : goal.In-Some) → number_of (history_of c.self.inside.commands.entries) c.args.key.now ≡ Some c.in-Some.number
 found c = ap (λ (p : PostedCommands). number_of p.history c.args.key.now) c.self.view_is ∙ sym c.number_of.ensures ∙ c.in-Some.is
 
 pub overflow_sub-place : goal.overflow_sub-place
-overflow_sub-place c = (number_within 1 (history_of c.self.inside.commands.items) c.args.key.now c.in-Some.number (found c)).0
+overflow_sub-place c = (number_within 1 (history_of c.self.inside.commands.entries) c.args.key.now c.in-Some.number (found c)).0
 
 pub index-requires : goal.index-requires
 index-requires c =
-    let ps = c.self.inside.commands.items in
+    let ps = c.self.inside.commands.entries in
     let within = number_within 1 (history_of ps) c.args.key.now c.in-Some.number (found c) in
     let low = within.0 in
     let high = within.1 in
-    let count : vec_len c.self.inside.commands ≡ length ps = search rules in
-    omega (arith, low, high, count, length-map ps (λ (p : Key × Command). accepted p.0 p.1))
+    omega (arith, low, high, length-map ps (λ (p : Key × Command). accepted p.0 p.1))
 
 pub get-requires-clause-some : goal.get-requires-clause-some
-get-requires-clause-some c = (number_within 1 (history_of c.self.inside.commands.items) c.args.key.now c.in-Some.number (ap (λ (p : PostedCommands). number_of p.history c.args.key.now) c.self.view_is ∙ sym c.number_of.ensures ∙ c.in-Some.is)).0
+get-requires-clause-some c = (number_within 1 (history_of c.self.inside.commands.entries) c.args.key.now c.in-Some.number (ap (λ (p : PostedCommands). number_of p.history c.args.key.now) c.self.view_is ∙ sym c.number_of.ensures ∙ c.in-Some.is)).0
 
 pub get-requires-clause-few : goal.get-requires-clause-few
 get-requires-clause-few c =
-    let within = number_within 1 (history_of c.self.inside.commands.items) c.args.key.now c.in-Some.number (ap (λ (p : PostedCommands). number_of p.history c.args.key.now) c.self.view_is ∙ sym c.number_of.ensures ∙ c.in-Some.is) in
+    let ps = c.self.inside.commands.entries in
+    let within = number_within 1 (history_of ps) c.args.key.now c.in-Some.number (ap (λ (p : PostedCommands). number_of p.history c.args.key.now) c.self.view_is ∙ sym c.number_of.ensures ∙ c.in-Some.is) in
     let high = within.1 in
-    let replied = c.self.invariant.replied in
-    omega (arith, high, replied)
+    omega (arith, high, c.self.invariant.replied, length-map ps (λ (p : Key × Command). accepted p.0 p.1))
 
 pub returns-in-Some : goal.returns-in-Some
 returns-in-Some c =
-    let ps = c.self.inside.commands.items in
+    let ps = c.self.inside.commands.entries in
     let rs = c.self.inside.replies.list in
     let i = c.in-Some.number - 1 in
-    let x = c.index.result.now in
+    let m = c.index.result.now in
     let r = c.get.result in
-    let at = known_at_place 1 (history_of ps) rs c.args.key.now c.in-Some.number (accepted x.0 x.1) r c.self.invariant.replied (ap (λ (p : PostedCommands). number_of p.history c.args.key.now) c.self.view_is ∙ sym c.number_of.ensures ∙ c.in-Some.is) in
-    let command : (get_or (history_of ps) i (accepted x.0 x.1)).command ≡ x.1 = ap (λ (a : Accepted). a.command) (get_mapped (λ (p : Key × Command). accepted p.0 p.1) ps i x) ∙ ap (λ (p : Key × Command). p.1) (sym c.index.ensures) in
+    let key = c.args.key.now in
+    let same : length rs ≡ length (history_of ps) = c.self.invariant.replied ∙ sym (length-map ps (λ (p : Key × Command). accepted p.0 p.1)) in
+    let at = known_at_place 1 (history_of ps) rs key c.in-Some.number (accepted key m) r same (ap (λ (p : PostedCommands). number_of p.history key) c.self.view_is ∙ sym c.number_of.ensures ∙ c.in-Some.is) in
+    let command : (get_or (history_of ps) i (accepted key m)).command ≡ m =
+    ap (λ (a : Accepted). a.command) (get_mapped (λ (p : Key × Command). accepted p.0 p.1) ps i (key, m))
+    ∙ (sym (get_mapped (λ (p : Key × Command). p.1) ps i (key, m)) ∙ get_or_from_slice_get (values_of ps) i m m c.index.ensures) in
     let said : get_or rs i r ≡ r = get_or_from_slice_get rs i r r (sym c.get.ensures) in
-    subst (λ (p : PostedCommands). Some (known_as x.1 r) ≡ known_among p.history p.replies c.args.key.now) c.self.view_is
-    (sym (at ∙ ap (λ (m : Command). Some (known_as m (get_or rs i r))) command ∙ ap (λ (q : Reply). Some (known_as x.1 q)) said))
+    subst (λ (p : PostedCommands). Some (known_as m r) ≡ known_among p.history p.replies key) c.self.view_is
+    (sym (at ∙ ap (λ (x : Command). Some (known_as x (get_or rs i r))) command ∙ ap (λ (q : Reply). Some (known_as m q)) said))
 
 pub returns-in-None : goal.returns-in-None
 returns-in-None c =
