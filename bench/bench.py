@@ -249,6 +249,33 @@ def late_rows(room):
     return rows
 
 
+def session_of(room, lines):
+    """Runs `session` over lines, all of which are accepted."""
+    count = write_lines(f"{room}/lines", lines)
+    it = ours("j", "session", given=f"{room}/lines", out=f"{room}/replies")
+    check_replies(f"{room}/replies", count)
+    return it
+
+
+def order_row(room):
+    """Loans that are boarded in falling order of their numbers beside the same in rising order."""
+    count = sized(12_000)
+    pairs = [(session_of(room, generate.boards(range(count, 0, -1))).processor,
+              session_of(room, generate.boards(range(1, count + 1))).processor) for _ in range(rounds())]
+    return [Row(f"boarding {count:,} loans in falling beside rising order", "s", pairs, goal="at most 3")]
+
+
+def days_row(room):
+    """What business days take beside the boarding of the loans that they look at."""
+    loans, count = sized(9000), 250
+    pairs = []
+    for _ in range(rounds()):
+        boards = list(generate.boards(range(1, loans + 1)))
+        alone = session_of(room, boards).processor
+        pairs.append((session_of(room, [*boards, *generate.business_days(count)]).processor - alone, alone))
+    return [Row(f"{count} business days over {loans:,} loans, beside boarding these", "s", pairs, goal="0.060 s")]
+
+
 def drill_row(room):
     loans = sized(500)
     count = write_lines(f"{room}/lines", generate.year(loans, 12, loans), 2)
@@ -297,7 +324,7 @@ def serve_row(room):
 
 WORKLOADS = {"session-500": session_small, "session-9000": session_large,
              "bookkeepers": bookkeeper_rows, "apply": apply_row, "opening": opening_row,
-             "late": late_rows, "serve": serve_row, "drill": drill_row}
+             "late": late_rows, "order": order_row, "days": days_row, "serve": serve_row, "drill": drill_row}
 
 
 def main():

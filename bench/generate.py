@@ -1,4 +1,5 @@
 """Seeded workloads of the benchmark: request lines of a servicer's years, and journals of them."""
+import datetime
 import random
 import struct
 
@@ -39,6 +40,20 @@ def year(loans, months, seed):
                 yield line(f"pay {loan} {this}-01 1199.10")
             elif draw < 95:
                 late.append(loan)
+
+
+def boards(numbers):
+    """Commands that board a loan under each of these numbers, after the first business day."""
+    yield "b0 day 2023-12-15"
+    for loan in numbers:
+        yield f"b{loan} board {loan} 2023-12-15 {TERMS} {TYPES[loan % 3]}"
+
+
+def business_days(count):
+    """Commands of so many business days, one a calendar day from 2023-12-16 on."""
+    first = datetime.date(2023, 12, 16)
+    for at in range(count):
+        yield f"n{at} day {first + datetime.timedelta(at)}"
 
 
 def payments_in(lines):
