@@ -266,6 +266,8 @@ impl<B: LoanBooks> Loan<B> {
         ensures remitted { self.new.remitted ≡ self.old.remitted }
         ensures months { KeepsMonths 0 self.old self.new }
         ensures ahead { OnOk result (IsAhead (month_number today) closings self.new) }
+        ensures succeeds { 1 ≤ self.old.room.books.entries → 1 ≤ self.old.room.books.reversals
+            → IsAhead (month_number today) closings self.old → IsOk result }
     {
         self.books.reserve(today)?;
         make_room(&mut self.months.dues, closings, STEP)?;

@@ -85,6 +85,7 @@ impl<B: LoanBooks> Loans<B> {
     pub fn reserve(&mut self) -> Result<(), OutOfMemory>
         ensures loans { self.new.loans ≡ self.old.loans }
         ensures room { OnOk result (1 ≤ self.new.room) }
+        ensures succeeds { 1 ≤ self.old.room → IsOk result }
     {
         self.loans.reserve(1)?;
         Ok(())
