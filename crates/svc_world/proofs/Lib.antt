@@ -23,9 +23,12 @@ pub mod BoardWorlds
 pub mod ClosedWorlds
 pub mod HistoryLemmas
 pub mod OnceLemmas
+pub mod SaidLemmas
 pub mod LawLemmas
 pub mod PartLemmas
 pub mod SignLemmas
+pub mod RangeLemmas
+pub mod UnsignedLemmas
 pub mod OpeningLemmas
 pub mod StayLemmas
 pub mod KindLemmas

@@ -72,8 +72,8 @@ sent_sums id rs =
     let both = total_by-both (sent_part Interest id) (sent_part Principal id) rs in
     omega (arith, ints, split, both)
 
--- what was remitted for a loan is from 0 to 10^14
-pub remitted_within : (w : World) (id : ℕ) → AreReports w → IsUpTo 100_000_000_000_000 (remitted_for w id)
+-- what was remitted for a loan, of both parts, is from 0 to 81,920,000,000,000 cents
+pub remitted_within : (w : World) (id : ℕ) → AreReports w → IsUpTo 81_920_000_000_000 (remitted_for w id)
 unfolding remitted_for
 remitted_within w id h =
     let rs = w.seals.reports in

@@ -23,6 +23,21 @@ total_up_to m f (x ∷ xs) h =
     let more = mul-suc m (length xs) in
     record { low = omega (arith, ints, l1, l2); high = omega (arith, ints, h1, h2, more) }
 
+-- an amount no further from 0 than m, and a sum of such amounts
+pub record IsAround (m : ℕ) (z : ℤ) : Type 0 where
+  pub low : pos 0 ≤ℤ (z +ℤ pos m)
+  pub high : z ≤ℤ pos m
+
+pub total_around : {A : Type 0} (m : ℕ) (f : A → ℤ) (xs : List A) → All (λ x. IsAround m (f x)) xs → IsAround (m * length xs) (total_by f xs)
+total_around m f [] h = record { low = omega (arith, ints); high = omega (arith, ints) }
+total_around m f (x ∷ xs) h =
+    let here = All-head (λ y. IsAround m (f y)) x xs h in
+    let rest = total_around m f xs (All-tail (λ y. IsAround m (f y)) x xs h) in
+    let l1 = here.low in let h1 = here.high in
+    let l2 = rest.low in let h2 = rest.high in
+    let more = mul-suc m (length xs) in
+    record { low = omega (arith, ints, l1, l2, more); high = omega (arith, ints, h1, h2, more) }
+
 -- a sum of amounts that are not below 0 is at least that of the ones that pass a test
 pub total_of_some : {A : Type 0} (f : A → ℤ) (p : A → Bool) (xs : List A) → All (λ x. pos 0 ≤ℤ f x) xs → total_by f (filter p xs) ≤ℤ total_by f xs
 total_of_some f p [] h = omega (arith, ints)

@@ -10,6 +10,7 @@ use Rattle.svc_types.specs.declared.requests.Command.TheVariants as command
 use Rattle.svc_spec.specs.Books.{AreBooks, total}
 use Rattle.svc_spec.specs.Accounts.{books_of, entry_of}
 use Rattle.svc_spec.specs.Totals.{received, returned, refunded, disbursed}
+use Rattle.advance_book.specs.Positions.{IsSum}
 use Rattle.period_adjust.specs.declared.adjustment.Adjustment.{Adjustment}
 use Rattle.period_adjust.specs.declared.report_line.ReportLine.{ReportLine}
 use Rattle.period_adjust.specs.Sealed.{Sealed}
@@ -65,7 +66,17 @@ pub record IsUnsigned (c : Custody) : Type 0 where
   pub held : pos 0 ≤ℤ c.held
   pub pi_advance : pos 0 ≤ℤ c.pi_advance
 
--- nor are the balances that a report's line says: the loan's, and the investor's
+-- no total of the custodial line is further from 0 than 10^18 cents
+pub record IsInRange (c : Custody) : Type 0 where
+  pub t : IsSum c.t
+  pub p : IsSum c.p
+  pub suspense : IsSum c.suspense
+  pub escrow : IsSum c.escrow
+  pub escrow_advance : IsSum c.escrow_advance
+  pub held : IsSum c.held
+  pub pi_advance : IsSum c.pi_advance
+
+-- the balances that a report's line says are not below 0: the loan's, and the investor's
 abbrev pub IsUnsignedLine : ReportLine → Type 0
 IsUnsignedLine l = (pos 0 ≤ℤ l.upb) × (pos 0 ≤ℤ l.balance)
 

@@ -10,4 +10,6 @@ pub mod Desk
 pub mod Answers
 pub mod WorkedLoans
 pub mod Worlds
+pub mod LoanCommands
 pub mod Laws
+pub mod Unsigned

@@ -84,10 +84,10 @@ IsOwned loans a = IsThere loans a.loan a.month
 abbrev pub IsListed : List Held → ℕ → ReportLine → Type 0
 IsListed loans month line = IsThere loans line.loan month
 
--- what reports sent of a part for a loan lies from 0 to 5 * 10^13 cents
+-- what reports sent of a part for a loan lies from 0 to what 4,096 entries can have brought in
 pub record IsPassed (z : ℤ) : Type 0 where
   pub low : pos 0 ≤ℤ z
-  pub high : z ≤ℤ pos 50_000_000_000_000
+  pub high : z ≤ℤ pos 40_960_000_000_000
 
 -- what a report sends of a part for a loan
 abbrev pub sent_part : DuePart → ℕ → Sealed → ℤ

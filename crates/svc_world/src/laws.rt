@@ -6,9 +6,11 @@ ghost use Rattle.svc_types.specs.declared.terms.Terms.{Terms};
 ghost use Rattle.svc_types.specs.declared.requests.TypeChange.{TypeChange};
 ghost use Rattle.svc_types.specs.declared.requests.Command.{Command};
 ghost use Rattle.svc_types.specs.declared.requests.Command.TheVariants as command;
+ghost use Rattle.svc_types.specs.declared.requests.Query.{Query};
 ghost use Rattle.svc_types.specs.declared.requests.Query.TheVariants as query;
 ghost use Rattle.escrow_analysis.specs.AggregateAnalysis.{IsLeastOpening};
 ghost use Rattle.svc_world.specs.Analysing.{least_opening};
+ghost use Rattle.svc_world.specs.declared.answer.Answer.{Answer};
 ghost use Rattle.svc_world.specs.declared.answer.Answer.TheVariants as answer;
 ghost use Rattle.svc_world.specs.Answers.{answer_to};
 ghost use Rattle.svc_world.specs.World.{Accepted, accepted, first_world, world};
@@ -16,7 +18,9 @@ ghost use Rattle.svc_world.specs.Worlds.{AreWorlds};
 ghost use Rattle.custodial_book.specs.declared.part.Part.{Part};
 ghost use Rattle.svc_world.specs.Custody.{custody_of, rows_in};
 ghost use Rattle.svc_world.specs.Judging.{IsHistory, Fresh, judged};
-ghost use Rattle.svc_world.specs.Laws.{AreLawful, HasSoundBooks, IsKindIn, IsLawfulStep, IsReversedOnce, IsUnsigned, IsUnsignedReport, ReportsGrow, rows_sum, total_for};
+ghost use Rattle.svc_world.specs.LoanCommands.{business_day, IsAsSaid};
+ghost use Rattle.svc_world.specs.Laws.{AreLawful, HasSoundBooks, IsInRange, IsKindIn, IsLawfulStep, IsReversedOnce, IsUnsigned, IsUnsignedReport, ReportsGrow, rows_sum, total_for};
+ghost use Rattle.svc_world.specs.Unsigned.{IsUnsignedAnswer};
 
 /// What is held after each command of a history is sound: loans by rising number with accounts within
 /// their limits, closed months in a row, and reports that add up to the dues.
@@ -53,6 +57,13 @@ pub fn entries_are_reversed_once()
     ensures once { (h : List Accepted) → IsHistory h → All IsReversedOnce (world h).loans }
 {}
 
+/// After every history each loan is what the commands on it say, in their order: its entries, reversals, escrow lines and
+/// changes of type are theirs. The business day is the last that a command named.
+pub fn loans_are_as_said()
+    ensures today { (h : List Accepted) → (world h).today ≡ business_day h }
+    ensures said { (h : List Accepted) (id : ℕ) → IsHistory h → IsAsSaid h id }
+{}
+
 /// After every history the rows of each loan and part add up to what the loan's total of that part is, from which the
 /// custodial line follows; of a loan that is not there they add up to 0.
 pub fn rows_add_up()
@@ -61,10 +72,16 @@ pub fn rows_add_up()
 {}
 
 /// After every history nothing that texts say without a sign is below 0: of the custodial line what the accounts hold,
-/// suspense, what is held and what the servicer advanced, of each line of a report both balances.
+/// suspense, what is held and what the servicer advanced, of each line of a report both balances, and so of each answer.
 pub fn texts_want_no_sign()
     ensures custody { (h : List Accepted) → IsHistory h → IsUnsigned (custody_of (world h)) }
     ensures reports { (h : List Accepted) → IsHistory h → All IsUnsignedReport (world h).seals.reports }
+    ensures answers { (h : List Accepted) (q : Query) (a : Answer) → IsHistory h → answer_to h q ≡ Some a → IsUnsignedAnswer a }
+{}
+
+/// After every history no total of the custodial line, over at most 12,000 loans, is further from 0 than 10^18 cents.
+pub fn custodial_totals_are_within()
+    ensures within { (h : List Accepted) → IsHistory h → IsInRange (custody_of (world h)) }
 {}
 
 /// The opening balance of a year of twelve months, none of which pays out less than nothing, is the least with which each
