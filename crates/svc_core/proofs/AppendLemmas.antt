@@ -70,7 +70,7 @@ few_rows n id x y = few_kept (row_of n id x y) parts
 
 -- ---- the rows of some loans
 
-along_cons : (n : ℕ) (w : World) (x : Totals) (xs : List Totals) (l : Held) (ls : List Held) → rows_along n w (x ∷ xs) (l ∷ ls) ≡ rows_of n l.id x (totals_of w l) ++ rows_along n w xs ls
+pub along_cons : (n : ℕ) (w : World) (x : Totals) (xs : List Totals) (l : Held) (ls : List Held) → rows_along n w (x ∷ xs) (l ∷ ls) ≡ rows_of n l.id x (totals_of w l) ++ rows_along n w xs ls
 unfolding rows_along
 along_cons n w x xs l ls = refl
 

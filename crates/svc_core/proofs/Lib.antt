@@ -31,3 +31,5 @@ pub mod AcceptLemmas
 pub mod ListedLemmas
 pub mod PlaceLemmas
 pub mod PostingLemmas
+pub mod StillBooks
+pub mod StillDays

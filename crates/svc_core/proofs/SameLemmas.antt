@@ -26,7 +26,7 @@ pub record SameReports (w v : World) : Type 0 where
   pub reports : v.seals.reports ≡ w.seals.reports
   pub remitted : v.remitted ≡ w.remitted
 
-remitted_same : (w v : World) (id : ℕ) → SameReports w v → remitted_for v id ≡ remitted_for w id
+pub remitted_same : (w v : World) (id : ℕ) → SameReports w v → remitted_for v id ≡ remitted_for w id
 unfolding remitted_for
 remitted_same w v id h =
     ap (λ o. total_by (sent_for id) (remitted_reports o v.seals.reports)) h.remitted
@@ -36,7 +36,7 @@ dues_same : (w v : World) (l : Held) → SameReports w v → dues_sum v l ≡ du
 unfolding dues_sum
 dues_same w v l h = ap (λ rs. total_by due_sum (map (due_of l) (months_of rs))) h.reports
 
-settled_same : (w v : World) (l : Held) → SameReports w v → is_settled v l ≡ is_settled w l
+pub settled_same : (w v : World) (l : Held) → SameReports w v → is_settled v l ≡ is_settled w l
 unfolding is_settled
 settled_same w v l h =
     ap (λ o. is_remitted_by (books_now l).satisfied o && int_eq (remitted_for v l.id) (dues_sum v l)) h.remitted

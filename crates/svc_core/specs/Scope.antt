@@ -1,4 +1,6 @@
 -- What a command changes: one loan, a loan that it takes on, or all of them.
+use Rattle.std.specs.Prelude.{◌≡◌, ℕ}
+use Rattle.svc_base.specs.Calendar.{month_of}
 use Rattle.svc_types.specs.declared.requests.Command.{Command}
 use Rattle.svc_types.specs.declared.requests.Command.TheVariants as command
 use Rattle.svc_core.specs.declared.scope.Scope.{Scope}
@@ -21,3 +23,9 @@ scope_of (command.Analyse id plan) = One id
 scope_of (command.Close p) = Every
 scope_of (command.Remit p) = Every
 scope_of (command.Retype id from kind) = One id
+
+-- a command moves the business day on within its month
+pub record IsWithinMonth (c : Command) (today : ℕ) : Type 0 where
+  pub day : ℕ
+  pub is : c ≡ command.Day day
+  pub month : month_of day ≡ month_of today

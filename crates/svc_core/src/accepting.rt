@@ -17,7 +17,7 @@ ghost use Rattle.svc_core.specs.Positions as rule;
 ghost use Rattle.svc_core.specs.Positions.{CanRead, IsLine, IsPosition, line_in, positions_of, totals_in};
 ghost use Rattle.svc_core.specs.Ready.{HasRoomForOne, HasRoomForNew, HasRoomForAll, IsBoarding};
 ghost use Rattle.svc_core.specs.Rows.{IsCash};
-ghost use Rattle.svc_core.specs.Scope.{scope_of};
+ghost use Rattle.svc_core.specs.Scope.{scope_of, IsWithinMonth};
 ghost use Rattle.svc_core.specs.State.{world_of, IsState};
 ghost use Rattle.svc_core.specs.declared.position.Position.{Position as AnyPosition};
 ghost use Rattle.svc_core.specs.declared.scope.Scope.TheVariants as scope;
@@ -30,7 +30,7 @@ use crate::state::{Cash, Scratch, State};
 use crate::taking_on::change_new;
 use custodial_book::{Book, Totals};
 use std::sync::ledger::Ledger;
-use svc_base::Steps;
+use svc_base::{Day, Steps, month_of};
 use svc_loan::{Loan, Loans};
 use svc_replay::LoanBooks;
 use svc_types::{Command, Extra, Terms};
@@ -156,9 +156,24 @@ pub(crate) fn accept_all<B: LoanBooks, L: Ledger>(
     ensures positions { cash.new.positions.items
         ≡ positions_of (world_of state.new.today state.new.loans state.new.seals) }
 {
+    let today = state.today;
     let extra = change_all(count, command, state, &mut scratch.lines, steps);
+    // within a month no money moves by itself
+    if is_within_month(command, today) {
+        return extra;
+    }
     append_all(cash, count + 1, state);
     extra
+}
+
+/// Whether a command moves the business day on within its month.
+fn is_within_month(command: &Command, today: Day) -> bool
+    ensures { IsTrue result → IsWithinMonth command.now today }
+{
+    match *command {
+        Command::Day(day) => month_of(day).number() == month_of(today).number(),
+        _ => false,
+    }
 }
 
 /// Adds the rows of a command for a loan, and moves the custodial line by what its position changed by.

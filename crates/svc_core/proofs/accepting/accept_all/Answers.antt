@@ -1,4 +1,4 @@
-use Rattle.std.proofs.Common.{◌≡◌, ◌+◌, ◌++◌, length, refl, arith, sym, ap, subst, ◌∙◌}
+use Rattle.std.proofs.Common.{◌≡◌, ◌+◌, ◌++◌, length, refl, arith, sym, ap, subst, ◌∙◌, append-nil}
 use Rattle.std.specs.List.{All}
 use Rattle.std.proofs.lemmas.List.{length-map}
 use Rattle.std.proofs.lemmas.List.Elements.{All-map}
@@ -9,6 +9,7 @@ use Rattle.svc_core.specs.State.{world_of}
 use Rattle.svc_core.proofs.AcceptLemmas.{AreAdded, can_read, accepted_all, positions_within}
 use Rattle.svc_core.proofs.LineLemmas.{line_of_world}
 use Rattle.svc_core.proofs.PlaceLemmas.{totals_are}
+use Rattle.svc_core.proofs.StillDays.{IsUnmoved, quiet_day}
 use Rattle.svc_core.proofs.accepting.accept_all.Given.{Over}
 use Rattle.svc_core.proofs.accepting.accept_all.Goals as goal
 
@@ -53,3 +54,21 @@ returns-clause-rows g c =
     let v = world_of s.today s.loans s.seals in
     let are = accepted_all c.args.count w v c.args.command.now c.args.cash.now.book.rows c.args.cash.now.custody c.args.cash.now.positions.items (totals_in c.args.cash.now.positions.items) c.requires.state.world c.requires.command c.requires.fresh c.requires.scope c.change_all-extra.ensures.world c.requires.cash (ap totals_in c.requires.cash.places ∙ totals_are w w.loans) in
     c.append_all.ensures.rows ∙ ap (λ rs. c.args.cash.now.book.rows ++ rs) are.made
+
+-- within the month
+unmoved : (g : Over) (c : goal.Then-is_within_month g) → IsUnmoved (c.args.count + 1) (world_of c.args.state.now.today c.args.state.now.loans c.args.state.now.seals) (world_of c.change_all-extra.new.state.today c.change_all-extra.new.state.loans c.change_all-extra.new.state.seals)
+unmoved g c =
+    let s = c.change_all-extra.new.state in
+    let w = world_of c.args.state.now.today c.args.state.now.loans c.args.state.now.seals in
+    quiet_day c.args.count w (world_of s.today s.loans s.seals) c.args.command.now c.requires.state.world c.requires.fresh (c.is_within_month.ensures c.if-is_within_month.true) c.change_all-extra.ensures.world
+
+pub returns-then-is_within_month-clause-rows : goal.returns-then-is_within_month-clause-rows
+returns-then-is_within_month-clause-rows g c =
+    let rows = c.args.cash.now.book.rows in
+    sym (append-nil rows) ∙ ap (λ rs. rows ++ rs) (sym (unmoved g c).rows)
+
+pub returns-then-is_within_month-clause-custody : goal.returns-then-is_within_month-clause-custody
+returns-then-is_within_month-clause-custody g c = c.requires.cash.line ∙ sym (unmoved g c).line
+
+pub returns-then-is_within_month-clause-positions : goal.returns-then-is_within_month-clause-positions
+returns-then-is_within_month-clause-positions g c = c.requires.cash.places ∙ sym (unmoved g c).positions
