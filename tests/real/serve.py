@@ -123,6 +123,22 @@ def quarter(room):
     same(read(files), read(it.path), "the journals")
 
 
+@case("serve: a body with a designation pays it")
+def designated(room):
+    it = Served(room, 1)
+    link = it.link()
+    for line in ("k1 day 2024-02-01", "k2 board 1 2023-12-15 200000.00 6000 250 1199.10 360 2024-02 15 500 2 0.00 SS"):
+        same(200, bodies.ask(link, *bodies.request_of(line))[0])
+    paid = (b'{"key":"k3","do":"pay","loan":1,"day":"2024-02-01","amount":"1699.10",'
+            b'"designation":"principal"}')
+    same((200, b'{"code":0,"number":3,"text":"ok 3"}'), bodies.ask(link, "POST", "/v1/commands", paid))
+    books = ("books 1 2024-02-01 upb 199300.90 next 2024-03 escrow 0.00 suspense 0.00 late 0.00 "
+             "interest 1000.00 fee 41.67 principal 699.10 charges 0.00 pay 1199.10")
+    same(bodies.reply_of(books), bodies.ask(link, "GET", "/v1/loans/1/books"))
+    link.close()
+    it.ends(summary(1, 4))
+
+
 @case("serve: 300 requests in one piece are answered in order")
 def pipelined(room):
     it = Served(room, 1)

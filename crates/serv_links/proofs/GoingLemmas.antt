@@ -19,7 +19,7 @@ use Rattle.serv_links.specs.declared.outcome.Outcome.TheVariants as outcome
 use Rattle.serv_links.specs.Responses.{Stand, response_503}
 use Rattle.serv_links.specs.Outcomes.{IsAnswered, IsCutOff, IsUnread, IsPiece, AppendsFront, Writes}
 use Rattle.serv_links.specs.Links.{IsAll, IsStarved, Serves, link_limit}
-use Rattle.serv_links.proofs.RoundLemmas.{answered_none, answered_more, stopped_more, writes_more, writes_as}
+use Rattle.serv_links.proofs.RoundLemmas.{answered_none, answered_more, stopped_more, piece_weaker, writes_more, writes_as}
 
 -- all requests of the bytes taken are answered, and the connection stands for what is left of them
 pub record Going (left left' : Option (List ℕ)) (c : Conn) (n taken : ℕ) (s s' : Stand) (pending : List Accepted) (added : List ℕ) : Type 0 where
@@ -67,8 +67,8 @@ took_more left left' left'' left''' bytes piece first second same = subst (λ l.
 -- ---- what the next piece makes of it
 
 module _ (left left' : Option (List ℕ)) (c : Conn) (n taken : ℕ) (s t : Stand) (pending : List Accepted) (added : List ℕ) (going : Going left left' c n taken s t pending added)
-    (left'' left''' : Option (List ℕ)) (piece : List ℕ) (count : ℕ) (long : length piece ≡ count) (took : Consumes left' left'' piece) (same : left''' ≡ left'') where
-  passed_more : (m : ℕ) (c' : Conn) (t' : Stand) (pending' : List Accepted) (w : List ℕ) → IsPiece outcome.Answered m (going.rest ++ piece) c' t t' pending' w
+    (left'' left''' : Option (List ℕ)) (piece : List ℕ) (count : ℕ) (long : length piece ≡ count) (took : Consumes left' left'' piece) (same : left''' ≡ left'') (cut : Type 0) where
+  passed_more : (m : ℕ) (c' : Conn) (t' : Stand) (pending' : List Accepted) (w : List ℕ) → IsPiece cut outcome.Answered m (going.rest ++ piece) c' t t' pending' w
       → Passed left left''' c' (n + m) (taken + count) s t' pending' (added ++ w)
   passed_more m c' t' pending' w more = record {
     nothing = more.nothing;
@@ -82,16 +82,16 @@ module _ (left left' : Option (List ℕ)) (c : Conn) (n taken : ℕ) (s t : Stan
     answered = answered_more n m going.asks more.asks s t t' added w going.answered more.answered;
   }
 
-  cut_off_more : (o : Outcome) (m : ℕ) (t' : Stand) (pending' : List Accepted) (w : List ℕ) → IsCutOff o m (going.rest ++ piece) t t' pending' w
-      → IsCutOff o (n + m) (going.bytes ++ piece) s t' pending' (added ++ w)
+  cut_off_more : (o : Outcome) (m : ℕ) (t' : Stand) (pending' : List Accepted) (w : List ℕ) → IsCutOff cut o m (going.rest ++ piece) t t' pending' w
+      → IsCutOff cut o (n + m) (going.bytes ++ piece) s t' pending' (added ++ w)
   cut_off_more o m t' pending' w more = record {
     asks = going.asks ++ more.asks;
     left = more.left;
     asked = asks-grow going.asks more.asks going.bytes going.rest piece more.left going.asked more.asked;
-    stopped = stopped_more o n m going.asks more.asks s t t' pending' added w going.answered more.stopped;
+    stopped = stopped_more cut o n m going.asks more.asks s t t' pending' added w going.answered more.stopped;
   }
 
-  starved_more : (m : ℕ) (t' : Stand) (pending' : List Accepted) (w : List ℕ) → IsUnread m t t' pending' w → IsStarved (n + m) (going.bytes ++ piece) (added ++ w) s t'
+  starved_more : (m : ℕ) (t' : Stand) (pending' : List Accepted) (w : List ℕ) → IsUnread cut m t t' pending' w → IsStarved cut (n + m) (going.bytes ++ piece) (added ++ w) s t'
   starved_more m t' pending' w unread = record {
     asks = going.asks;
     first = record { front = going.bytes; more = piece; parted = refl; left = Some going.rest; asked = going.asked };
@@ -105,17 +105,17 @@ module _ (left left' : Option (List ℕ)) (c : Conn) (n taken : ℕ) (s t : Stan
   }
 
   -- it ends there
-  module _ (within : taken + count ≤ link_limit) (reads writes : Type 0) (m : ℕ) (c' : Conn) (t' : Stand) (pending' : List Accepted) (w : List ℕ) where
+  module _ (within : taken + count ≤ link_limit) (reads : Type 0) (m : ℕ) (c' : Conn) (t' : Stand) (pending' : List Accepted) (w : List ℕ) where
     small : length (going.bytes ++ piece) ≤ link_limit
     small = let all = bytes_more going.bytes piece taken count going.count long in omega arith
 
-    broken_more : writes → IsPiece outcome.Broken m (going.rest ++ piece) c' t t' pending' w → Serves (link_end.Broken (n + m)) reads writes left left''' s t' pending' (added ++ w)
+    broken_more : cut → IsPiece cut outcome.Broken m (going.rest ++ piece) c' t t' pending' w → Serves (link_end.Broken (n + m)) reads cut left left''' s t' pending' (added ++ w)
     broken_more risen more = record { taken = going.bytes ++ piece; took = took_more left left' left'' left''' going.bytes piece going.took took same; within = small; says = inr (risen, cut_off_more outcome.Broken m t' pending' w more) }
 
-    disk_more_end : IsPiece outcome.Disk m (going.rest ++ piece) c' t t' pending' w → Serves (link_end.Disk (n + m)) reads writes left left''' s t' pending' (added ++ w)
+    disk_more_end : IsPiece cut outcome.Disk m (going.rest ++ piece) c' t t' pending' w → Serves (link_end.Disk (n + m)) reads cut left left''' s t' pending' (added ++ w)
     disk_more_end more = record { taken = going.bytes ++ piece; took = took_more left left' left'' left''' going.bytes piece going.took took same; within = small; says = cut_off_more outcome.Disk m t' pending' w more }
 
-    memory_more : IsPiece outcome.NoMemory m (going.rest ++ piece) c' t t' pending' w → Serves (link_end.NoMemory (n + m)) reads writes left left''' s t' pending' (added ++ w)
+    memory_more : IsPiece cut outcome.NoMemory m (going.rest ++ piece) c' t t' pending' w → Serves (link_end.NoMemory (n + m)) reads cut left left''' s t' pending' (added ++ w)
     memory_more (inl more) = record { taken = going.bytes ++ piece; took = took_more left left' left'' left''' going.bytes piece going.took took same; within = small; says = inl (cut_off_more outcome.NoMemory m t' pending' w more) }
     memory_more (inr unread) = record { taken = going.bytes ++ piece; took = took_more left left' left'' left''' going.bytes piece going.took took same; within = small; says = inr (unread.nothing, starved_more m t' pending' w unread) }
 
@@ -139,7 +139,7 @@ module _ (left left' : Option (List ℕ)) (c : Conn) (n taken : ℕ) (s t : Stan
     taken = g.bytes;
     took = subst (λ l. Consumes left l g.bytes) (sym same) g.took;
     within = (let is = g.count in omega arith);
-    says = inl (risen, g.nothing, (let is = g.count in omega arith), (Some g.rest, going_all g));
+    says = inl (risen, g.nothing, (let is = g.count in omega arith), (g.rest, going_all g));
   }
 
   cut_at_limit : Passed left left' c n taken s t pending added → taken ≡ link_limit → Serves (link_end.Cut n) reads writes left left' s t pending added
@@ -186,7 +186,7 @@ module _ (left left' : Option (List ℕ)) (c : Conn) (n taken : ℕ) (s t : Stan
 
 module _ {D : Type 0} (images : D → List ℕ → Type 0) (moment : D → ℕ) (images_since : D → ℕ → List ℕ → Type 0) where
   -- no memory was there for the connection
-  pub starved_at_once : (d : D) (reads writes : Type 0) (left left' held held' : Option (List ℕ)) (s : Stand) → left' ≡ left → AppendsFront held held' response_503
+  pub starved_at_once : (d : D) (reads writes : Type 0) (left left' held held' : Option (List ℕ)) (s : Stand) → left' ≡ left → AppendsFront writes held held' response_503
       → OnDisk images moment images_since d d s.history.commands s.history.commands []
       → Writes images moment images_since d d (Serves (link_end.NoMemory 0) reads writes left left' s s) s.history.commands s.history.commands held held'
   starved_at_once d reads writes left left' held held' s same front disk = record {
@@ -256,31 +256,31 @@ module _ {D : Type 0} (images : D → List ℕ → Type 0) (moment : D → ℕ) 
   module _ (old mid new : D) (left left' left'' left''' held held' held'' held''' : Option (List ℕ)) (c c' : Conn) (n taken : ℕ) (s t t' : Stand)
       (run : Run old mid (Going left left' c n taken s t) s t held held') (same : held'' ≡ held')
       (piece : List ℕ) (count : ℕ) (long : length piece ≡ count) (took : Consumes left' left'' piece) (stays : left''' ≡ left'')
-      (o : Outcome) (m : ℕ) (served : (r : List ℕ) → StandsFor c r → Run mid new (IsPiece o m (r ++ piece) c' t t') t t' held'' held''') where
+      (cut : Type 0) (o : Outcome) (m : ℕ) (served : (r : List ℕ) → StandsFor c r → Run mid new (IsPiece cut o m (r ++ piece) c' t t') t t' held'' held''') where
     joined : (R : List Accepted → List ℕ → Type 0)
-        → ((p : List Accepted) (w : List ℕ) → IsPiece o m (run.says_so.rest ++ piece) c' t t' p w → R p (run.wrote ++ w)) → Run old new R s t' held held'''
+        → ((p : List Accepted) (w : List ℕ) → IsPiece cut o m (run.says_so.rest ++ piece) c' t t' p w → R p (run.wrote ++ w)) → Run old new R s t' held held'''
     joined R then =
-        let second : Run mid new (IsPiece o m (run.says_so.rest ++ piece) c' t t') t t' held' held''' =
-        subst (λ h. Run mid new (IsPiece o m (run.says_so.rest ++ piece) c' t t') t t' h held''') same (served run.says_so.rest run.says_so.stands) in
+        let second : Run mid new (IsPiece cut o m (run.says_so.rest ++ piece) c' t t') t t' held' held''' =
+        subst (λ h. Run mid new (IsPiece cut o m (run.says_so.rest ++ piece) c' t t') t t' h held''') same (served run.says_so.rest run.says_so.stands) in
         writes_more images moment images_since old mid new _ _ R _ _ _ held held' held''' run run.says_so.nothing second
         (then second.pending second.wrote second.says_so)
 
     pub run_passes : o ≡ outcome.Answered → Run old new (Passed left left''' c' (n + m) (taken + count) s t') s t' held held'''
-    run_passes is = joined _ (λ p w x. passed_more left left' c n taken s t run.pending run.wrote run.says_so left'' left''' piece count long took stays m c' t' p w
-        (subst (λ q. IsPiece q m (run.says_so.rest ++ piece) c' t t' p w) is x))
+    run_passes is = joined _ (λ p w x. passed_more left left' c n taken s t run.pending run.wrote run.says_so left'' left''' piece count long took stays cut m c' t' p w
+        (subst (λ q. IsPiece cut q m (run.says_so.rest ++ piece) c' t t' p w) is x))
 
-    module _ (within : taken + count ≤ link_limit) (reads writes : Type 0) where
+    module _ (within : taken + count ≤ link_limit) (reads writes : Type 0) (then : cut → writes) where
       pub run_broken : o ≡ outcome.Broken → writes → Run old new (Serves (link_end.Broken (n + m)) reads writes left left''' s t') s t' held held'''
-      run_broken is risen = joined _ (λ p w x. broken_more left left' c n taken s t run.pending run.wrote run.says_so left'' left''' piece count long took stays within reads writes m c' t' p w risen
-          (subst (λ q. IsPiece q m (run.says_so.rest ++ piece) c' t t' p w) is x))
+      run_broken is risen = joined _ (λ p w x. broken_more left left' c n taken s t run.pending run.wrote run.says_so left'' left''' piece count long took stays writes within reads m c' t' p w risen
+          (piece_weaker cut writes outcome.Broken m (run.says_so.rest ++ piece) c' t t' p w then (subst (λ q. IsPiece cut q m (run.says_so.rest ++ piece) c' t t' p w) is x)))
 
       pub run_disk : o ≡ outcome.Disk → Run old new (Serves (link_end.Disk (n + m)) reads writes left left''' s t') s t' held held'''
-      run_disk is = joined _ (λ p w x. disk_more_end left left' c n taken s t run.pending run.wrote run.says_so left'' left''' piece count long took stays within reads writes m c' t' p w
-          (subst (λ q. IsPiece q m (run.says_so.rest ++ piece) c' t t' p w) is x))
+      run_disk is = joined _ (λ p w x. disk_more_end left left' c n taken s t run.pending run.wrote run.says_so left'' left''' piece count long took stays writes within reads m c' t' p w
+          (piece_weaker cut writes outcome.Disk m (run.says_so.rest ++ piece) c' t t' p w then (subst (λ q. IsPiece cut q m (run.says_so.rest ++ piece) c' t t' p w) is x)))
 
       pub run_memory : o ≡ outcome.NoMemory → Run old new (Serves (link_end.NoMemory (n + m)) reads writes left left''' s t') s t' held held'''
-      run_memory is = joined _ (λ p w x. memory_more left left' c n taken s t run.pending run.wrote run.says_so left'' left''' piece count long took stays within reads writes m c' t' p w
-          (subst (λ q. IsPiece q m (run.says_so.rest ++ piece) c' t t' p w) is x))
+      run_memory is = joined _ (λ p w x. memory_more left left' c n taken s t run.pending run.wrote run.says_so left'' left''' piece count long took stays writes within reads m c' t' p w
+          (piece_weaker cut writes outcome.NoMemory m (run.says_so.rest ++ piece) c' t t' p w then (subst (λ q. IsPiece cut q m (run.says_so.rest ++ piece) c' t t' p w) is x)))
 
   -- after a piece that was answered
   module _ (old new : D) (left left' held held' : Option (List ℕ)) (c : Conn) (n taken : ℕ) (s t : Stand) (run : Run old new (Passed left left' c n taken s t) s t held held') where

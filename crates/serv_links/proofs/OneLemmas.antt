@@ -19,7 +19,7 @@ use Rattle.serv_links.specs.declared.outcome.Outcome.TheVariants.{Broken}
 use Rattle.serv_links.specs.Outcomes.{IsCutOff}
 use Rattle.serv_links.proofs.RoundLemmas.{responses_append}
 use Rattle.svc_world.specs.World.{Accepted}
-use Rattle.serv_disk.specs.Faults.{IsProperPrefix}
+use Rattle.serv_disk.specs.Faults.{HasRisen, IsProperPrefix}
 use Rattle.serv_links.specs.Links.{IsAll, AreFirst}
 
 -- a body asks for one request
@@ -98,9 +98,9 @@ joined w x y more b p r is before part =
     is ∙ (ap (λ z. z ++ (y ++ more)) (sym before) ∙ (ap (λ z. b ++ (z ++ more)) part ∙ (ap (λ z. b ++ z) (append_assoc p r more) ∙ sym (append_assoc b p (r ++ more)))))
 
 -- what is written where a write failed is a proper prefix of all responses
-pub cut_of_all : (n m : ℕ) (taken added whole : List ℕ) (s t u : Stand) (pending : List Accepted) (l : Option (List ℕ)) → IsCutOff Broken n taken s t pending added → IsAll m taken whole s u l
+pub cut_of_all : (n m : ℕ) (taken added whole : List ℕ) (s t u : Stand) (pending : List Accepted) (l : Option (List ℕ)) (before after : ℕ) → IsCutOff (HasRisen before after) Broken n taken s t pending added → IsAll m taken whole s u l
     → IsProperPrefix added whole
-cut_of_all n m taken added whole s t u pending l cut all =
+cut_of_all n m taken added whole s t u pending l earlier later cut all =
     let stopped = cut.stopped in
     let same : cut.asks ≡ all.asks = (asks-unique cut.asks all.asks taken cut.left l cut.asked all.asked).0 in
     let at = parted_at stopped.done stopped.ask stopped.rest all.answered.meant (subst (λ (z : List Ask). Mean z all.answered.meant) (sym same ∙ stopped.asked) all.answered.mean) in

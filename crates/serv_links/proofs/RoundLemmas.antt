@@ -19,8 +19,8 @@ use Rattle.serv_machine.proofs.OnDiskLemmas.{disk_more}
 use Rattle.serv_links.specs.declared.outcome.Outcome.{Outcome}
 use Rattle.serv_links.specs.declared.outcome.Outcome.TheVariants.{Answered, Broken, Disk, NoMemory}
 use Rattle.serv_links.specs.Meanings.{Meaning, Faulty, Mean, IsNoBody}
-use Rattle.serv_links.specs.Responses.{Stand, MovesAll, response_to, responses_to, response_503, after_all, bound_of_all, history_after, bound_of}
-use Rattle.serv_links.specs.Outcomes.{IsReplied, IsOne, IsAnswered, IsStopped, IsRound, IsPiece, AppendsFront, Halts, Writes}
+use Rattle.serv_links.specs.Responses.{Stand, MovesAll, response_to, responses_to, response_500, response_503, after_all, bound_of_all, history_after, bound_of}
+use Rattle.serv_links.specs.Outcomes.{IsReplied, IsFront, IsOne, IsAnswered, IsStopped, IsRound, IsCutOff, IsPiece, AppendsFront, Halts, Writes}
 use Rattle.serv_http.specs.Responses.{response}
 
 -- ---- lists of meanings
@@ -81,9 +81,9 @@ answered_one a s s' text r = record {
   moved = (r.moved.0, (let cost = r.moved.1 in omega arith));
 }
 
-pub stopped_more : (o : Outcome) (n m : ℕ) (xs ys : List Ask) (s mid s' : Stand) (pending : List Accepted) (w1 w2 : List ℕ) → IsAnswered n xs s mid w1 → IsStopped o m ys mid s' pending w2
-    → IsStopped o (n + m) (xs ++ ys) s s' pending (w1 ++ w2)
-stopped_more o n m xs ys s mid s' pending w1 w2 first second = record {
+pub stopped_more : (cut : Type 0) (o : Outcome) (n m : ℕ) (xs ys : List Ask) (s mid s' : Stand) (pending : List Accepted) (w1 w2 : List ℕ) → IsAnswered n xs s mid w1 → IsStopped cut o m ys mid s' pending w2
+    → IsStopped cut o (n + m) (xs ++ ys) s s' pending (w1 ++ w2)
+stopped_more cut o n m xs ys s mid s' pending w1 w2 first second = record {
   done = xs ++ second.done;
   ask = second.ask;
   rest = second.rest;
@@ -106,9 +106,9 @@ parted : (i : ℕ) (asks : List Ask) (a d : Ask) → i < length asks → a ≡ g
 parted i asks a d lt is =
     sym (take-append-drop i asks) ∙ ap (λ l. take i asks ++ l) (drop-cons asks i d lt ∙ (ap (λ x. x ∷ drop (suc i) asks) (sym is) ∙ ap (λ n. a ∷ drop n asks) (sym (add-one i))))
 
-one_stopped : (o : Outcome) (i : ℕ) (asks : List Ask) (a d : Ask) (s mid s' : Stand) (pending : List Accepted) (w1 w2 : List ℕ) → i < length asks → a ≡ get_or asks i d
-    → IsAnswered i (take i asks) s mid w1 → IsOne o a mid s' pending w2 → IsStopped o i asks s s' pending (w1 ++ w2)
-one_stopped o i asks a d s mid s' pending w1 w2 lt is first one = record {
+one_stopped : (cut : Type 0) (o : Outcome) (i : ℕ) (asks : List Ask) (a d : Ask) (s mid s' : Stand) (pending : List Accepted) (w1 w2 : List ℕ) → i < length asks → a ≡ get_or asks i d
+    → IsAnswered i (take i asks) s mid w1 → IsOne cut o a mid s' pending w2 → IsStopped cut o i asks s s' pending (w1 ++ w2)
+one_stopped cut o i asks a d s mid s' pending w1 w2 lt is first one = record {
   done = take i asks;
   ask = a;
   rest = drop (i + 1) asks;
@@ -121,18 +121,18 @@ one_stopped o i asks a d s mid s' pending w1 w2 lt is first one = record {
   one = one;
 }
 
-round_stopped : (o : Outcome) (i : ℕ) (asks : List Ask) (s s' : Stand) (pending : List Accepted) (w : List ℕ) → (o ≡ Answered → ⊥) → IsStopped o i asks s s' pending w → IsRound o i asks s s' pending w
-round_stopped Answered i asks s s' pending w not stopped = absurd (not refl)
-round_stopped Broken i asks s s' pending w not stopped = stopped
-round_stopped Disk i asks s s' pending w not stopped = stopped
-round_stopped NoMemory i asks s s' pending w not stopped = stopped
+round_stopped : (cut : Type 0) (o : Outcome) (i : ℕ) (asks : List Ask) (s s' : Stand) (pending : List Accepted) (w : List ℕ) → (o ≡ Answered → ⊥) → IsStopped cut o i asks s s' pending w → IsRound cut o i asks s s' pending w
+round_stopped cut Answered i asks s s' pending w not stopped = absurd (not refl)
+round_stopped cut Broken i asks s s' pending w not stopped = stopped
+round_stopped cut Disk i asks s s' pending w not stopped = stopped
+round_stopped cut NoMemory i asks s s' pending w not stopped = stopped
 
-pub piece_of : (o : Outcome) (n : ℕ) (asks : List Ask) (bytes : List ℕ) (c : Conn) (s s' : Stand) (pending : List Accepted) (w : List ℕ) → IsFed bytes asks c → IsRound o n asks s s' pending w
-    → IsPiece o n bytes c s s' pending w
-piece_of Answered n asks bytes c s s' pending w fed round = record { asks = asks; fed = fed; nothing = round.0; answered = round.1 }
-piece_of Broken n asks bytes c s s' pending w fed round = record { asks = asks; left = fed.0; asked = fed.1; stopped = round }
-piece_of Disk n asks bytes c s s' pending w fed round = record { asks = asks; left = fed.0; asked = fed.1; stopped = round }
-piece_of NoMemory n asks bytes c s s' pending w fed round = inl (record { asks = asks; left = fed.0; asked = fed.1; stopped = round })
+pub piece_of : (cut : Type 0) (o : Outcome) (n : ℕ) (asks : List Ask) (bytes : List ℕ) (c : Conn) (s s' : Stand) (pending : List Accepted) (w : List ℕ) → IsFed bytes asks c → IsRound cut o n asks s s' pending w
+    → IsPiece cut o n bytes c s s' pending w
+piece_of cut Answered n asks bytes c s s' pending w fed round = record { asks = asks; fed = fed; nothing = round.0; answered = round.1 }
+piece_of cut Broken n asks bytes c s s' pending w fed round = record { asks = asks; left = fed.0; asked = fed.1; stopped = round }
+piece_of cut Disk n asks bytes c s s' pending w fed round = record { asks = asks; left = fed.0; asked = fed.1; stopped = round }
+piece_of cut NoMemory n asks bytes c s s' pending w fed round = inl (record { asks = asks; left = fed.0; asked = fed.1; stopped = round })
 
 -- ---- one request
 
@@ -144,9 +144,51 @@ pub fault_replied : (status : ℕ) (last : Bool) (allow : Option Allow) (s : Sta
 unfolding response_to
 fault_replied status last allow s text is = record { meant = Faulty status last allow; means = (refl, refl, refl); text_is = is; moved = (refl, omega arith) }
 
-pub front_by : {E : Type 0} (r : Result (Unit {0}) E) (held held' : Option (List ℕ)) (text : List ℕ) → OnOk r (Appends held held' text) → OnErr r (AppendsPart held held' text) → AppendsFront held held' text
-front_by (Ok done) held held' text whole part = record { part = text; appends = whole; front = record { rest = []; joined = sym (append-nil text) } }
-front_by (Err e) held held' text whole part = record { part = part.part; appends = part.wrote; front = record { rest = part.partial.rest; joined = part.partial.joined } }
+pub front_by : {E : Type 0} (cut : Type 0) (r : Result (Unit {0}) E) (held held' : Option (List ℕ)) (text : List ℕ) → OnOk r (Appends held held' text) → OnErr r (AppendsPart held held' text) → OnErr r cut
+    → AppendsFront cut held held' text
+front_by cut (Ok done) held held' text whole part risen = record { part = text; appends = whole; front = record { rest = []; joined = sym (append-nil text); all = λ calm. refl } }
+front_by cut (Err e) held held' text whole part risen =
+    record { part = part.part; appends = part.wrote; front = record { rest = part.partial.rest; joined = part.partial.joined; all = λ calm. absurd (calm risen) } }
+
+-- ---- what is said of a cut holds of a later one
+
+front_weaker : (cut later : Type 0) (part whole : List ℕ) → (cut → later) → IsFront cut part whole → IsFront later part whole
+front_weaker cut later part whole then f = record { rest = f.rest; joined = f.joined; all = λ calm. f.all (λ c. calm (then c)) }
+
+pub one_weaker : (cut later : Type 0) (o : Outcome) (a : Ask) (s s' : Stand) (pending : List Accepted) (w : List ℕ) → (cut → later) → IsOne cut o a s s' pending w → IsOne later o a s s' pending w
+one_weaker cut later Answered a s s' pending w then is = is
+one_weaker cut later Broken a s s' pending w then is = is
+one_weaker cut later Disk a s s' pending w then is = (is.0, front_weaker cut later w response_500 then is.1)
+one_weaker cut later NoMemory a s s' pending w then is = (is.0, is.1, front_weaker cut later w response_503 then is.2)
+
+cut_off_weaker : (cut later : Type 0) (o : Outcome) (n : ℕ) (bytes : List ℕ) (s s' : Stand) (pending : List Accepted) (w : List ℕ) → (cut → later) → IsCutOff cut o n bytes s s' pending w
+    → IsCutOff later o n bytes s s' pending w
+cut_off_weaker cut later o n bytes s s' pending w then is = record {
+  asks = is.asks;
+  left = is.left;
+  asked = is.asked;
+  stopped = record {
+    done = is.stopped.done;
+    ask = is.stopped.ask;
+    rest = is.stopped.rest;
+    asked = is.stopped.asked;
+    mid = is.stopped.mid;
+    before = is.stopped.before;
+    answered = is.stopped.answered;
+    part = is.stopped.part;
+    wrote_is = is.stopped.wrote_is;
+    one = one_weaker cut later o is.stopped.ask is.stopped.mid s' pending is.stopped.part then is.stopped.one;
+  };
+}
+
+pub piece_weaker : (cut later : Type 0) (o : Outcome) (n : ℕ) (bytes : List ℕ) (c : Conn) (s s' : Stand) (pending : List Accepted) (w : List ℕ) → (cut → later) → IsPiece cut o n bytes c s s' pending w
+    → IsPiece later o n bytes c s s' pending w
+piece_weaker cut later Answered n bytes c s s' pending w then is = is
+piece_weaker cut later Broken n bytes c s s' pending w then is = cut_off_weaker cut later Broken n bytes s s' pending w then is
+piece_weaker cut later Disk n bytes c s s' pending w then is = cut_off_weaker cut later Disk n bytes s s' pending w then is
+piece_weaker cut later NoMemory n bytes c s s' pending w then (inl is) = inl (cut_off_weaker cut later NoMemory n bytes s s' pending w then is)
+piece_weaker cut later NoMemory n bytes c s s' pending w then (inr is) =
+    inr (record { none = is.none; nothing = is.nothing; stays = is.stays; front = front_weaker cut later w response_503 then is.front })
 
 -- ---- counts of faults
 
@@ -177,33 +219,33 @@ module _ {D : Type 0} (images : D → List ℕ → Type 0) (moment : D → ℕ) 
       → Writes images moment images_since old new P h h' held held' → Writes images moment images_since old new Q h h' held held'
   writes_as old new P Q h h' held held' then w = record { pending = w.pending; wrote = w.wrote; appends = w.appends; says_so = then w.pending w.wrote w.says_so; disk = w.disk }
 
-  pub round_goes_on : (old mid new : D) (i : ℕ) (asks : List Ask) (a d : Ask) (s t s' : Stand) (held held1 held2 : Option (List ℕ)) → i < length asks → a ≡ get_or asks i d
-      → Writes images moment images_since old mid (IsRound Answered i (take i asks) s t) s.history.commands t.history.commands held held1
-      → Writes images moment images_since mid new (IsOne Answered a t s') t.history.commands s'.history.commands held1 held2
-      → Writes images moment images_since old new (IsRound Answered (i + 1) (take (i + 1) asks) s s') s.history.commands s'.history.commands held held2
-  round_goes_on old mid new i asks a d s t s' held held1 held2 lt is first second =
+  pub round_goes_on : (cut : Type 0) (old mid new : D) (i : ℕ) (asks : List Ask) (a d : Ask) (s t s' : Stand) (held held1 held2 : Option (List ℕ)) → i < length asks → a ≡ get_or asks i d
+      → Writes images moment images_since old mid (IsRound cut Answered i (take i asks) s t) s.history.commands t.history.commands held held1
+      → Writes images moment images_since mid new (IsOne cut Answered a t s') t.history.commands s'.history.commands held1 held2
+      → Writes images moment images_since old new (IsRound cut Answered (i + 1) (take (i + 1) asks) s s') s.history.commands s'.history.commands held held2
+  round_goes_on cut old mid new i asks a d s t s' held held1 held2 lt is first second =
       writes_more old mid new _ _ _ _ _ _ held held1 held2 first first.says_so.0 second
       (second.says_so.0, one_answered i asks a d s t s' first.wrote second.wrote lt is first.says_so.1 second.says_so.1)
 
-  pub round_stops : (o : Outcome) (old mid new : D) (i : ℕ) (asks : List Ask) (a d : Ask) (s t s' : Stand) (held held1 held2 : Option (List ℕ)) → (o ≡ Answered → ⊥) → i < length asks → a ≡ get_or asks i d
-      → Writes images moment images_since old mid (IsRound Answered i (take i asks) s t) s.history.commands t.history.commands held held1
-      → Writes images moment images_since mid new (IsOne o a t s') t.history.commands s'.history.commands held1 held2
-      → Writes images moment images_since old new (IsRound o i asks s s') s.history.commands s'.history.commands held held2
-  round_stops o old mid new i asks a d s t s' held held1 held2 not lt is first second =
+  pub round_stops : (cut before : Type 0) (o : Outcome) (old mid new : D) (i : ℕ) (asks : List Ask) (a d : Ask) (s t s' : Stand) (held held1 held2 : Option (List ℕ)) → (o ≡ Answered → ⊥) → i < length asks → a ≡ get_or asks i d
+      → Writes images moment images_since old mid (IsRound before Answered i (take i asks) s t) s.history.commands t.history.commands held held1
+      → Writes images moment images_since mid new (IsOne cut o a t s') t.history.commands s'.history.commands held1 held2
+      → Writes images moment images_since old new (IsRound cut o i asks s s') s.history.commands s'.history.commands held held2
+  round_stops cut before o old mid new i asks a d s t s' held held1 held2 not lt is first second =
       writes_more old mid new _ _ _ _ _ _ held held1 held2 first first.says_so.0 second
-      (round_stopped o i asks s s' second.pending (first.wrote ++ second.wrote) not
-      (one_stopped o i asks a d s t s' second.pending first.wrote second.wrote lt is first.says_so.1 second.says_so))
+      (round_stopped cut o i asks s s' second.pending (first.wrote ++ second.wrote) not
+      (one_stopped cut o i asks a d s t s' second.pending first.wrote second.wrote lt is first.says_so.1 second.says_so))
 
   -- no request yet
-  pub round_none : (d : D) (s : Stand) (held : Option (List ℕ)) → OnDisk images moment images_since d d s.history.commands s.history.commands []
-      → Writes images moment images_since d d (IsRound Answered 0 [] s s) s.history.commands s.history.commands held held
-  round_none d s held disk = record { pending = []; wrote = []; appends = Appends-nil held; says_so = (refl, answered_none s s refl (omega arith)); disk = disk }
+  pub round_none : (cut : Type 0) (d : D) (s : Stand) (held : Option (List ℕ)) → OnDisk images moment images_since d d s.history.commands s.history.commands []
+      → Writes images moment images_since d d (IsRound cut Answered 0 [] s s) s.history.commands s.history.commands held held
+  round_none cut d s held disk = record { pending = []; wrote = []; appends = Appends-nil held; says_so = (refl, answered_none s s refl (omega arith)); disk = disk }
 
   -- the requests of a piece cannot be read
-  pub unread_here : (d : D) (bytes : List ℕ) (c : Conn) (s : Stand) (held held' : Option (List ℕ)) → AppendsFront held held' response_503
+  pub unread_here : (cut : Type 0) (d : D) (bytes : List ℕ) (c : Conn) (s : Stand) (held held' : Option (List ℕ)) → AppendsFront cut held held' response_503
       → OnDisk images moment images_since d d s.history.commands s.history.commands []
-      → Writes images moment images_since d d (IsPiece NoMemory 0 bytes c s s) s.history.commands s.history.commands held held'
-  unread_here d bytes c s held held' front disk = record {
+      → Writes images moment images_since d d (IsPiece cut NoMemory 0 bytes c s s) s.history.commands s.history.commands held held'
+  unread_here cut d bytes c s held held' front disk = record {
     pending = [];
     wrote = front.part;
     appends = front.appends;

@@ -1,5 +1,5 @@
 -- How a link was served: what was taken from it and written to it, what is held after it, and why it ended.
-use Rattle.std.specs.Prelude.{◌≡◌, ℕ, ◌^◌, ◌<◌, ◌≤◌, ◌⊎◌, List, [], ◌++◌, length, Option, None, ⊤}
+use Rattle.std.specs.Prelude.{◌≡◌, ℕ, ◌^◌, ◌<◌, ◌≤◌, ◌⊎◌, List, [], ◌++◌, length, Option, None, Some, ⊤}
 use Rattle.std.specs.Io.KnownBytes.{Consumes, IsAtEnd}
 use Rattle.svc_world.specs.World.{Accepted}
 use Rattle.serv_http.specs.declared.ask.Ask.{Ask}
@@ -45,7 +45,7 @@ pub record AreFirst (taken : List ℕ) (asks : List Ask) : Type 0 where
   pub asked : AsksTo front asks left
 
 -- no memory was there to read on: the first requests of these bytes are answered, and no further one is acted on
-pub record IsStarved (n : ℕ) (taken added : List ℕ) (s s' : Stand) : Type 0 where
+pub record IsStarved (cut : Type 0) (n : ℕ) (taken added : List ℕ) (s s' : Stand) : Type 0 where
   pub asks : List Ask
   pub first : AreFirst taken asks
   pub mid : Stand
@@ -53,11 +53,12 @@ pub record IsStarved (n : ℕ) (taken added : List ℕ) (s s' : Stand) : Type 0 
   pub answered : IsAnswered n asks s mid before
   pub part : List ℕ
   pub added_is : added ≡ before ++ part
-  pub front : IsFront part response_503
+  pub front : IsFront cut part response_503
   pub stays : Stays mid s'
 
 -- the end of a link whose count of read faults, or of write faults, has risen, and of which nothing is left to read:
--- at Ended and Cut, and where a read failed, all requests are answered
+-- at Ended and Cut, and where a read failed, all requests are answered. A read that fails comes of a connection that goes
+-- on: after a response that ends it nothing more is read
 abbrev pub IsServed : LinkEnd
     → Type 0 → Type 0 → Type 0 → List ℕ → Stand → Stand → List Accepted → List ℕ → Type 0
 IsServed (link_end.Ended n) reads writes at_end taken s s' pending added =
@@ -68,13 +69,13 @@ IsServed (link_end.Cut n) reads writes at_end taken s s' pending added =
     × ((left : Option (List ℕ)) × IsAll n taken added s s' left)
 IsServed (link_end.Broken n) reads writes at_end taken s s' pending added =
     (reads × (pending ≡ []) × (length taken < link_limit)
-    × ((left : Option (List ℕ)) × IsAll n taken added s s' left))
-    ⊎ (writes × IsCutOff outcome.Broken n taken s s' pending added)
+    × ((going : List ℕ) × IsAll n taken added s s' (Some going)))
+    ⊎ (writes × IsCutOff writes outcome.Broken n taken s s' pending added)
 IsServed (link_end.Disk n) reads writes at_end taken s s' pending added =
-    IsCutOff outcome.Disk n taken s s' pending added
+    IsCutOff writes outcome.Disk n taken s s' pending added
 IsServed (link_end.NoMemory n) reads writes at_end taken s s' pending added =
-    IsCutOff outcome.NoMemory n taken s s' pending added
-    ⊎ ((pending ≡ []) × IsStarved n taken added s s')
+    IsCutOff writes outcome.NoMemory n taken s s' pending added
+    ⊎ ((pending ≡ []) × IsStarved writes n taken added s s')
 
 -- with what is taken, where the link tells what is left
 pub record Serves (end : LinkEnd) (reads writes : Type 0) (left left' : Option (List ℕ)) (s s' : Stand) (pending : List Accepted) (added : List ℕ) : Type 0 where

@@ -56,28 +56,29 @@ pub record IsTriedAs (a : Ask) (s s' : Stand) : Type 0 where
 abbrev pub IsTried : Ask → Stand → Stand → Type 0
 IsTried a s s' = Stays s s' ⊎ IsTriedAs a s s'
 
--- a front part of a text, which may be all of it
-pub record IsFront (part whole : List ℕ) : Type 0 where
+-- a front part of a text, and all of it unless a write was cut
+pub record IsFront (cut : Type 0) (part whole : List ℕ) : Type 0 where
   pub rest : List ℕ
   pub joined : whole ≡ part ++ rest
+  pub all : ¬ cut → rest ≡ []
 
 -- a front part of a text is written
-pub record AppendsFront (held held' : Option (List ℕ)) (text : List ℕ) : Type 0 where
+pub record AppendsFront (cut : Type 0) (held held' : Option (List ℕ)) (text : List ℕ) : Type 0 where
   pub part : List ℕ
   pub appends : Appends held held' part
-  pub front : IsFront part text
+  pub front : IsFront cut part text
 
 -- a request without a response, and the command that was being appended
 abbrev pub IsHalted : Halt → Ask → Stand → Stand → List Accepted → Type 0
 IsHalted halt.DiskFault a s s' pending = IsStuck a s s' pending
 IsHalted halt.OutOfMemory a s s' pending = (pending ≡ []) × IsTried a s s'
 
--- how it went, what was written, and the command that was being appended
-abbrev pub IsOne : Outcome → Ask → Stand → Stand → List Accepted → List ℕ → Type 0
-IsOne Answered a s s' pending wrote = (pending ≡ []) × IsReplied a s s' wrote
-IsOne Broken a s s' pending wrote = (pending ≡ []) × IsCut a s s' wrote
-IsOne Disk a s s' pending wrote = IsStuck a s s' pending × IsFront wrote response_500
-IsOne NoMemory a s s' pending wrote = (pending ≡ []) × IsTried a s s' × IsFront wrote response_503
+-- how it went, what was written, and the command that was being appended; 500 and 503 are written whole unless a write was cut
+abbrev pub IsOne : Type 0 → Outcome → Ask → Stand → Stand → List Accepted → List ℕ → Type 0
+IsOne cut Answered a s s' pending wrote = (pending ≡ []) × IsReplied a s s' wrote
+IsOne cut Broken a s s' pending wrote = (pending ≡ []) × IsCut a s s' wrote
+IsOne cut Disk a s s' pending wrote = IsStuck a s s' pending × IsFront cut wrote response_500
+IsOne cut NoMemory a s s' pending wrote = (pending ≡ []) × IsTried a s s' × IsFront cut wrote response_503
 
 -- ---- requests in order
 
@@ -90,7 +91,7 @@ pub record IsAnswered (n : ℕ) (asks : List Ask) (s s' : Stand) (wrote : List �
   pub moved : MovesAll meant s s'
 
 -- the first ones are answered, and the next one went so; no further one is acted on
-pub record IsStopped (o : Outcome) (n : ℕ) (asks : List Ask) (s s' : Stand) (pending : List Accepted) (wrote : List ℕ) : Type 0 where
+pub record IsStopped (cut : Type 0) (o : Outcome) (n : ℕ) (asks : List Ask) (s s' : Stand) (pending : List Accepted) (wrote : List ℕ) : Type 0 where
   pub done : List Ask
   pub ask : Ask
   pub rest : List Ask
@@ -100,29 +101,29 @@ pub record IsStopped (o : Outcome) (n : ℕ) (asks : List Ask) (s s' : Stand) (p
   pub answered : IsAnswered n done s mid before
   pub part : List ℕ
   pub wrote_is : wrote ≡ before ++ part
-  pub one : IsOne o ask mid s' pending part
+  pub one : IsOne cut o ask mid s' pending part
 
-abbrev pub IsRound : Outcome → ℕ → List Ask → Stand → Stand → List Accepted → List ℕ → Type 0
-IsRound Answered n asks s s' pending wrote = (pending ≡ []) × IsAnswered n asks s s' wrote
-IsRound Broken n asks s s' pending wrote = IsStopped Broken n asks s s' pending wrote
-IsRound Disk n asks s s' pending wrote = IsStopped Disk n asks s s' pending wrote
-IsRound NoMemory n asks s s' pending wrote = IsStopped NoMemory n asks s s' pending wrote
+abbrev pub IsRound : Type 0 → Outcome → ℕ → List Ask → Stand → Stand → List Accepted → List ℕ → Type 0
+IsRound cut Answered n asks s s' pending wrote = (pending ≡ []) × IsAnswered n asks s s' wrote
+IsRound cut Broken n asks s s' pending wrote = IsStopped cut Broken n asks s s' pending wrote
+IsRound cut Disk n asks s s' pending wrote = IsStopped cut Disk n asks s s' pending wrote
+IsRound cut NoMemory n asks s s' pending wrote = IsStopped cut NoMemory n asks s s' pending wrote
 
 -- ---- the requests of the bytes since the last whole one
 
 -- they are not all answered
-pub record IsCutOff (o : Outcome) (n : ℕ) (bytes : List ℕ) (s s' : Stand) (pending : List Accepted) (wrote : List ℕ) : Type 0 where
+pub record IsCutOff (cut : Type 0) (o : Outcome) (n : ℕ) (bytes : List ℕ) (s s' : Stand) (pending : List Accepted) (wrote : List ℕ) : Type 0 where
   pub asks : List Ask
   pub left : Option (List ℕ)
   pub asked : AsksTo bytes asks left
-  pub stopped : IsStopped o n asks s s' pending wrote
+  pub stopped : IsStopped cut o n asks s s' pending wrote
 
 -- no memory was there to read them
-pub record IsUnread (n : ℕ) (s s' : Stand) (pending : List Accepted) (wrote : List ℕ) : Type 0 where
+pub record IsUnread (cut : Type 0) (n : ℕ) (s s' : Stand) (pending : List Accepted) (wrote : List ℕ) : Type 0 where
   pub none : n ≡ 0
   pub nothing : pending ≡ []
   pub stays : Stays s s'
-  pub front : IsFront wrote response_503
+  pub front : IsFront cut wrote response_503
 
 -- all of them are answered, and the connection goes on with what is left
 pub record IsFedAll (n : ℕ) (bytes : List ℕ) (c : Conn) (s s' : Stand) (pending : List Accepted) (wrote : List ℕ) : Type 0 where
@@ -131,12 +132,12 @@ pub record IsFedAll (n : ℕ) (bytes : List ℕ) (c : Conn) (s s' : Stand) (pend
   pub nothing : pending ≡ []
   pub answered : IsAnswered n asks s s' wrote
 
-abbrev pub IsPiece : Outcome → ℕ → List ℕ → Conn → Stand → Stand → List Accepted → List ℕ → Type 0
-IsPiece Answered n bytes c s s' pending wrote = IsFedAll n bytes c s s' pending wrote
-IsPiece Broken n bytes c s s' pending wrote = IsCutOff Broken n bytes s s' pending wrote
-IsPiece Disk n bytes c s s' pending wrote = IsCutOff Disk n bytes s s' pending wrote
-IsPiece NoMemory n bytes c s s' pending wrote =
-    IsCutOff NoMemory n bytes s s' pending wrote ⊎ IsUnread n s s' pending wrote
+abbrev pub IsPiece : Type 0 → Outcome → ℕ → List ℕ → Conn → Stand → Stand → List Accepted → List ℕ → Type 0
+IsPiece cut Answered n bytes c s s' pending wrote = IsFedAll n bytes c s s' pending wrote
+IsPiece cut Broken n bytes c s s' pending wrote = IsCutOff cut Broken n bytes s s' pending wrote
+IsPiece cut Disk n bytes c s s' pending wrote = IsCutOff cut Disk n bytes s s' pending wrote
+IsPiece cut NoMemory n bytes c s s' pending wrote =
+    IsCutOff cut NoMemory n bytes s s' pending wrote ⊎ IsUnread cut n s s' pending wrote
 
 -- ---- with what is left on a disk
 

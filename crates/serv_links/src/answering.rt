@@ -70,7 +70,8 @@ fn answer<D: Disk, M: Machine<D>, L: Ledger>(
 
 /// Writes that the disk failed, as far as the link takes it.
 fn write_failed<K: Sink>(link: &mut K)
-    ensures front { AppendsFront (K.held link.old) (K.held link.new) response_500 }
+    ensures front { AppendsFront (HasRisen (K.faults link.old) (K.faults link.new))
+        (K.held link.old) (K.held link.new) response_500 }
     ensures later { K.faults link.old ≤ K.faults link.new }
     ensures beside { K.beside link.new ≡ K.beside link.old }
 {
@@ -79,7 +80,8 @@ fn write_failed<K: Sink>(link: &mut K)
 
 /// Writes that no memory is there, as far as the link takes it.
 pub(crate) fn write_no_memory<K: Sink>(link: &mut K)
-    ensures front { AppendsFront (K.held link.old) (K.held link.new) response_503 }
+    ensures front { AppendsFront (HasRisen (K.faults link.old) (K.faults link.new))
+        (K.held link.old) (K.held link.new) response_503 }
     ensures later { K.faults link.old ≤ K.faults link.new }
     ensures beside { K.beside link.new ≡ K.beside link.old }
 {
@@ -97,7 +99,8 @@ fn answer_one<D: Disk, M: Machine<D>, K: Sink, L: Ledger>(
 ) -> Outcome
     requires ask { IsAsk ask.now }
     requires ready { M.ready machine.old disk.old }
-    ensures one { Writes D.images D.moment D.images_since disk.old disk.new (IsOne result ask.now
+    ensures one { Writes D.images D.moment D.images_since disk.old disk.new
+        (IsOne (HasRisen (K.faults link.old) (K.faults link.new)) result ask.now
         (stand (M.history machine.old) steps.old) (stand (M.history machine.new) steps.new))
         (M.history machine.old).commands (M.history machine.new).commands
         (K.held link.old) (K.held link.new) }
@@ -138,7 +141,7 @@ fn answer_all<D: Disk, M: Machine<D>, K: Sink, L: Ledger>(
     requires few { length asks.now < 2 ^ 32 }
     requires ready { M.ready machine.old disk.old }
     ensures round { Writes D.images D.moment D.images_since disk.old disk.new
-        (IsRound result.outcome result.answered asks.now
+        (IsRound (HasRisen (K.faults link.old) (K.faults link.new)) result.outcome result.answered asks.now
         (stand (M.history machine.old) steps.old) (stand (M.history machine.new) steps.new))
         (M.history machine.old).commands (M.history machine.new).commands
         (K.held link.old) (K.held link.new) }
@@ -179,7 +182,7 @@ pub(crate) fn serve_piece<D: Disk, M: Machine<D>, K: Sink, L: Ledger>(
     requires ready { M.ready machine.old disk.old }
     ensures piece { (s : List ℕ) → StandsFor conn.old s
         → Writes D.images D.moment D.images_since disk.old disk.new
-        (IsPiece result.outcome result.answered (s ++ piece.now) conn.new
+        (IsPiece (HasRisen (K.faults link.old) (K.faults link.new)) result.outcome result.answered (s ++ piece.now) conn.new
         (stand (M.history machine.old) steps.old) (stand (M.history machine.new) steps.new))
         (M.history machine.old).commands (M.history machine.new).commands
         (K.held link.old) (K.held link.new) }

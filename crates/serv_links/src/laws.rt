@@ -4,7 +4,7 @@ ghost use Rattle.std.specs.Prelude.{◌≡◌, ℕ, ◌++◌, List, Option};
 ghost use Rattle.serv_http.specs.declared.ask.Ask.{Ask};
 ghost use Rattle.serv_http.specs.Streams.{AsksTo};
 ghost use Rattle.svc_world.specs.World.{Accepted};
-ghost use Rattle.serv_disk.specs.Faults.{IsProperPrefix};
+ghost use Rattle.serv_disk.specs.Faults.{HasRisen, IsProperPrefix};
 ghost use Rattle.serv_links.specs.Meanings.{Meaning, Means};
 ghost use Rattle.serv_links.specs.Responses.{Stand};
 ghost use Rattle.serv_links.specs.Outcomes.{IsCutOff};
@@ -22,7 +22,8 @@ pub fn any_pieces()
     ensures first { (taken : List ℕ) (done asks : List Ask) (l : Option (List ℕ))
         → AreFirst taken done → AsksTo taken asks l → (more : List Ask) × (asks ≡ done ++ more) }
     ensures cut { (n m : ℕ) (taken added whole : List ℕ) (s t u : Stand) (pending : List Accepted)
-        (l : Option (List ℕ)) → IsCutOff Outcome.Broken n taken s t pending added
+        (l : Option (List ℕ)) (before after : ℕ)
+        → IsCutOff (HasRisen before after) Outcome.Broken n taken s t pending added
         → IsAll m taken whole s u l → IsProperPrefix added whole }
     ensures means { (a : Ask) (m k : Meaning) → Means a m → Means a k → m ≡ k }
 {}

@@ -7,7 +7,7 @@ use Rattle.svc_types.specs.declared.replies.Refusal.{Refusal}
 use Rattle.svc_core.specs.Core.{IsReplyTo}
 use Rattle.svc_world.specs.World.{Accepted, accepted}
 use Rattle.svc_world.specs.Judging as judging
-use Rattle.svc_world.specs.Judging.{Judgement, judged}
+use Rattle.svc_world.specs.Judging.{Judgement, judged, IsHistory}
 use Rattle.serv_engine.specs.declared.fault.EngineFault.{EngineFault}
 use Rattle.serv_engine.specs.declared.fault.EngineFault.TheVariants as engine
 use Rattle.serv_engine.specs.Engines.{EngineState, IsDurableIn, IsDurable}
@@ -127,6 +127,10 @@ good_found form h a file is_form good = record { form = form; is_form = is_form;
 module _ {D : Type 0} (images : D → List ℕ → Type 0) (moment : D → ℕ) (images_since : D → ℕ → List ℕ → Type 0) (old new : D) (e e' : EngineState) (a : Accepted)
     (only_now : (c : List ℕ) → images_since old (moment old) c → images old c) (durable : IsDurable (images old) e)
     (moments : (form : Form) → IsDurableIn form (images old) e → LeavesOnly moment images_since old new (IsGoodFor form e.history a)) where
+  -- a history stays one with the command
+  abbrev IsNext : Type 0
+  IsNext = IsHistory e.history → IsHistory (e.history ++ a ∷ [])
+
   found_moments : LeavesOnly moment images_since old new (IsGoodFound e.history a)
   found_moments =
       weaker moment images_since old new (IsGoodFor durable.form e.history a) (IsGoodFound e.history a)
@@ -136,37 +140,41 @@ module _ {D : Type 0} (images : D → List ℕ → Type 0) (moment : D → ℕ) 
   same_disk same = disk_same images moment images_since old new e.history e'.history same.1 (ap (λ (x : EngineState). x.history) same.0) (durable_whole (images old) e durable) only_now
 
   pub ok_disk : (said : Judgement) (reply : Reply) → IsReplyTo e.history a.command said reply → e'.history ≡ judging.history_after e.history a.key a.command said
-      → ((r : Reply) → said ≡ judging.Kept r → (e' ≡ e) × (new ≡ old)) → IsDurable (images new) e' → OnDisk images moment images_since old new e.history e'.history []
-  ok_disk (judging.Kept kept) reply is h repeated whole = same_disk (repeated kept refl)
-  ok_disk (judging.Refused why) reply is h repeated whole = absurd is
-  ok_disk judging.Fresh reply is h repeated whole =
-      disk_appended images moment images_since old new e.history e'.history a h (durable_whole (images new) e' whole) found_moments
+      → ((r : Reply) → said ≡ judging.Kept r → (e' ≡ e) × (new ≡ old)) → (said ≡ judging.Fresh → IsNext) → IsDurable (images new) e' → OnDisk images moment images_since old new e.history e'.history []
+  ok_disk (judging.Kept kept) reply is h repeated next whole = same_disk (repeated kept refl)
+  ok_disk (judging.Refused why) reply is h repeated next whole = absurd is
+  ok_disk judging.Fresh reply is h repeated next whole =
+      disk_appended images moment images_since old new e.history e'.history a h (next refl) (durable_whole (images new) e' whole) found_moments
 
-  pub err_disk : (f : EngineFault) → (f ≡ engine.DiskFault) ⊎ ((e' ≡ e) × (new ≡ old)) → e'.history ≡ e.history → ((form : Form) → IsDurableIn form (images old) e → Each (images new) (IsGoodFor form e.history a))
+  pub err_disk : (f : EngineFault) → (f ≡ engine.DiskFault) ⊎ ((e' ≡ e) × (new ≡ old)) → e'.history ≡ e.history → (f ≡ engine.DiskFault → IsNext) → ((form : Form) → IsDurableIn form (images old) e → Each (images new) (IsGoodFor form e.history a))
       → OnDisk images moment images_since old new e.history e'.history (pending_at a (Err (fault_of f)))
-  err_disk engine.DiskFault kept h good =
-      disk_stopped images moment images_since old new e.history e'.history a h
+  err_disk engine.DiskFault kept h next good =
+      disk_stopped images moment images_since old new e.history e'.history a h (next refl)
       (λ c image. good_found durable.form e.history a c durable.stands.is_form (good durable.form (record { stands = durable.stands; each = durable.each }) c image)) found_moments
-  err_disk (engine.Refused why) kept h good = ⊎_elim (λ is. absurd (refused_no why is)) (λ same. same_disk same) kept
+  err_disk (engine.Refused why) kept h next good = ⊎_elim (λ is. absurd (refused_no why is)) (λ same. same_disk same) kept
     where
       refused_no : (why : Refusal) → engine.Refused why ≡ engine.DiskFault → ⊥
       refused_no why is = cc
-  err_disk (engine.JournalFull bytes) kept h good = ⊎_elim (λ is. absurd (full_no bytes is)) (λ same. same_disk same) kept
+  err_disk (engine.JournalFull bytes) kept h next good = ⊎_elim (λ is. absurd (full_no bytes is)) (λ same. same_disk same) kept
     where
       full_no : (bytes : ℕ) → engine.JournalFull bytes ≡ engine.DiskFault → ⊥
       full_no bytes is = cc
-  err_disk engine.OutOfMemory kept h good = ⊎_elim (λ is. absurd (memory_no is)) (λ same. same_disk same) kept
+  err_disk engine.OutOfMemory kept h next good = ⊎_elim (λ is. absurd (memory_no is)) (λ same. same_disk same) kept
     where
       memory_no : engine.OutOfMemory ≡ engine.DiskFault → ⊥
       memory_no is = cc
-  err_disk engine.NotJournal kept h good = ⊎_elim (λ is. absurd (journal_no is)) (λ same. same_disk same) kept
+  err_disk engine.NotJournal kept h next good = ⊎_elim (λ is. absurd (journal_no is)) (λ same. same_disk same) kept
     where
       journal_no : engine.NotJournal ≡ engine.DiskFault → ⊥
       journal_no is = cc
-  err_disk (engine.Damaged place) kept h good = ⊎_elim (λ is. absurd (damaged_no place is)) (λ same. same_disk same) kept
+  err_disk (engine.Damaged place) kept h next good = ⊎_elim (λ is. absurd (damaged_no place is)) (λ same. same_disk same) kept
     where
       damaged_no : (place : ℕ) → engine.Damaged place ≡ engine.DiskFault → ⊥
       damaged_no place is = cc
+
+-- the command behind a fault of the disk is fresh
+pub fault_fresh : (e : EngineState) (a : Accepted) (said : Judgement) (old new : ℕ) (f : EngineFault) → IsSubmitFault said e.journal a old new f → f ≡ engine.DiskFault → said ≡ judging.Fresh
+fault_fresh e a said old new f is same = (subst (IsSubmitFault said e.journal a old new) same is).0
 
 -- a fault that is not the disk's leaves the engine and the disk
 pub err_same : {D : Type 0} (old new : D) (e e' : EngineState) (f : EngineFault) → (◌≡◌ {A = Result Reply ActFault} (Err (fault_of f)) (Err fault.DiskFault) → ⊥) → (f ≡ engine.DiskFault) ⊎ ((e' ≡ e) × (new ≡ old)) → (e' ≡ e) × (new ≡ old)

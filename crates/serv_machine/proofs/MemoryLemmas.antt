@@ -1,15 +1,19 @@
 -- What a core in memory answers, as a machine's answer.
-use Rattle.std.proofs.Common.{◌≡◌, ℕ, List, [], ◌∷◌, ◌++◌, sym, ap, ◌∙◌, arith, append-nil}
+use Rattle.std.proofs.Common.{◌≡◌, ℕ, List, [], ◌∷◌, ◌++◌, sym, ap, ◌∙◌, refl, subst, arith, append-nil}
+use Rattle.svc_types.specs.Keys.{IsKey}
+use Rattle.svc_types.specs.Requests.{IsCommand}
 use Rattle.svc_types.specs.declared.requests.Command.{Command}
 use Rattle.svc_types.specs.declared.replies.Reply.{Reply}
 use Rattle.svc_types.specs.declared.replies.Refusal.{Refusal}
 use Rattle.svc_core.specs.Core.{IsReplyTo}
+use Rattle.svc_core.proofs.CoreLemmas.{history_more}
 use Rattle.svc_world.specs.World.{Accepted, accepted}
 use Rattle.svc_world.specs.Judging as judging
-use Rattle.svc_world.specs.Judging.{Judgement, judged}
+use Rattle.svc_world.specs.Judging.{Judgement, judged, IsHistory}
 use Rattle.serv_machine.specs.History.{History, Memory, Refused, by_judgement, decided, after_decision}
 use Rattle.serv_machine.specs.Replies.{IsReplyBy}
 use Rattle.serv_machine.specs.OnDisk.{OnDisk}
+use Rattle.serv_machine.proofs.OnDiskLemmas.{alone}
 
 abbrev pub in_memory : List Accepted → History
 in_memory h = record { commands = h; store = Memory }
@@ -39,23 +43,25 @@ unfolding decided
 memory_refused h key c why is = ap (by_judgement Memory h (accepted key c)) is
 
 -- no disk is touched
-nowhere : {D : Type 0} (d : D) (h h' list : List Accepted) → h' ≡ h ++ list → OnDisk {D = D} (λ _ _. ⊥) (λ _. 0) (λ _ _ _. ⊥) d d h h' []
-nowhere d h h' list is = record {
+nowhere : {D : Type 0} (d : D) (h h' list : List Accepted) → h' ≡ h ++ list → (IsHistory h → IsHistory h') → OnDisk {D = D} (λ _ _. ⊥) (λ _. 0) (λ _ _ _. ⊥) d d h h' []
+nowhere d h h' list is next = record {
   list = list;
   accepted = is;
+  fresh = λ history. alone h' h' refl (next history);
   left = λ c image. absurd image;
   moments = record { later = omega arith; each = λ c left. absurd left; before = λ t c le left. absurd left };
 }
 
-after_nowhere : {D : Type 0} (d : D) (h h' : List Accepted) (key : List ℕ) (c : Command) (said : Judgement) → h' ≡ judging.history_after h key c said
-    → OnDisk {D = D} (λ _ _. ⊥) (λ _. 0) (λ _ _ _. ⊥) d d h h' []
-after_nowhere d h h' key c (judging.Kept kept) is = nowhere d h h' [] (is ∙ sym (append-nil h))
-after_nowhere d h h' key c (judging.Refused why) is = nowhere d h h' [] (is ∙ sym (append-nil h))
-after_nowhere d h h' key c judging.Fresh is = nowhere d h h' (accepted key c ∷ []) is
-
-pub memory_disk : {D : Type 0} (d : D) (h h' : List Accepted) (key : List ℕ) (c : Command) → h' ≡ judging.history_after h key c (judged h key c)
-    → OnDisk {D = D} (λ _ _. ⊥) (λ _. 0) (λ _ _ _. ⊥) d d h h' []
-memory_disk d h h' key c is = after_nowhere d h h' key c (judged h key c) is
-
 pub memory_same : {D : Type 0} (d : D) (h h' : List Accepted) → h' ≡ h → OnDisk {D = D} (λ _ _. ⊥) (λ _. 0) (λ _ _ _. ⊥) d d h h' []
-memory_same d h h' is = nowhere d h h' [] (is ∙ sym (append-nil h))
+memory_same d h h' is = nowhere d h h' [] (is ∙ sym (append-nil h)) (λ history. subst IsHistory (sym is) history)
+
+after_nowhere : {D : Type 0} (d : D) (h h' : List Accepted) (key : List ℕ) (c : Command) (said : Judgement) → h' ≡ judging.history_after h key c said
+    → (said ≡ judging.Fresh → IsHistory h → IsHistory (h ++ accepted key c ∷ []))
+    → OnDisk {D = D} (λ _ _. ⊥) (λ _. 0) (λ _ _ _. ⊥) d d h h' []
+after_nowhere d h h' key c (judging.Kept kept) is next = memory_same d h h' is
+after_nowhere d h h' key c (judging.Refused why) is next = memory_same d h h' is
+after_nowhere d h h' key c judging.Fresh is next = nowhere d h h' (accepted key c ∷ []) is (λ history. subst IsHistory (sym is) (next refl history))
+
+pub memory_disk : {D : Type 0} (d : D) (h h' : List Accepted) (key : List ℕ) (c : Command) → h' ≡ judging.history_after h key c (judged h key c) → IsKey key → IsCommand c
+    → OnDisk {D = D} (λ _ _. ⊥) (λ _. 0) (λ _ _ _. ⊥) d d h h' []
+memory_disk d h h' key c is k formed = after_nowhere d h h' key c (judged h key c) is (λ fresh history. history_more h key c history k formed fresh)

@@ -1,6 +1,7 @@
 -- Runs of calls over a disk, one after the other.
 use Rattle.std.proofs.Common.{◌≡◌, ℕ, List, [], ◌∷◌, ◌++◌, refl, sym, ap, subst, ◌∙◌, inl, inr, append_assoc, append-nil}
 use Rattle.svc_world.specs.World.{Accepted}
+use Rattle.svc_world.specs.Judging.{IsHistory}
 use Rattle.serv_disk.specs.Disks.{Each, LeavesOnly}
 use Rattle.serv_disk.proofs.Moments.{started, weaker, joined}
 use Rattle.serv_journal.proofs.ExactLemmas.{whole_good}
@@ -26,6 +27,10 @@ pub along_after : (h list more : List Accepted) (file : List ℕ) → IsAlong (h
 along_after h [] more file along = subst (λ x. IsAlong x more file) (append-nil h) along
 along_after h (a ∷ list) more file along = inr (along_after (h ++ a ∷ []) list more file (subst (λ x. IsAlong x more file) (sym (append_assoc h (a ∷ []) list)) along))
 
+-- with nothing behind it a history is one
+pub alone : (h h' : List Accepted) → h' ≡ h → IsHistory h → IsHistory h' × IsHistory (h' ++ [])
+alone h h' same is = (subst IsHistory (sym same) is, subst IsHistory (sym (append-nil h' ∙ same)) is)
+
 module _ {D : Type 0} (images : D → List ℕ → Type 0) (moment : D → ℕ) (images_since : D → ℕ → List ℕ → Type 0) where
   -- no call of the disk
   pub disk_none : (d : D) (h h' : List Accepted) → h' ≡ h → Each (images d) (HasHistory h) → ((c : List ℕ) → images_since d (moment d) c → images d c)
@@ -33,6 +38,7 @@ module _ {D : Type 0} (images : D → List ℕ → Type 0) (moment : D → ℕ) 
   disk_none d h h' same each now = record {
     list = [];
     accepted = same ∙ sym (append-nil h);
+    fresh = alone h h' same;
     left = subst (λ x. Each (images d) (HasHistory x)) (sym same) each;
     moments = started moment images_since d (HasHistory h) (λ c image. each c (now c image));
   }
@@ -50,6 +56,7 @@ module _ {D : Type 0} (images : D → List ℕ → Type 0) (moment : D → ℕ) 
       record {
         list = all;
         accepted = second.accepted ∙ (ap (λ x. x ++ second.list) first.accepted ∙ append_assoc h first.list second.list);
+        fresh = λ is. second.fresh (first.fresh is).0;
         left = second.left;
         moments = joined moment images_since old mid new (IsAlong h (all ++ pending))
             (weaker moment images_since old mid (IsAlong h (first.list ++ [])) (IsAlong h (all ++ pending)) first.moments
@@ -59,21 +66,23 @@ module _ {D : Type 0} (images : D → List ℕ → Type 0) (moment : D → ℕ) 
       }
 
   -- a command was appended
-  pub disk_appended : (old new : D) (h h' : List Accepted) (a : Accepted) → h' ≡ h ++ a ∷ [] → Each (images new) (HasHistory h') → LeavesOnly moment images_since old new (IsGoodFound h a)
+  pub disk_appended : (old new : D) (h h' : List Accepted) (a : Accepted) → h' ≡ h ++ a ∷ [] → (IsHistory h → IsHistory (h ++ a ∷ [])) → Each (images new) (HasHistory h') → LeavesOnly moment images_since old new (IsGoodFound h a)
       → OnDisk images moment images_since old new h h' []
-  disk_appended old new h h' a more each run = record {
+  disk_appended old new h h' a more fresh each run = record {
     list = a ∷ [];
     accepted = more;
+    fresh = λ is. alone (h ++ a ∷ []) h' more (fresh is);
     left = each;
     moments = weaker moment images_since old new (IsGoodFound h a) (IsAlong h (a ∷ [])) run (λ c good. inl good);
   }
 
   -- a command was being appended
-  pub disk_stopped : (old new : D) (h h' : List Accepted) (a : Accepted) → h' ≡ h → Each (images new) (IsGoodFound h a) → LeavesOnly moment images_since old new (IsGoodFound h a)
+  pub disk_stopped : (old new : D) (h h' : List Accepted) (a : Accepted) → h' ≡ h → (IsHistory h → IsHistory (h ++ a ∷ [])) → Each (images new) (IsGoodFound h a) → LeavesOnly moment images_since old new (IsGoodFound h a)
       → OnDisk images moment images_since old new h h' (a ∷ [])
-  disk_stopped old new h h' a same each run = record {
+  disk_stopped old new h h' a same fresh each run = record {
     list = [];
     accepted = same ∙ sym (append-nil h);
+    fresh = λ is. (subst IsHistory (sym same) is, subst (λ x. IsHistory (x ++ a ∷ [])) (sym same) (fresh is));
     left = subst (λ x. Each (images new) (IsGoodFound x a)) (sym same) each;
     moments = weaker moment images_since old new (IsGoodFound h a) (IsAlong h (a ∷ [])) run (λ c good. inl good);
   }

@@ -1,6 +1,7 @@
 -- What a machine's calls leave on the disk, now and at each moment.
 use Rattle.std.specs.Prelude.{◌≡◌, ◌⊎◌, ℕ, List, [], ◌∷◌, ◌++◌}
 use Rattle.svc_world.specs.World.{Accepted}
+use Rattle.svc_world.specs.Judging.{IsHistory}
 use Rattle.serv_disk.specs.Disks.{Each, LeavesOnly}
 use Rattle.serv_journal.specs.Disks.{IsWhole}
 use Rattle.serv_engine.specs.Histories.{lines_of_history, IsGoodFound}
@@ -19,11 +20,12 @@ abbrev pub IsLeft : (List ℕ → Type 0) → List Accepted → List Accepted �
 IsLeft images h [] = Each images (HasHistory h)
 IsLeft images h (a ∷ more) = Each images (IsGoodFound h a)
 
--- a run of calls: the list of commands that it accepts; what a crash after it leaves, where perhaps a command more was
--- being appended; and at each moment the history with some first ones of all these
+-- a run of calls: the list of commands that it accepts, and that a history stays one with them, and with the command more that
+-- was perhaps being appended; what a crash after it leaves; and at each moment the history with some first ones of all these
 pub record OnDisk {D : Type 0} (images : D → List ℕ → Type 0) (moment : D → ℕ) (images_since : D
     → ℕ → List ℕ → Type 0) (old new : D) (h h' pending : List Accepted) : Type 0 where
   pub list : List Accepted
   pub accepted : h' ≡ h ++ list
+  pub fresh : IsHistory h → IsHistory h' × IsHistory (h' ++ pending)
   pub left : IsLeft (images new) h' pending
   pub moments : LeavesOnly moment images_since old new (IsAlong h (list ++ pending))

@@ -88,7 +88,7 @@ pending_of r (Err halt.OutOfMemory) = []
 pending_of (request.Do key c) (Err halt.DiskFault) = accepted key c ∷ []
 pending_of (request.Ask q) (Err halt.DiskFault) = []
 
--- a command is appended to a journal, and a query is not
-abbrev pub IsAppending : Request → Type 0
-IsAppending (request.Do key c) = ⊤
-IsAppending (request.Ask q) = ⊥
+-- a command that is fresh, and for which there is room, is appended to a journal, and a query is not
+abbrev pub IsAppending : History → Request → Type 0
+IsAppending h (request.Do key c) = decided h key c ≡ Fresh
+IsAppending h (request.Ask q) = ⊥

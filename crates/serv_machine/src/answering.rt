@@ -37,7 +37,7 @@ pub fn answer_request<D: Disk, M: Machine<D>, L: Ledger>(
         ⊎ (M.history machine.new ≡ history_after_request (M.history machine.old) request.now)) }
     ensures stopped { result ≡ Err Halt.DiskFault → (M.history machine.new ≡ M.history machine.old)
         × HasRisen (D.faults disk.old) (D.faults disk.new) }
-    ensures appending { result ≡ Err Halt.DiskFault → IsAppending request.now }
+    ensures appending { result ≡ Err Halt.DiskFault → IsAppending (M.history machine.old) request.now }
     ensures disk { OnDisk D.images D.moment D.images_since disk.old disk.new
         (M.history machine.old).commands (M.history machine.new).commands (pending_of request.now result) }
     ensures ready { result ≢ Err Halt.DiskFault → M.ready machine.new disk.new }
@@ -71,6 +71,8 @@ fn answer_command<D: Disk, M: Machine<D>, L: Ledger>(
         ≡ history_after_request (M.history machine.old) (request.Do key.now command.now))) }
     ensures stopped { result ≡ Err Halt.DiskFault → (M.history machine.new ≡ M.history machine.old)
         × HasRisen (D.faults disk.old) (D.faults disk.new) }
+    ensures appending { result ≡ Err Halt.DiskFault
+        → IsAppending (M.history machine.old) (request.Do key.now command.now) }
     ensures disk { OnDisk D.images D.moment D.images_since disk.old disk.new
         (M.history machine.old).commands (M.history machine.new).commands
         (pending_of (request.Do key.now command.now) result) }

@@ -26,6 +26,7 @@ impl Machine<Nowhere> for Core<Checked> {
         command: &Command,
         steps: &mut Steps<L>,
     ) -> Result<Reply, ActFault> {
+        let _ = key.bytes();
         match self.submit(key, command, steps) {
             Ok(reply) => Ok(reply),
             Err(CoreFault::Refused(why)) => Err(ActFault::Refused(why)),

@@ -48,6 +48,7 @@ impl<D: Disk> Machine<D> for Engine<Checked> {
         command: &Command,
         steps: &mut Steps<L>,
     ) -> Result<Reply, ActFault> {
+        let _ = key.bytes();
         match self.submit(disk, key, command, steps) {
             Ok(reply) => Ok(reply),
             Err(fault) => Err(act_fault(fault)),

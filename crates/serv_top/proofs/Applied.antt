@@ -29,6 +29,7 @@ use Rattle.serv_top.specs.Replies.{MovesAll, IsTriedNext, history_after_all}
 use Rattle.serv_top.specs.Outcome.{Ended, Ends, IsOutput, input_limit}
 use Rattle.serv_top.specs.Stop.{status_of_fault}
 use Rattle.serv_top.specs.Journal.{KeepsGood, IsCause, IsOnly, IsUnopened, IsOpened, IsRunOver, IsApplied, journal_limit}
+use Rattle.serv_top.proofs.SoundLemmas.{stay_sound}
 
 -- ---- where commands are kept stays the same
 
@@ -130,6 +131,7 @@ run_over {D} E seen images moment images_since old mid new e e' steps begun step
       after = e'.history;
       pending = pending;
       ended = subst (λ n. E (stand (in_journal place n e.history) begun) (stand (in_journal place n e'.history) steps') pending) limit now;
+      sound = stay_sound e.history e'.history disk.list pending disk.accepted (disk.fresh opening.is_history);
       disk = disk;
     }
 

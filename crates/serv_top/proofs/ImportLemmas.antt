@@ -17,6 +17,7 @@ use Rattle.serv_import.specs.Batches.{AreAnswers, HasHeader, IsBatch}
 use Rattle.serv_import.proofs.UniqueLemmas.{one_batch}
 use Rattle.serv_machine.specs.declared.faults.Halt.{Halt}
 use Rattle.serv_machine.specs.declared.faults.Halt.TheVariants as halt
+use Rattle.serv_machine.specs.History.{Fresh, decided}
 use Rattle.serv_machine.specs.Replies.{bound_of_request, history_after_request, pending_of}
 use Rattle.serv_machine.specs.OnDisk.{OnDisk}
 use Rattle.serv_machine.proofs.OnDiskLemmas.{disk_more}
@@ -57,14 +58,15 @@ row_at (r ∷ list) (suc i) d are small = row_at list i d are.1 (omega arith)
 pub halted_row : {D : Type 0} (images : D → List ℕ → Type 0) (moment : D → ℕ) (images_since : D → ℕ → List ℕ → Type 0) (old new : D) (key : List ℕ) (c : Command) (s s' : Stand)
     (result : Result (Unit {0}) Halt) → s'.steps ≤ s.steps + bound_of_request s.history (request.Do key c)
     → OnErr result ((s'.history ≡ s.history) ⊎ (s'.history ≡ history_after_request s.history (request.Do key c))) → (result ≡ Err halt.DiskFault → s'.history ≡ s.history)
+    → (result ≡ Err halt.DiskFault → decided s.history key c ≡ Fresh)
     → OnDisk images moment images_since old new s.history.commands s'.history.commands (pending_of (request.Do key c) result)
     → IfErr result (λ why. HaltsOn images moment images_since old new why (Asks (request.Do key c)) s s')
-halted_row images moment images_since old new key c s s' (Ok done) cost near same disk = tt
-halted_row images moment images_since old new key c s s' (Err halt.OutOfMemory) cost near same disk =
+halted_row images moment images_since old new key c s s' (Ok done) cost near same fresh disk = tt
+halted_row images moment images_since old new key c s s' (Err halt.OutOfMemory) cost near same fresh disk =
     record { pending = []; halted = (refl, record { near = near; cost = cost }); disk = disk }
-halted_row images moment images_since old new key c s s' (Err halt.DiskFault) cost near same disk = record {
+halted_row images moment images_since old new key c s s' (Err halt.DiskFault) cost near same fresh disk = record {
   pending = accepted key c ∷ [];
-  halted = record { key = key; command = c; is = refl; pending_is = refl; same = same refl; cost = cost };
+  halted = record { key = key; command = c; is = refl; fresh = fresh refl; pending_is = refl; same = same refl; cost = cost };
   disk = disk;
 }
 

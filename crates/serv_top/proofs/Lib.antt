@@ -6,6 +6,8 @@ pub mod LineLemmas
 pub mod CutLemmas
 pub mod WholeLemmas
 pub mod ServedLemmas
+pub mod SoundLemmas
+pub mod RoomLemmas
 pub mod Running
 pub mod Applied
 pub mod ShownLemmas

@@ -69,14 +69,14 @@ tried_request line r s s' is e cost near = record { said = Asks r; says = asks r
 -- a request that has no reply
 pub halted_request : {D : Type 0} (images : D → List ℕ → Type 0) (moment : D → ℕ) (images_since : D → ℕ → List ℕ → Type 0) (old new : D) (line : List ℕ) (r : Request) (s s' : Stand)
     (result : Result (Unit {0}) Halt) → IsRequest r → line ≡ line_of r → s'.steps ≤ s.steps + bound_of_request s.history r
-    → OnErr result ((s'.history ≡ s.history) ⊎ (s'.history ≡ history_after_request s.history r)) → (result ≡ Err halt.DiskFault → s'.history ≡ s.history) → (result ≡ Err halt.DiskFault → IsAppending r)
+    → OnErr result ((s'.history ≡ s.history) ⊎ (s'.history ≡ history_after_request s.history r)) → (result ≡ Err halt.DiskFault → s'.history ≡ s.history) → (result ≡ Err halt.DiskFault → IsAppending s.history r)
     → OnDisk images moment images_since old new s.history.commands s'.history.commands (pending_of r result) → IfErr result (λ why. Halts images moment images_since old new why line s s')
 halted_request images moment images_since old new line r s s' (Ok done) is e cost near same appends disk = tt
 halted_request images moment images_since old new line r s s' (Err halt.OutOfMemory) is e cost near same appends disk =
     record { pending = []; halted = (refl, tried_request line r s s' is e cost near); disk = disk }
 halted_request images moment images_since old new line (request.Do key c) s s' (Err halt.DiskFault) is e cost near same appends disk = record {
   pending = accepted key c ∷ [];
-  halted = record { key = key; command = c; says = asks (request.Do key c) is e; pending_is = refl; same = same refl; cost = cost };
+  halted = record { key = key; command = c; says = asks (request.Do key c) is e; fresh = appends refl; pending_is = refl; same = same refl; cost = cost };
   disk = disk;
 }
 halted_request images moment images_since old new line (request.Ask q) s s' (Err halt.DiskFault) is e cost near same appends disk = absurd (appends refl)

@@ -48,23 +48,23 @@ store_tried a s s' is =
     ⊎_elim (λ same. ap store_of same.0)
     (λ tried. ⊎_elim (λ same. ap store_of same) (λ moved. ap store_of moved ∙ store_meant s.history tried.meant) tried.near) is
 
-store_one : (o : Outcome) (a : Ask) (s s' : links.Stand) (pending : List Accepted) (wrote : List ℕ) → IsOne o a s s' pending wrote → s'.history.store ≡ s.history.store
-store_one outcome.Answered a s s' pending wrote is = ap store_of is.1.moved.0 ∙ store_meant s.history is.1.meant
-store_one outcome.Broken a s s' pending wrote is = ap store_of is.1.moved.0 ∙ store_meant s.history is.1.meant
-store_one outcome.Disk a s s' pending wrote is = ap store_of is.0.same
-store_one outcome.NoMemory a s s' pending wrote is = store_tried a s s' is.1
+store_one : (cut : Type 0) (o : Outcome) (a : Ask) (s s' : links.Stand) (pending : List Accepted) (wrote : List ℕ) → IsOne cut o a s s' pending wrote → s'.history.store ≡ s.history.store
+store_one cut outcome.Answered a s s' pending wrote is = ap store_of is.1.moved.0 ∙ store_meant s.history is.1.meant
+store_one cut outcome.Broken a s s' pending wrote is = ap store_of is.1.moved.0 ∙ store_meant s.history is.1.meant
+store_one cut outcome.Disk a s s' pending wrote is = ap store_of is.0.same
+store_one cut outcome.NoMemory a s s' pending wrote is = store_tried a s s' is.1
 
-store_stopped : (o : Outcome) (n : ℕ) (asks : List Ask) (s s' : links.Stand) (pending : List Accepted) (wrote : List ℕ) → IsStopped o n asks s s' pending wrote
+store_stopped : (cut : Type 0) (o : Outcome) (n : ℕ) (asks : List Ask) (s s' : links.Stand) (pending : List Accepted) (wrote : List ℕ) → IsStopped cut o n asks s s' pending wrote
     → s'.history.store ≡ s.history.store
-store_stopped o n asks s s' pending wrote is =
-    store_one o is.ask is.mid s' pending is.part is.one ∙ store_answered n is.done s is.mid is.before is.answered
+store_stopped cut o n asks s s' pending wrote is =
+    store_one cut o is.ask is.mid s' pending is.part is.one ∙ store_answered n is.done s is.mid is.before is.answered
 
-store_cut_off : (o : Outcome) (n : ℕ) (bytes : List ℕ) (s s' : links.Stand) (pending : List Accepted) (wrote : List ℕ) → IsCutOff o n bytes s s' pending wrote
+store_cut_off : (cut : Type 0) (o : Outcome) (n : ℕ) (bytes : List ℕ) (s s' : links.Stand) (pending : List Accepted) (wrote : List ℕ) → IsCutOff cut o n bytes s s' pending wrote
     → s'.history.store ≡ s.history.store
-store_cut_off o n bytes s s' pending wrote is = store_stopped o n is.asks s s' pending wrote is.stopped
+store_cut_off cut o n bytes s s' pending wrote is = store_stopped cut o n is.asks s s' pending wrote is.stopped
 
-store_starved : (n : ℕ) (taken added : List ℕ) (s s' : links.Stand) → IsStarved n taken added s s' → s'.history.store ≡ s.history.store
-store_starved n taken added s s' is = ap store_of is.stays.0 ∙ store_answered n is.asks s is.mid is.before is.answered
+store_starved : (cut : Type 0) (n : ℕ) (taken added : List ℕ) (s s' : links.Stand) → IsStarved cut n taken added s s' → s'.history.store ≡ s.history.store
+store_starved cut n taken added s s' is = ap store_of is.stays.0 ∙ store_answered n is.asks s is.mid is.before is.answered
 
 store_served : (end : LinkEnd) (reads writes at_end : Type 0) (taken : List ℕ) (s s' : links.Stand) (pending : List Accepted) (added : List ℕ)
     → IsServed end reads writes at_end taken s s' pending added → s'.history.store ≡ s.history.store
@@ -75,10 +75,10 @@ store_served (link_end.Cut n) reads writes at_end taken s s' pending added (none
 store_served (link_end.Broken n) reads writes at_end taken s s' pending added (inl (risen, none, below, (left, all))) =
     store_answered n all.asks s s' added all.answered
 store_served (link_end.Broken n) reads writes at_end taken s s' pending added (inr (risen, cut)) =
-    store_cut_off outcome.Broken n taken s s' pending added cut
-store_served (link_end.Disk n) reads writes at_end taken s s' pending added is = store_cut_off outcome.Disk n taken s s' pending added is
-store_served (link_end.NoMemory n) reads writes at_end taken s s' pending added (inl cut) = store_cut_off outcome.NoMemory n taken s s' pending added cut
-store_served (link_end.NoMemory n) reads writes at_end taken s s' pending added (inr (none, starved)) = store_starved n taken added s s' starved
+    store_cut_off writes outcome.Broken n taken s s' pending added cut
+store_served (link_end.Disk n) reads writes at_end taken s s' pending added is = store_cut_off writes outcome.Disk n taken s s' pending added is
+store_served (link_end.NoMemory n) reads writes at_end taken s s' pending added (inl cut) = store_cut_off writes outcome.NoMemory n taken s s' pending added cut
+store_served (link_end.NoMemory n) reads writes at_end taken s s' pending added (inr (none, starved)) = store_starved writes n taken added s s' starved
 
 -- links came, and were served in their turn
 module _ {C : Type 0} (left held : C → Option (List ℕ)) (reads writes : C → ℕ) where

@@ -4,6 +4,8 @@ use Rattle.std.specs.Prelude.{Option}
 use Rattle.std.specs.Io.KnownBytes.{Consumes, IsAtEnd}
 use Rattle.std.proofs.KnownBytes.{Consumes-nil, Consumes-trans, Appends-nil}
 use Rattle.svc_world.specs.World.{Accepted}
+use Rattle.svc_world.specs.Judging.{IsHistory}
+use Rattle.svc_core.proofs.CoreLemmas.{empty_history}
 use Rattle.serv_machine.specs.History.{History, nothing}
 use Rattle.serv_machine.specs.OnDisk.{OnDisk}
 use Rattle.serv_machine.proofs.OnDiskLemmas.{disk_more}
@@ -17,6 +19,7 @@ use Rattle.serv_top.specs.Serving.{AllServed, Served, Stopped, Stops}
 use Rattle.serv_top.specs.Stop.{status_of}
 use Rattle.serv_top.specs.Outcome.{Ended, Ends, Ran, input_limit}
 use Rattle.serv_top.proofs.ServedLemmas.{served_none}
+use Rattle.serv_top.proofs.SoundLemmas.{nothing_sound, begun_sound}
 
 -- the bytes taken are served
 pub record Running (waiting : ℕ) (s s' : Stand) (left left' held held' : Option (List ℕ)) (line text : List ℕ) (count : ℕ) : Type 0 where
@@ -158,6 +161,7 @@ module _ {D : Type 0} (images : D → List ℕ → Type 0) (moment : D → ℕ) 
 pub ran_nothing : (waiting steps : ℕ) (left held : Option (List ℕ)) → Ran waiting status.OutOfMemory steps steps left left held held
 ran_nothing waiting steps left held = record {
   after = nothing;
+  sound = nothing_sound;
   ended = record {
     taken = [];
     written = [];
@@ -189,5 +193,6 @@ pub ran_serving : {D : Type 0} (images : D → List ℕ → Type 0) (moment : D 
     → Ran waiting st steps steps' left left' held held'
 ran_serving images moment images_since old new waiting st h h' steps steps' left left' held held' none calm ends = record {
   after = h';
+  sound = begun_sound h'.commands (ends.disk.fresh (subst (λ (x : History). IsHistory x.commands) (sym none) empty_history)).0;
   ended = subst (λ x. Ended waiting st (stand x steps) (stand h' steps') [] left left' held held') none (none_pending waiting st (stand h steps) (stand h' steps') ends.pending left left' held held' calm ends.ended);
 }

@@ -10,6 +10,7 @@ use Rattle.serv_disk.specs.Faults.{IsProperPrefix}
 use Rattle.serv_import.specs.declared.row.RowRequest.{RowRequest}
 use Rattle.serv_import.specs.declared.row.RowRequest.TheVariants as row
 use Rattle.serv_import.specs.Batches.{HasHeader, IsBatch}
+use Rattle.serv_machine.specs.History.{Fresh, decided}
 use Rattle.serv_machine.specs.declared.faults.Halt.{Halt}
 use Rattle.serv_machine.specs.declared.faults.Halt.TheVariants as halt
 use Rattle.serv_machine.specs.OnDisk.{OnDisk}
@@ -50,11 +51,12 @@ pub record IsTriedOn (said : Said) (s s' : Stand) : Type 0 where
   pub near : (s'.history ≡ s.history) ⊎ (s'.history ≡ history_after s.history said)
   pub cost : s'.steps ≤ s.steps + bound_of s.history said
 
--- the disk failed while the command of a row was being appended; it is not accepted
+-- the disk failed while the command of a row, which is fresh, was being appended; it is not accepted
 pub record IsStuckOn (said : Said) (s s' : Stand) (pending : List Accepted) : Type 0 where
   pub key : List ℕ
   pub command : Command
   pub is : said ≡ Asks (request.Do key command)
+  pub fresh : decided s.history key command ≡ Fresh
   pub pending_is : pending ≡ accepted key command ∷ []
   pub same : s'.history ≡ s.history
   pub cost : s'.steps ≤ s.steps + bound_of s.history said

@@ -13,6 +13,7 @@ use Rattle.serv_top.specs.declared.status.Status.{Status}
 use Rattle.serv_top.specs.declared.status.Status.TheVariants.{Done, Usage, ReadFault, WriteFault, DiskFault, NotJournal, AlreadyThere, Damaged, NetFault, NoReport, TooMuch, OutOfMemory, JournalFull}
 use Rattle.serv_top.specs.Machine.{Stand, stand}
 use Rattle.serv_top.specs.Outcome.{Ended}
+use Rattle.serv_top.specs.Sound.{StaySound}
 
 -- the limit on a journal that is opened
 abbrev pub journal_limit : ℕ
@@ -101,6 +102,7 @@ pub record IsRunOver {D : Type 0} (Ends : Stand → Stand → List Accepted → 
   pub after : List Accepted
   pub pending : List Accepted
   pub ended : Ends (stand (in_journal base journal_limit commands) begun) (stand (in_journal base journal_limit after) steps') pending
+  pub sound : StaySound commands after pending
   -- at each moment each image has some first ones of these commands, or is torn with the next one
   pub disk : OnDisk images moment images_since opened new commands after pending
 

@@ -4,6 +4,7 @@ pub mod Replies
 pub mod Whole
 pub mod Words
 pub mod Status
+pub mod Sound
 pub mod Outcome
 pub mod Serving
 pub mod Stop

@@ -9,7 +9,7 @@ use Rattle.serv_line.specs.Lines.{line_of}
 use Rattle.serv_line.specs.LineFaults.{IsFault}
 use Rattle.svc_base.specs.Text.{text_of_number}
 use Rattle.serv_line.specs.Replies.{ended, text_of_bad}
-use Rattle.serv_machine.specs.History.{History}
+use Rattle.serv_machine.specs.History.{History, Fresh, decided}
 use Rattle.serv_machine.specs.Replies.{reply_to_request, history_after_request, bound_of_request}
 
 -- what a line says: it asks something, or its fault stands at a place; and what a row of a file says: it asks something, or
@@ -71,11 +71,12 @@ pub record IsTried (line : List ℕ) (s s' : Stand) : Type 0 where
   pub near : (s'.history ≡ s.history) ⊎ (s'.history ≡ history_after s.history said)
   pub cost : s'.steps ≤ s.steps + bound_of s.history said
 
--- the disk failed while the command of a line was being appended; it is not accepted
+-- the disk failed while the command of a line, which is fresh, was being appended; it is not accepted
 pub record IsStuck (line : List ℕ) (s s' : Stand) (pending : List Accepted) : Type 0 where
   pub key : List ℕ
   pub command : Command
   pub says : Says line (Asks (request.Do key command))
+  pub fresh : decided s.history key command ≡ Fresh
   pub pending_is : pending ≡ accepted key command ∷ []
   pub same : s'.history ≡ s.history
   pub cost : s'.steps ≤ s.steps + bound_of s.history (Asks (request.Do key command))

@@ -9,6 +9,7 @@ use Rattle.serv_top.specs.declared.status.Status.TheVariants.{Done, Usage, ReadF
 use Rattle.serv_top.specs.Lines.{lines_of, ended_lines}
 use Rattle.serv_top.specs.Machine.{Stand, stand}
 use Rattle.serv_top.specs.Replies.{Answers, IsBegun, IsCutIn, IsHeldUp}
+use Rattle.serv_top.specs.Sound.{StaySound}
 
 -- how many bytes of input are too many
 abbrev pub input_limit : ℕ
@@ -57,7 +58,8 @@ pub record Ends {D : Type 0} (images : D → List ℕ → Type 0) (moment : D �
   pub ended : Ended waiting status s s' pending left left' held held'
   pub disk : OnDisk images moment images_since old new s.history.commands s'.history.commands pending
 
--- the same of a run in memory, which begins with nothing; of what is held at the exit nothing else is seen
+-- the same of a run in memory, which begins with nothing; of what is held at the exit nothing else is seen than that it is sound
 pub record Ran (waiting : ℕ) (status : Status) (steps steps' : ℕ) (left left' held held' : Option (List ℕ)) : Type 0 where
   pub after : History
+  pub sound : StaySound [] after.commands []
   pub ended : Ended waiting status (stand nothing steps) (stand after steps') [] left left' held held'

@@ -1,10 +1,12 @@
 //! What lines, words and files say, and what is said to them.
 
-ghost use Rattle.std.specs.Prelude.{◌≡◌, ℕ, List, [], Some};
+ghost use Rattle.std.specs.Prelude.{◌≡◌, ℕ, ◌^◌, ◌≤◌, List, [], Some, length};
 ghost use Rattle.svc_base.specs.Text.{IsReadMonth, text_of_month};
 ghost use Rattle.svc_world.specs.World.{Accepted};
 ghost use Rattle.svc_world.specs.Judging.{IsHistory};
 ghost use Rattle.serv_engine.specs.Histories.{lines_of_history};
+ghost use Rattle.serv_engine.specs.Opening.{IsTooLong};
+ghost use Rattle.serv_top.specs.Journal.{journal_limit};
 ghost use Rattle.serv_top.specs.Lines.{ended_lines, lines_of};
 ghost use Rattle.serv_top.specs.Extracts.{lines_of_commands, AreTakenOn, HasRoomFor};
 ghost use Rattle.serv_top.specs.Imported.{FileSays};
@@ -54,4 +56,10 @@ pub fn histories_are_taken_on()
     ensures lines { (h : List Accepted) → IsHistory h → lines_of (lines_of_commands h) ≡ lines_of_history h }
     ensures taken_on { (h : List Accepted) (s t : Stand) (written : List ℕ) → IsHistory h → s.history.commands ≡ []
         → HasRoomFor s.history.store h → Answers (lines_of_history h) s t written → AreTakenOn h t written }
+{}
+
+/// A journal of version 1 of at most 67,108,864 bytes always has room for its commands in version 2: it never ends a
+/// run with `JournalFull`. It does nothing.
+pub fn old_journals_have_room()
+    ensures room { (s : List ℕ) (bytes : ℕ) → length s ≤ 2 ^ 26 → ¬ (IsTooLong journal_limit bytes s) }
 {}

@@ -22,7 +22,7 @@ mod writing;
 
 pub use laws::{
     files_say_one_thing, histories_are_taken_on, lines_have_one_answer, months_are_read,
-    replies_are_whole,
+    old_journals_have_room, replies_are_whole,
 };
 pub use one_link::serve_one;
 pub use status::Status;

@@ -1,12 +1,13 @@
 use Rattle.std.proofs.Common.{◌≡◌, refl, arith, ◌∙◌}
 use Rattle.serv_machine.proofs.OnDiskLemmas.{disk_none}
 use Rattle.serv_links.specs.Responses.{stand}
-use Rattle.serv_links.proofs.RoundLemmas.{risen_last, round_none, round_goes_on, round_stops}
+use Rattle.serv_disk.specs.Faults.{HasRisen}
+use Rattle.serv_links.proofs.RoundLemmas.{risen_last, one_weaker, writes_as, round_none, round_goes_on, round_stops}
 use Rattle.serv_links.proofs.answering.answer_all.Goals as goal
 
 pub loop-ask-init : goal.loop-ask-init
 loop-ask-init g c = record {
-  round = round_none g.D.Disk.images g.D.Disk.moment g.D.Disk.images_since c.args.disk.now (stand (g.M.Machine.history c.args.machine.now) c.args.steps.now) (g.K.Sink.held c.args.link.now)
+  round = round_none g.D.Disk.images g.D.Disk.moment g.D.Disk.images_since ⊥ c.args.disk.now (stand (g.M.Machine.history c.args.machine.now) c.args.steps.now) (g.K.Sink.held c.args.link.now)
       (disk_none g.D.Disk.images g.D.Disk.moment g.D.Disk.images_since c.args.disk.now _ _ refl (g.met.M.Machine.keeps c.args.machine.now c.args.disk.now c.requires.ready) (g.met.D.Disk.only_now c.args.disk.now));
   count = refl;
   ready = c.requires.ready;
@@ -20,10 +21,12 @@ returns-in_default-clause-round g c =
     let i = c.loop-ask.ask-index in
     let count : c.loop-ask.answered ≡ i = c.loop-ask.invariant.count in
     rw count
-    (round_stops g.D.Disk.images g.D.Disk.moment g.D.Disk.images_since c.answer_one.result c.args.disk.now c.loop-ask.disk c.answer_one.new.disk i c.args.asks.now c.ask-item.result c.ask-item.result
+    (round_stops g.D.Disk.images g.D.Disk.moment g.D.Disk.images_since (HasRisen (g.K.Sink.faults c.args.link.now) (g.K.Sink.faults c.answer_one.new.link)) ⊥ c.answer_one.result c.args.disk.now c.loop-ask.disk c.answer_one.new.disk i c.args.asks.now c.ask-item.result c.ask-item.result
     (stand (g.M.Machine.history c.args.machine.now) c.args.steps.now) (stand (g.M.Machine.history c.loop-ask.machine) c.loop-ask.steps) (stand (g.M.Machine.history c.answer_one.new.machine) c.answer_one.new.steps)
     (g.K.Sink.held c.args.link.now) (g.K.Sink.held c.loop-ask.link) (g.K.Sink.held c.answer_one.new.link) c.in_default.not-Answered c.loop-ask-test.true c.ask-item.is
-    c.loop-ask.invariant.round c.answer_one.ensures.one)
+    c.loop-ask.invariant.round
+    (writes_as g.D.Disk.images g.D.Disk.moment g.D.Disk.images_since c.loop-ask.disk c.answer_one.new.disk _ _ _ _ _ _
+    (λ pending w. one_weaker _ _ c.answer_one.result c.ask-item.result _ _ pending w (risen_last _ _ _ c.loop-ask.invariant.later c.answer_one.ensures.later)) c.answer_one.ensures.one))
 
 pub returns-in_default-clause-broken : goal.returns-in_default-clause-broken
 returns-in_default-clause-broken g c = λ is.
@@ -40,7 +43,7 @@ loop-ask-preserved g c =
     let i = c.loop-ask.ask-index in
     let count = c.loop-ask.invariant.count in
     record {
-      round = round_goes_on g.D.Disk.images g.D.Disk.moment g.D.Disk.images_since c.args.disk.now c.loop-ask.disk c.answer_one.new.disk i c.args.asks.now c.ask-item.result c.ask-item.result
+      round = round_goes_on g.D.Disk.images g.D.Disk.moment g.D.Disk.images_since ⊥ c.args.disk.now c.loop-ask.disk c.answer_one.new.disk i c.args.asks.now c.ask-item.result c.ask-item.result
           (stand (g.M.Machine.history c.args.machine.now) c.args.steps.now) (stand (g.M.Machine.history c.loop-ask.machine) c.loop-ask.steps) (stand (g.M.Machine.history c.answer_one.new.machine) c.answer_one.new.steps)
           (g.K.Sink.held c.args.link.now) (g.K.Sink.held c.loop-ask.link) (g.K.Sink.held c.answer_one.new.link) c.loop-ask-test.true c.ask-item.is
           c.loop-ask.invariant.round c.in-Answered.ensures.one;

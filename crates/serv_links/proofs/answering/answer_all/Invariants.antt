@@ -8,7 +8,7 @@ use Rattle.serv_links.proofs.answering.answer_all.Given as goal
 abbrev pub invariant-loop-ask : goal.invariant-loop-ask
 invariant-loop-ask g l = record {
   round : Writes g.D.Disk.images g.D.Disk.moment g.D.Disk.images_since l.fn.disk l.disk
-      (IsRound Answered l.ask-index (take l.ask-index l.asks) (stand (g.M.Machine.history l.fn.machine) l.fn.steps) (stand (g.M.Machine.history l.machine) l.steps))
+      (IsRound ⊥ Answered l.ask-index (take l.ask-index l.asks) (stand (g.M.Machine.history l.fn.machine) l.fn.steps) (stand (g.M.Machine.history l.machine) l.steps))
       (g.M.Machine.history l.fn.machine).commands (g.M.Machine.history l.machine).commands (g.K.Sink.held l.fn.link) (g.K.Sink.held l.link);
   count : l.answered ≡ l.ask-index;
   ready : g.M.Machine.ready l.machine l.disk;

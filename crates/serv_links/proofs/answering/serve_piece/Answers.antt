@@ -15,10 +15,10 @@ returns-in-Ok-clause-piece g c = λ s stands.
     let t = stand (g.M.Machine.history c.args.machine.now) c.args.steps.now in
     let t' = stand (g.M.Machine.history c.answer_all.new.machine) c.answer_all.new.steps in
     writes_as g.D.Disk.images g.D.Disk.moment g.D.Disk.images_since c.args.disk.now c.answer_all.new.disk _ _ _ _ _ _
-    (λ pending w. piece_of c.answer_all.result.outcome c.answer_all.result.answered c.in-Ok.asks.items (s ++ c.args.piece.now) c.feed.new.self t t' pending w (c.in-Ok.ensures.asks s stands)) (rw c.deref.ensures.value at c.answer_all.ensures.round)
+    (λ pending w. piece_of _ c.answer_all.result.outcome c.answer_all.result.answered c.in-Ok.asks.items (s ++ c.args.piece.now) c.feed.new.self t t' pending w (c.in-Ok.ensures.asks s stands)) (rw c.deref.ensures.value at c.answer_all.ensures.round)
 
 pub returns-in-Err-clause-piece : goal.returns-in-Err-clause-piece
 returns-in-Err-clause-piece g c = λ s stands.
-    unread_here g.D.Disk.images g.D.Disk.moment g.D.Disk.images_since c.args.disk.now (s ++ c.args.piece.now) c.feed.new.self (stand (g.M.Machine.history c.args.machine.now) c.args.steps.now)
+    unread_here g.D.Disk.images g.D.Disk.moment g.D.Disk.images_since _ c.args.disk.now (s ++ c.args.piece.now) c.feed.new.self (stand (g.M.Machine.history c.args.machine.now) c.args.steps.now)
     (g.K.Sink.held c.args.link.now) (g.K.Sink.held c.write_no_memory.new.link) c.write_no_memory.ensures.front
     (disk_none g.D.Disk.images g.D.Disk.moment g.D.Disk.images_since c.args.disk.now _ _ refl (g.met.M.Machine.keeps c.args.machine.now c.args.disk.now c.requires.ready) (g.met.D.Disk.only_now c.args.disk.now))
