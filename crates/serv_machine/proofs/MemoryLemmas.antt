@@ -1,5 +1,5 @@
 -- What a core in memory answers, as a machine's answer.
-use Rattle.std.proofs.Common.{◌≡◌, ℕ, List, [], ◌∷◌, ◌++◌, sym, ap, ◌∙◌, arith, append-nil}
+use Rattle.std.proofs.Common.{◌≡◌, ℕ, List, [], ◌∷◌, ◌++◌, sym, ap, subst, ◌∙◌, arith, append-nil}
 use Rattle.svc_types.specs.declared.requests.Command.{Command}
 use Rattle.svc_types.specs.declared.replies.Reply.{Reply}
 use Rattle.svc_types.specs.declared.replies.Refusal.{Refusal}
@@ -8,7 +8,7 @@ use Rattle.svc_world.specs.World.{Accepted, accepted}
 use Rattle.svc_world.specs.Judging as judging
 use Rattle.svc_world.specs.Judging.{Judgement, judged}
 use Rattle.serv_machine.specs.History.{History, Memory, Refused, by_judgement, decided, after_decision}
-use Rattle.serv_machine.specs.Replies.{IsReplyBy}
+use Rattle.serv_machine.specs.Replies.{IsReplyBy, IsUnsaid}
 use Rattle.serv_machine.specs.OnDisk.{OnDisk}
 
 abbrev pub in_memory : List Accepted → History
@@ -37,6 +37,10 @@ memory_after h h' key c is = after_by h h' key c (judged h key c) is
 pub memory_refused : (h : List Accepted) (key : List ℕ) (c : Command) (why : Refusal) → judged h key c ≡ judging.Refused why → decided (in_memory h) key c ≡ Refused why
 unfolding decided
 memory_refused h key c why is = ap (by_judgement Memory h (accepted key c)) is
+
+pub memory_wanted : (h : List Accepted) (key : List ℕ) (c : Command) → judged h key c ≡ judging.Fresh → IsUnsaid (decided (in_memory h) key c)
+unfolding decided
+memory_wanted h key c is = subst (λ j. IsUnsaid (by_judgement Memory h (accepted key c) j)) (sym is) tt
 
 -- no disk is touched
 nowhere : {D : Type 0} (d : D) (h h' list : List Accepted) → h' ≡ h ++ list → OnDisk {D = D} (λ _ _. ⊥) (λ _. 0) (λ _ _ _. ⊥) d d h h' []
