@@ -73,6 +73,10 @@ pub ask_fault : (o : Option Refusal) (f : CoreFault) → IsQueryFault o f → Is
 ask_fault o (core.Refused why) is = is
 ask_fault o core.OutOfMemory is = is
 
+pub ask_memory : (f : CoreFault) (P : Type 0) → (f ≡ core.OutOfMemory → P) → fault_of_core f ≡ fault.OutOfMemory → P
+ask_memory (core.Refused why) P wanted is = let no_way : ⊥ = cc in absurd no_way
+ask_memory core.OutOfMemory P wanted is = wanted refl
+
 -- of adding a fresh command
 pub fresh_fault : (said : Judgement) (j : JournalState) (a : Accepted) (old new : ℕ) (f : EngineFault) → said ≡ Fresh → IsAppendFault j a old new f → IsSubmitFault said j a old new f
 fresh_fault said j a old new (fault.JournalFull bytes) fresh is = (fresh, is.0, is.1)

@@ -10,6 +10,7 @@ ghost use Rattle.svc_world.specs.Answers.{answer_to, query_refusal};
 ghost use Rattle.svc_world.specs.Custody.{rows_in};
 ghost use Rattle.svc_core.specs.Bound.{step_bound, query_bound};
 ghost use Rattle.svc_core.specs.Core.{IsReplyTo};
+ghost use Rattle.svc_core.specs.Asking.{WantsMemory};
 ghost use Rattle.serv_disk.specs.Disks.{Each, LeavesOnly};
 ghost use Rattle.serv_journal.specs.Format.{Form};
 ghost use Rattle.serv_journal.specs.Reading.{IsNoJournal};
@@ -192,6 +193,7 @@ impl<B: LoanBooks> Engine<B> {
         ensures asked { OnOk result (query_refusal self.now.history query.now ≡ None) }
         ensures answer { IfOk result (λ a. answer_to self.now.history query.now ≡ Some a) }
         ensures fault { IfErr result (IsAskFault (query_refusal self.now.history query.now)) }
+        ensures memory { IfErr result (λ f. f ≡ EngineFault.OutOfMemory → WantsMemory query.now) }
         ensures bound { ((a : Account) (m : ℕ) → B.cost a m ≡ cost_of_month a m)
             → steps.new ≤ steps.old + query_bound (world self.now.history) query.now }
     {

@@ -16,8 +16,8 @@ use Rattle.serv_engine.specs.Submitting.{HasRoom, IsFull, IsSubmitFault}
 use Rattle.serv_machine.specs.declared.faults.ActFault.{ActFault}
 use Rattle.serv_machine.specs.declared.faults.ActFault.TheVariants as fault
 use Rattle.serv_machine.specs.History.{Journal, Decision, Full, Fresh, in_journal, by_room, by_judgement, decided, after_decision}
-use Rattle.serv_machine.specs.Replies.{IsReplyBy, IsFaultBy, pending_at}
-use Rattle.std.specs.Prelude.{Result, Err}
+use Rattle.serv_machine.specs.Replies.{IsReplyBy, IsUnsaid, IsFaultBy, pending_at}
+use Rattle.std.specs.Prelude.{Result, Err, true, false, nat_lt, if◌then◌else◌}
 use Rattle.serv_disk.specs.Disks.{Each, LeavesOnly}
 use Rattle.serv_disk.proofs.Moments.{weaker}
 use Rattle.serv_journal.specs.Format.{Form, IsForm}
@@ -32,6 +32,10 @@ with_room base limit h a fits = grind (arith, nat_tests)
 
 without_room : (base limit : ℕ) (h : List Accepted) (a : Accepted) → limit < base + lengths_of h + record_length a → by_room (Journal base limit) h a ≡ Full (base + lengths_of h)
 without_room base limit h a past = grind (arith, nat_tests)
+
+-- of a command that is fresh nothing was said, whether there is room or not
+unsaid_by : (base limit : ℕ) (h : List Accepted) (a : Accepted) → IsUnsaid (by_room (Journal base limit) h a)
+unsaid_by base limit h a = elim (nat_lt limit (base + lengths_of h + record_length a)) as (λ v. IsUnsaid (if v then Full (base + lengths_of h) else Fresh)) [ true ↦ tt | false ↦ tt ]
 
 -- the journal's length is that without a command, and the records
 back : (size n : ℕ) → n ≤ size → (size - n) + n ≡ size
@@ -72,7 +76,7 @@ module _ (e : EngineState) (a : Accepted) (fits : lengths_of e.history ≤ e.jou
   fault_told said old new (engine.Refused why) is = ap told is
   fault_told said old new (engine.JournalFull bytes) is = full_told said bytes is.0 is.1 is.2
   fault_told said old new engine.DiskFault is = (fresh_told said is.0 is.1, is.2)
-  fault_told said old new engine.OutOfMemory is = tt
+  fault_told said old new engine.OutOfMemory is = subst (λ j. IsUnsaid (told j)) (sym is) (unsaid_by base e.journal.limit e.history a)
   fault_told said old new engine.NotJournal is = absurd is
   fault_told said old new (engine.Damaged place) is = absurd is
 

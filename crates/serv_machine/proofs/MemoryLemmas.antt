@@ -11,7 +11,7 @@ use Rattle.svc_world.specs.World.{Accepted, accepted}
 use Rattle.svc_world.specs.Judging as judging
 use Rattle.svc_world.specs.Judging.{Judgement, judged, IsHistory}
 use Rattle.serv_machine.specs.History.{History, Memory, Refused, by_judgement, decided, after_decision}
-use Rattle.serv_machine.specs.Replies.{IsReplyBy}
+use Rattle.serv_machine.specs.Replies.{IsReplyBy, IsUnsaid}
 use Rattle.serv_machine.specs.OnDisk.{OnDisk}
 use Rattle.serv_machine.proofs.OnDiskLemmas.{alone}
 
@@ -41,6 +41,10 @@ memory_after h h' key c is = after_by h h' key c (judged h key c) is
 pub memory_refused : (h : List Accepted) (key : List ℕ) (c : Command) (why : Refusal) → judged h key c ≡ judging.Refused why → decided (in_memory h) key c ≡ Refused why
 unfolding decided
 memory_refused h key c why is = ap (by_judgement Memory h (accepted key c)) is
+
+pub memory_wanted : (h : List Accepted) (key : List ℕ) (c : Command) → judged h key c ≡ judging.Fresh → IsUnsaid (decided (in_memory h) key c)
+unfolding decided
+memory_wanted h key c is = subst (λ j. IsUnsaid (by_judgement Memory h (accepted key c) j)) (sym is) tt
 
 -- no disk is touched
 nowhere : {D : Type 0} (d : D) (h h' list : List Accepted) → h' ≡ h ++ list → (IsHistory h → IsHistory h') → OnDisk {D = D} (λ _ _. ⊥) (λ _. 0) (λ _ _ _. ⊥) d d h h' []

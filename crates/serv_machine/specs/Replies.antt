@@ -30,12 +30,20 @@ IsReplyBy h c (Refused why) r = ⊥
 IsReplyBy h c (Full bytes) r = ⊥
 IsReplyBy h c Fresh r = r ≡ next_reply h.commands c
 
--- a fault by what is decided; of the disk only where its count has risen; want of memory is free
+-- nothing was said of the command before, and no rule refuses it: there is room for it, or there is none
+abbrev pub IsUnsaid : Decision → Type 0
+IsUnsaid (Kept reply) = ⊥
+IsUnsaid (Refused why) = ⊥
+IsUnsaid (Full bytes) = ⊤
+IsUnsaid Fresh = ⊤
+
+-- a fault by what is decided; of the disk only where its count has risen, want of memory only of a command of which nothing
+-- was said
 abbrev pub IsFaultBy : Decision → ℕ → ℕ → ActFault → Type 0
 IsFaultBy d old new (fault.Refused why) = d ≡ Refused why
 IsFaultBy d old new (fault.Full bytes) = d ≡ Full bytes
 IsFaultBy d old new fault.DiskFault = (d ≡ Fresh) × HasRisen old new
-IsFaultBy d old new fault.OutOfMemory = ⊤
+IsFaultBy d old new fault.OutOfMemory = IsUnsaid d
 
 -- the command that was being appended: there is one where the disk failed
 abbrev pub pending_at : Accepted → Result Reply ActFault → List Accepted

@@ -5,6 +5,7 @@ ghost use Rattle.svc_types.specs.Requests.{IsCommand, IsQuery};
 ghost use Rattle.svc_world.specs.World.{accepted, world};
 ghost use Rattle.svc_world.specs.Answers.{answer_to, query_refusal};
 ghost use Rattle.svc_world.specs.Custody.{rows_in};
+ghost use Rattle.svc_core.specs.Asking.{WantsMemory};
 ghost use Rattle.svc_core.specs.Bound.{query_bound, step_bound};
 ghost use Rattle.svc_core.specs.Core.{IsQueryFault};
 ghost use Rattle.serv_disk.specs.Disks.{Each};
@@ -68,6 +69,7 @@ pub trait Machine<D: Disk> {
         ensures answer { IfOk result (λ a. answer_to (history self.now).commands query.now ≡ Some a) }
         ensures spelled { IfOk result IsSpellable }
         ensures refused { IfErr result (IsQueryFault (query_refusal (history self.now).commands query.now)) }
+        ensures memory { IfErr result (λ f. f ≡ CoreFault.OutOfMemory → WantsMemory query.now) }
         ensures steps { steps.new ≤ steps.old + query_bound (world (history self.now).commands) query.now };
 
     /// Each image of a disk has the history.

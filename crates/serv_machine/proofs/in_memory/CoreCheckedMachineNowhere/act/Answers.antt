@@ -1,6 +1,6 @@
 use Rattle.std.proofs.Common.{subst}
 use Rattle.svc_types.specs.Keys.{IsKey}
-use Rattle.serv_machine.proofs.MemoryLemmas.{memory_reply, memory_after, memory_refused, memory_disk, memory_same}
+use Rattle.serv_machine.proofs.MemoryLemmas.{memory_reply, memory_after, memory_refused, memory_wanted, memory_disk, memory_same}
 use Rattle.serv_machine.proofs.in_memory.CoreCheckedMachineNowhere.act.Goals as goal
 
 pub returns-in-Ok-clause-reply : goal.returns-in-Ok-clause-reply
@@ -17,6 +17,9 @@ returns-in-Err-Refused-clause-fault g c = memory_refused c.args.self.now.history
 
 pub returns-in-Err-Refused-clause-disk : goal.returns-in-Err-Refused-clause-disk
 returns-in-Err-Refused-clause-disk g c = memory_same c.args.arg2.now c.args.self.now.history c.submit.new.self.history c.in-Err-Refused.ensures.err
+
+pub returns-in-Err-OutOfMemory-clause-fault : goal.returns-in-Err-OutOfMemory-clause-fault
+returns-in-Err-OutOfMemory-clause-fault g c = memory_wanted c.args.self.now.history c.args.key.now c.args.command.now (rw c.in-Err-OutOfMemory.field-0-is at c.in-Err-OutOfMemory.ensures.fault)
 
 pub returns-in-Err-OutOfMemory-clause-disk : goal.returns-in-Err-OutOfMemory-clause-disk
 returns-in-Err-OutOfMemory-clause-disk g c = memory_same c.args.arg2.now c.args.self.now.history c.submit.new.self.history c.in-Err-OutOfMemory.ensures.err
