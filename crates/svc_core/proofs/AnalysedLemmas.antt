@@ -3,7 +3,7 @@ use Rattle.std.proofs.Common.{◌≡◌, ℕ, ◌+◌, ◌<◌, true, false, con
 use Rattle.std.specs.Prelude.{◌==◌, Some, None}
 use Rattle.std.specs.Option.{option_map_or}
 use Rattle.std.proofs.lemmas.Bool.Decides.{nat_tests}
-use Rattle.svc_base.specs.Calendar.{IsReadDay, month_of, months_end}
+use Rattle.svc_base.specs.Calendar.{month_of}
 use Rattle.svc_types.specs.declared.account.Act.TheVariants as act
 use Rattle.svc_types.specs.declared.escrow.Plan.{Plan}
 use Rattle.svc_types.specs.declared.escrow.Settled.{Settled}
@@ -30,10 +30,6 @@ use Rattle.svc_core.specs.State.{world_of, IsState}
 use Rattle.svc_core.specs.Changing.{MayEnter, world_with}
 use Rattle.svc_core.proofs.KeptInLemmas.{IsKeptOf, kept_of}
 use Rattle.svc_core.proofs.EnteringLemmas.{may_enter}
-
--- a day that requests may name does not end the calendar
-pub before_end : (d : ℕ) → IsReadDay d → month_of d + 1 < months_end
-before_end d h = let last = h.last in omega (arith, last)
 
 -- an analysis that is not refused
 pub record IsAnalysing (n today : ℕ) (loans : KeptLoans) (seals : State) (id : ℕ) (plan : Plan) : Type 0 where

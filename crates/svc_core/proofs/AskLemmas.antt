@@ -6,7 +6,6 @@ use Rattle.std.proofs.lemmas.Int.{ints}
 use Rattle.std.proofs.lemmas.Bool.Decides.{nat_tests}
 use Rattle.std.proofs.Math.ListN.{get_or-map as get_mapped}
 use Rattle.std.proofs.lemmas.List.{length-map}
-use Rattle.svc_base.specs.Calendar.{IsReadDay, month_of, months_end}
 use Rattle.svc_base.proofs.MoneyLemmas.{month_interest_low, month_interest_most}
 use Rattle.svc_types.specs.declared.terms.Terms.{Terms}
 use Rattle.svc_types.specs.Terms.{IsSound}
@@ -31,7 +30,7 @@ use Rattle.svc_loan.specs.Kept.{KeptLoan}
 use Rattle.svc_loan.specs.Loans.{KeptLoans, find_kept, held_in}
 use Rattle.svc_core.specs.Asking.{AreOnDay, IsPayable}
 use Rattle.svc_core.specs.State.{IsState}
-use Rattle.svc_core.proofs.RuleLemmas.{find-held}
+use Rattle.svc_rules.proofs.RuleLemmas.{find-held}
 
 -- ---- the whole of an installment
 
@@ -74,10 +73,6 @@ found_on_day today id (j ∷ js) k all found =
       | true ↦ λ is. let same : j ≡ k = cc in subst (λ (x : KeptLoan). x.held.account.today ≡ today) same (all 0 j (omega arith))
       | false ↦ λ is. found_on_day today id js k (λ i d lt. all (suc i) d (omega (arith, lt))) is
     ] found
-
--- the month after that of a day that was read is in the calendar
-pub month_goes_on : (day : ℕ) → IsReadDay day → month_of day + 1 < months_end
-month_goes_on day h = (let l = h.last in omega arith)
 
 -- ---- the report of a closed month
 

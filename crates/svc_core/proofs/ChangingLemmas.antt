@@ -1,6 +1,6 @@
 -- A loan that a command changes from a month on: what is recorded of it, the world after it, and its cost.
 use Rattle.std.proofs.Common.{◌≡◌, ℕ, ◌+◌, ◌-◌, ◌≤◌, ◌<◌, true, false, cond, List, [], ◌∷◌, ◌++◌, map, length, arith, refl, sym, ap, subst, ◌∙◌, length-append}
-use Rattle.std.specs.Prelude.{Option, Some, None, IfSome, MatchOption}
+use Rattle.std.specs.Prelude.{Option, Some, IfSome}
 use Rattle.std.specs.List.{All, range_with_len}
 use Rattle.std.specs.Option.{option_map_or}
 use Rattle.std.proofs.lemmas.List.FromFn.{length-map-range_with_len}
@@ -31,18 +31,6 @@ use Rattle.svc_core.specs.State.{world_of, IsState}
 use Rattle.svc_core.specs.Costs.{changing_cost, entering_cost}
 use Rattle.svc_core.specs.Changing.{dues_since, world_with}
 use Rattle.svc_core.proofs.KeptInLemmas.{kept_on, changed_stay, kept_all, held_found, kept_of, dues_to_end}
-
--- the loan with a number is there, and something holds of it
-pub record IsKeptLoan (id : ℕ) (ks : List KeptLoan) (P : KeptLoan → Type 0) : Type 0 where
-  pub kept : KeptLoan
-  pub found : find_kept id ks ≡ Some kept
-  pub holds : P kept
-
-pub kept_loan : (id : ℕ) (ks : List KeptLoan) (P : KeptLoan → Type 0) → OfLoan id ks P → IsKeptLoan id ks P
-kept_loan id ks P h = elim (find_kept id ks) as (λ o. find_kept id ks ≡ o → MatchOption o ⊥ P → IsKeptLoan id ks P) [
-  | None ↦ λ is no. absurd no
-  | Some k ↦ λ is yes. record { kept = k; found = is; holds = yes }
-] refl h
 
 -- ---- a change of a loan from a month on, and the loans after it
 

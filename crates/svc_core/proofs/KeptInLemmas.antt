@@ -20,7 +20,7 @@ use Rattle.svc_loan.specs.Kept.{KeptLoan}
 use Rattle.svc_loan.specs.Loans.{find_kept, held_in, closed_in, remitted_in}
 use Rattle.svc_core.specs.Cash.{IsKeptIn}
 use Rattle.svc_core.specs.Changing.{dues_since}
-use Rattle.svc_core.proofs.RuleLemmas.{find-held}
+use Rattle.svc_rules.proofs.RuleLemmas.{find-held}
 
 -- ---- what is remitted and closed in another world
 

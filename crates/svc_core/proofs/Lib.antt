@@ -1,16 +1,12 @@
 pub mod PostedLemmas
 pub mod RepliesLemmas
 pub mod CashLemmas
-pub mod RuleLemmas
-pub mod AnalysingLemmas
 pub mod CoreLemmas
 pub mod PartsLemmas
 pub mod BoundLemmas
-pub mod RefusingLemmas
 pub mod KeptInLemmas
 pub mod ChangingLemmas
 pub mod EnteringLemmas
-pub mod FiguresLemmas
 pub mod ReversingLemmas
 pub mod QuietLemmas
 pub mod AnalysedLemmas

@@ -184,20 +184,6 @@ fresh_steps cost posted today loans seals rows custody positions key c s s' h is
     let p : preparing_cost cost (world_of today loans seals) c ≡ preparing_cost cost (world posted.history) c = ap (λ x. preparing_cost cost x c) h.state in
     subst (λ j. s' ≤ s + unknown_cost cost (world posted.history) c j) (sym is) (omega (arith, le, w, p))
 
--- the parts with room for more are the same parts
-pub parts_same : (posted more : PostedCommands) (today today' : ℕ) (loans loans' : KeptLoans) (seals seals' : State) (rows rows' : List Row) (custody custody' : Custody) (positions positions' : List Position) → AreParts posted today loans seals rows custody positions → more.history ≡ posted.history → more.replies ≡ posted.replies → world_of today' loans' seals' ≡ world_of today loans seals → All (IsKeptIn (world_of today' loans' seals')) loans'.loans → rows' ≡ rows → custody' ≡ custody → positions' ≡ positions → AreParts more today' loans' seals' rows' custody' positions'
-parts_same posted more today today' loans loans' seals seals' rows rows' custody custody' positions positions' h hist reps state kept book line places =
-    let now : world_of today' loans' seals' ≡ world more.history = state ∙ h.state ∙ ap world (sym hist) in
-    record {
-      history = subst IsHistory (sym hist) h.history;
-      replies = reps ∙ h.replies ∙ ap replies_to (sym hist);
-      state = now;
-      kept = subst (λ w. All (IsKeptIn w) loans'.loans) now kept;
-      book = book ∙ h.book ∙ ap rows_in (sym hist);
-      line = line ∙ h.line ∙ ap (λ x. custody_of (world x)) (sym hist);
-      places = places ∙ h.places ∙ ap (λ x. positions_of (world x)) (sym hist);
-    }
-
 -- ---- the reply that was put in last
 
 last_of : {X : Type 0} (xs : List X) (x : X) → slice_get (xs ++ x ∷ []) (length xs) ≡ Some x

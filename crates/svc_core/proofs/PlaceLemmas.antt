@@ -21,10 +21,10 @@ use Rattle.svc_world.proofs.LoanListLemmas.{rises, found_all, find_boarded, with
 use Rattle.svc_loan.specs.Kept.{KeptLoan}
 use Rattle.svc_loan.specs.Loans.{IsPlaceIn, OfLoan, find_kept, held_in}
 use Rattle.svc_core.specs.declared.position.Position.{Position}
-use Rattle.svc_core.specs.declared.scope.Scope.TheVariants as scope
+use Rattle.svc_rules.specs.declared.scope.Scope.TheVariants as scope
 use Rattle.svc_core.specs.Positions.{IsPosition, position, position_of, positions_of, totals_in}
-use Rattle.svc_core.specs.Scope.{scope_of}
-use Rattle.svc_core.proofs.RuleLemmas.{find-held, some-mapped}
+use Rattle.svc_rules.specs.Scope.{scope_of}
+use Rattle.svc_rules.proofs.RuleLemmas.{find-held, some-mapped}
 use Rattle.svc_core.proofs.SameLemmas.{SameReports, held_same, totals_same}
 use Rattle.svc_core.proofs.PositionLemmas.{at_place, same_position}
 use Rattle.svc_core.proofs.AcceptLemmas.{IsOneChange, IsTakenOn, one_changed, one_later, new_later, positions_within, taken_on}

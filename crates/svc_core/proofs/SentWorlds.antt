@@ -35,7 +35,7 @@ use Rattle.svc_loan.specs.Loans.{KeptLoans, find_kept, held_in, closed_in, remit
 use Rattle.svc_core.specs.Cash.{IsKeptIn}
 use Rattle.svc_core.specs.Reported.{IsSmallPart, IsSmallRemitted, AreSent, remitted_with}
 use Rattle.svc_core.specs.State.{world_of, IsState}
-use Rattle.svc_core.proofs.RuleLemmas.{find-held, some-mapped}
+use Rattle.svc_rules.proofs.RuleLemmas.{find-held, some-mapped}
 use Rattle.svc_core.proofs.RemittingLemmas.{by_loan, own_here}
 use Rattle.svc_core.proofs.EveryoneLemmas.{kept_by}
 

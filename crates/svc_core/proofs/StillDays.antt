@@ -24,7 +24,7 @@ use Rattle.svc_world.proofs.LoanListLemmas.{all_found, mapped_numbers, numbers_o
 use Rattle.svc_core.specs.declared.position.Position.{Position}
 use Rattle.svc_core.specs.Appending.{rows_along}
 use Rattle.svc_core.specs.Positions.{position_of, positions_of, totals_in, line_in}
-use Rattle.svc_core.specs.Scope.{IsWithinMonth}
+use Rattle.svc_rules.specs.Scope.{IsWithinMonth}
 use Rattle.svc_core.proofs.AppendLemmas.{along_none, along_cons, along_is}
 use Rattle.svc_core.proofs.LineLemmas.{line_of_world}
 use Rattle.svc_core.proofs.PlaceLemmas.{totals_are}

@@ -26,7 +26,7 @@ use Rattle.svc_loan.specs.Loans.{KeptLoans, find_kept, with_kept, held_in}
 use Rattle.svc_core.specs.Cash.{IsKeptIn}
 use Rattle.svc_core.specs.Ready.{IsBoarding}
 use Rattle.svc_core.specs.State.{world_of, IsState}
-use Rattle.svc_core.proofs.RuleLemmas.{find-held}
+use Rattle.svc_rules.proofs.RuleLemmas.{find-held}
 use Rattle.svc_core.proofs.KeptInLemmas.{same_remitted_for}
 use Rattle.svc_core.proofs.ChangingLemmas.{same_world}
 

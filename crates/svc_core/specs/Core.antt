@@ -23,7 +23,7 @@ use Rattle.svc_core.specs.declared.position.Position.{Position}
 use Rattle.svc_core.specs.Cash.{IsKeptIn}
 use Rattle.svc_core.specs.Positions.{positions_of}
 use Rattle.svc_core.specs.State.{world_of}
-use Rattle.svc_core.specs.Scope.{scope_of}
+use Rattle.svc_rules.specs.Scope.{scope_of}
 use Rattle.svc_core.specs.Ready.{IsReadyFor}
 use Rattle.svc_core.specs.Costs.{refusing_cost, preparing_cost, accepting_cost}
 use Rattle.svc_core.specs.Posted.{PostedCommands, replies_to}

@@ -16,17 +16,8 @@ use Rattle.period_adjust.specs.Kept.{month_after}
 use Rattle.svc_world.specs.Held.{Held, find_loan, boarded_month}
 use Rattle.svc_world.specs.World.{World}
 use Rattle.svc_loan.specs.Closed.{months_cost}
+pub use Rattle.svc_rules.specs.Costs.{asking_month, refusing_cost}
 use Rattle.svc_desk.specs.Costs.{quote_cost, arrears_cost, aging_cost}
-
--- a month of a loan; nothing where the loan is not there
-abbrev pub asking_month : (Account → ℕ → ℕ) → World → ℕ → ℕ → ℕ
-asking_month cost w id month = option_map_or (λ (l : Held). cost l.account month) (find_loan id w.loans) 0
-
--- to find why a command is refused: the books of its day for a curtailment and for a payoff
-abbrev pub refusing_cost : (Account → ℕ → ℕ) → World → Command → ℕ
-refusing_cost cost w (command.Curtail id d c) = asking_month cost w id (month_of d)
-refusing_cost cost w (command.Payoff id d c) = asking_month cost w id (month_of d)
-refusing_cost cost w c = 0
 
 -- to make room for a command that is not refused: the books of a loan that is taken on
 abbrev pub preparing_cost : (Account → ℕ → ℕ) → World → Command → ℕ

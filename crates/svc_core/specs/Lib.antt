@@ -2,11 +2,9 @@ pub mod Posted
 pub mod Replies
 pub mod Cash
 pub mod State
-pub mod Scope
 pub mod Ready
 pub mod Costs
 pub mod Rows
-pub mod Rules
 pub mod Core
 pub mod Bound
 pub mod Changing

@@ -6,8 +6,8 @@ use Rattle.period_adjust.specs.Sealed.{State}
 use Rattle.svc_world.specs.Held.{boarded}
 use Rattle.svc_loan.specs.Kept.{KeptLoan, IsReady, HasMonth}
 use Rattle.svc_loan.specs.Loans.{KeptLoans, OfLoan}
-use Rattle.svc_core.specs.declared.scope.Scope.{Scope}
-use Rattle.svc_core.specs.declared.scope.Scope.TheVariants.{One, New, Every}
+use Rattle.svc_rules.specs.declared.scope.Scope.{Scope}
+use Rattle.svc_rules.specs.declared.scope.Scope.TheVariants.{One, New, Every}
 
 -- for a command on one loan: room in the loan, for its rows, for the dues that it had for closed months, and for
 -- an adjustment of each of these

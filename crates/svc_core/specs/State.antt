@@ -1,20 +1,11 @@
--- The world that the core's parts hold, and what holds of these parts.
+-- What holds of the core's parts, beside the world that they hold.
 use Rattle.std.specs.Prelude.{ℕ}
 use Rattle.std.specs.List.{All}
 use Rattle.period_adjust.specs.Sealed.{State}
-use Rattle.svc_world.specs.World.{World}
 use Rattle.svc_world.specs.Worlds.{IsWorld}
-use Rattle.svc_loan.specs.Loans.{KeptLoans, held_in}
+use Rattle.svc_loan.specs.Loans.{KeptLoans}
+pub use Rattle.svc_rules.specs.State.{world_of}
 use Rattle.svc_core.specs.Cash.{IsKeptIn}
-
--- the business day, all loans, and the reports with what was remitted
-abbrev pub world_of : ℕ → KeptLoans → State → World
-world_of today loans seals = record {
-  today = today;
-  loans = held_in loans.loans;
-  seals = seals.reporting;
-  remitted = seals.remitted;
-}
 
 -- after n commands they hold a sound world, and each loan is kept as that world has it
 pub record IsState (n today : ℕ) (loans : KeptLoans) (seals : State) : Type 0 where

@@ -17,22 +17,23 @@ ghost use Rattle.svc_core.specs.Positions as rule;
 ghost use Rattle.svc_core.specs.Positions.{CanRead, IsLine, IsPosition, line_in, positions_of, totals_in};
 ghost use Rattle.svc_core.specs.Ready.{HasRoomForOne, HasRoomForNew, HasRoomForAll, IsBoarding};
 ghost use Rattle.svc_core.specs.Rows.{IsCash};
-ghost use Rattle.svc_core.specs.Scope.{scope_of, IsWithinMonth};
+ghost use Rattle.svc_rules.specs.Scope.{scope_of, IsWithinMonth};
 ghost use Rattle.svc_core.specs.State.{world_of, IsState};
 ghost use Rattle.svc_core.specs.declared.position.Position.{Position as AnyPosition};
-ghost use Rattle.svc_core.specs.declared.scope.Scope.TheVariants as scope;
+ghost use Rattle.svc_rules.specs.declared.scope.Scope.TheVariants as scope;
 
 use crate::changing::change_one;
 use crate::custody_line::line_after;
 use crate::everyone::change_all;
 use crate::position::{Position, no_position, position_at, position_of};
-use crate::state::{Cash, Scratch, State};
+use crate::state::{Cash, Scratch};
 use crate::taking_on::change_new;
 use custodial_book::{Book, Totals};
 use std::sync::ledger::Ledger;
 use svc_base::{Day, Steps, month_of};
 use svc_loan::{Loan, Loans};
 use svc_replay::LoanBooks;
+use svc_rules::State;
 use svc_types::{Command, Extra, Terms};
 
 /// Accepts a command on one loan, for which there is room: changes the loan, adds the command's rows, moves the

@@ -24,15 +24,13 @@ ghost use Rattle.svc_core.specs.Costs.{asking_month, asking_cost};
 ghost use Rattle.svc_core.specs.Rows.{IsCash};
 ghost use Rattle.svc_core.specs.State.{world_of, IsState};
 
-use crate::analysing::analysis_from;
 use crate::desk::{
     ask_aging, ask_arrears, ask_command, ask_history, ask_key, ask_quote, ask_terms, is_unknown,
     status,
 };
 use crate::fault::CoreFault;
-use crate::figures::figures_with;
 use crate::posted::Posted;
-use crate::state::{Cash, State};
+use crate::state::Cash;
 use custodial_book::Row;
 use period_adjust::Report;
 use std::alloc::Global;
@@ -41,6 +39,7 @@ use svc_apply::{open_installment, payoff_due};
 use svc_base::{Cents, Day, Month, OutOfMemory, Steps, month_of};
 use svc_loan::Loan;
 use svc_replay::LoanBooks;
+use svc_rules::{State, analysis_from, figures_with, refuse_day_of, refuse_report};
 use svc_types::{Books, Installment, Query, Refusal};
 use svc_world::{Answer, RowList};
 
@@ -256,44 +255,6 @@ fn ask_rows(alloc: Global, posted: &Posted, cash: &Cash, number: u32) -> Result<
     }
     let rows = copied(alloc, cash.book.rows(number))?;
     Ok(Answer::Rows { number, rows })
-}
-
-/// Why the books of a day are not told: the day lies after the business day or before boarding.
-fn refuse_day_of<B: LoanBooks>(state: &State<B>, loan: &Loan<B>, day: Day) -> Option<Refusal>
-    ensures cause { result ≡ rule.first_of (rule.day_cases
-        (world_of state.now.today state.now.loans state.now.seals) day loan.now.held) }
-    ensures since { result ≡ None → loan.now.held.account.terms.boarded ≤ day }
-    ensures until { result ≡ None → day ≤ state.now.today }
-{
-    if state.today < day {
-        return Some(Refusal::FutureDated(state.today));
-    }
-    let boarded = loan.terms().boarded;
-    if day < boarded {
-        return Some(Refusal::BeforeBoarding(boarded));
-    }
-    None
-}
-
-/// Why a report is not there: its month is not closed.
-fn refuse_report<B: LoanBooks>(state: &State<B>, month: Month) -> Option<Refusal>
-    ensures cause { result ≡ rule.first_of
-        (rule.report_cases (world_of state.now.today state.now.loans state.now.seals) month) }
-    ensures until { result ≡ None → is_some (last_month state.now.seals.reporting.reports) ≡ true }
-    ensures last { result ≡ None →
-        IfSome (last_month state.now.seals.reporting.reports) (λ last. month ≤ last) }
-    ensures first { result ≡ None →
-        IfSome (first_month state.now.seals.reporting.reports) (λ first. first ≤ month) }
-{
-    match state.seals.closed() {
-        Some(last) if month <= last => {}
-        closed => return Some(Refusal::NotClosed(closed)),
-    }
-    let reports = state.seals.reports();
-    if month < reports[0].month() {
-        return Some(Refusal::NotClosed(state.seals.closed()));
-    }
-    None
 }
 
 /// The loan with that number.

@@ -1,8 +1,7 @@
 //! What a command on one loan makes of the world.
 
-ghost use Rattle.std.specs.Prelude.{◌≡◌, ◌+◌, ◌≤◌, ◌<◌, None, Some, length, vec_capacity, map};
+ghost use Rattle.std.specs.Prelude.{◌≡◌, ◌+◌, ◌≤◌, ◌<◌, None, Some, length, vec_capacity};
 ghost use Rattle.std.specs.List.{All};
-ghost use Rattle.std.specs.Option.{option_map};
 ghost use Rattle.svc_base.specs.Calendar.{month_of as month_number, months_end};
 ghost use Rattle.svc_types.specs.Requests.{IsCommand};
 ghost use Rattle.svc_types.specs.declared.requests.Command.TheVariants as request;
@@ -17,20 +16,17 @@ ghost use Rattle.svc_loan.specs.Loans.{OfLoan};
 ghost use Rattle.svc_core.specs.Cash.{IsKeptIn};
 ghost use Rattle.svc_core.specs.Changing as rule;
 ghost use Rattle.svc_core.specs.Costs.{accepting_cost};
-ghost use Rattle.svc_core.specs.Scope.{scope_of};
+ghost use Rattle.svc_rules.specs.Scope.{scope_of};
 ghost use Rattle.svc_core.specs.State.{IsState, world_of};
 
-use crate::analysing::settle_now;
 use crate::entering::{enter, loan_there, reverse};
-use crate::figures::figures_of;
-use crate::scope::Scope;
-use crate::state::State;
 use escrow_lines::Line;
 use remit_types::MonthDue;
 use std::sync::ledger::Ledger;
 use svc_base::{Day, Month, Steps};
 use svc_loan::Loans;
 use svc_replay::LoanBooks;
+use svc_rules::{Scope, State, figures_of, settle_now};
 use svc_types::{Act, Command, Entry, Extra, Figures, Plan, RemitType, Settled};
 
 /// Makes the change of a command on one loan, as the one after `count` others, and answers what its reply

@@ -21,10 +21,8 @@ ghost use Rattle.svc_core.specs.Posted.{postings_in};
 ghost use Rattle.svc_core.specs.State.{world_of, IsState};
 
 use crate::asking::loan_named;
-use crate::closing::{next_to_close, next_to_remit};
 use crate::fault::CoreFault;
 use crate::posted::Posted;
-use crate::state::State;
 use period_adjust::Seals;
 use std::alloc::Global;
 use std::sync::ledger::Ledger;
@@ -32,6 +30,7 @@ use svc_base::{Day, Month, Steps};
 use svc_desk::{aging_answer, arrears_answer, history_answer, quote_answer, terms_answer};
 use svc_loan::Loan;
 use svc_replay::LoanBooks;
+use svc_rules::{State, next_to_close, next_to_remit};
 use svc_types::{Key, Refusal};
 use svc_world::{Answer, BooksStatus};
 

@@ -20,13 +20,13 @@ ghost use Rattle.svc_core.specs.Changing.{MayEnter, dues_since, world_with};
 ghost use Rattle.svc_core.specs.Costs.{accepting_cost, entering_cost};
 ghost use Rattle.svc_core.specs.State.{IsState, world_of};
 
-use crate::state::State;
 use period_adjust::Seals;
 use remit_types::MonthDue;
 use std::sync::ledger::Ledger;
 use svc_base::{Month, Steps, month_of};
 use svc_loan::{Loan, Loans};
 use svc_replay::LoanBooks;
+use svc_rules::State;
 use svc_types::Entry;
 
 /// Adds an entry to a loan as the command after `count` others, and records what it changes in the dues

@@ -16,17 +16,16 @@ ghost use Rattle.svc_loan.specs.Kept.{HasMonth};
 ghost use Rattle.svc_loan.specs.Loans.{held_in};
 ghost use Rattle.svc_core.specs.Cash.{IsKeptIn};
 ghost use Rattle.svc_core.specs.Costs as cost;
-ghost use Rattle.svc_core.specs.Scope.{scope_of};
+ghost use Rattle.svc_rules.specs.Scope.{scope_of};
 ghost use Rattle.svc_core.specs.State.{world_of, IsState};
 
 use crate::reporting::fill_lines;
-use crate::scope::Scope;
 use crate::sent::{closed_extra, remit_lines, remitted_extra, report_of};
-use crate::state::State;
 use period_adjust::{ReportLine, Seals};
 use std::sync::ledger::Ledger;
 use svc_base::{Day, Month, Steps};
 use svc_replay::LoanBooks;
+use svc_rules::{Scope, State};
 use svc_types::{Command, Extra};
 
 /// What a command on all loans, which nothing refuses, changes of the world, and what the reply to it says.

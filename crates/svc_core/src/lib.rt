@@ -3,30 +3,22 @@
 #![tactic(auto)]
 
 mod accepting;
-mod analysing;
 mod asking;
-mod boarding;
 mod cash;
 mod changing;
-mod closing;
 mod custody_line;
 mod desk;
 mod entering;
 mod everyone;
 mod fault;
-mod figures;
 mod laws;
-mod others;
 mod parts;
 mod position;
 mod positions;
 mod posted;
 mod preparing;
-mod refusals;
-mod refusing;
 mod replies;
 mod reporting;
-mod scope;
 mod sent;
 mod servicing;
 mod state;

@@ -1,6 +1,6 @@
 //! What the core keeps, and how a command is judged and accepted over it.
 
-ghost use Rattle.std.specs.Prelude.{◌≡◌, ◌+◌, ◌≤◌, ◌<◌, ◌∷◌, ◌++◌, [], length, None, Some, vec_capacity, OnOk, IfErr, IfOk};
+ghost use Rattle.std.specs.Prelude.{◌≡◌, ◌+◌, ◌≤◌, ◌<◌, ◌∷◌, ◌++◌, [], None, Some, vec_capacity, OnOk, IfErr, IfOk};
 ghost use Rattle.std.specs.Option.{option_map};
 ghost use Rattle.svc_types.specs.Requests.{IsCommand};
 ghost use Rattle.std.specs.List.{All};
@@ -12,7 +12,7 @@ ghost use Rattle.svc_core.specs.Cash.{IsKeptIn};
 ghost use Rattle.svc_core.specs.State.{world_of, IsState};
 ghost use Rattle.svc_core.specs.Rows.{IsCash};
 ghost use Rattle.svc_core.specs.Core as core;
-ghost use Rattle.svc_core.specs.Scope.{scope_of};
+ghost use Rattle.svc_rules.specs.Scope.{scope_of};
 ghost use Rattle.svc_core.specs.Ready.{IsReadyFor};
 ghost use Rattle.svc_core.specs.Costs.{accepting_cost};
 ghost use Rattle.svc_core.specs.Positions.{positions_of};
@@ -23,9 +23,7 @@ use crate::fault::CoreFault;
 use crate::positions::Positions;
 use crate::posted::Posted;
 use crate::preparing::prepare;
-use crate::refusing::refuse;
-use crate::scope::{Scope, scope_of};
-use crate::state::{Cash, Scratch, State};
+use crate::state::{Cash, Scratch};
 use crate::verdict::Verdict;
 use custodial_book::Book;
 use period_adjust::Seals;
@@ -34,6 +32,7 @@ use std::sync::ledger::Ledger;
 use svc_base::{Month, Steps, first_day};
 use svc_loan::{Loan, Loans};
 use svc_replay::LoanBooks;
+use svc_rules::{Scope, State, refuse, scope_of};
 use svc_types::{Command, Extra, Key, Refusal, Reply, is_same};
 use svc_world::Custody;
 

@@ -8,10 +8,10 @@ ghost use Rattle.svc_core.specs.Positions as rule;
 ghost use Rattle.svc_core.specs.Positions.{CanRead, IsPosition};
 
 use crate::cash::kept_position;
-use crate::state::State;
 use custodial_book::Totals;
 use svc_base::Cents;
 use svc_replay::LoanBooks;
+use svc_rules::State;
 
 /// What custody holds for a loan, in cents: what it moved so far of each part of custodial cash, its money
 /// that is not yet applied, its escrow balance, and the principal and interest that are held for it.

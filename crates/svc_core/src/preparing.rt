@@ -13,16 +13,16 @@ ghost use Rattle.svc_core.specs.Cash.{IsKeptIn};
 ghost use Rattle.svc_core.specs.Costs.{preparing_cost};
 ghost use Rattle.svc_core.specs.Preparing.{HaveStayed};
 ghost use Rattle.svc_core.specs.Ready.{HasRoomForOne, HasRoomForNew, HasRoomForAll, IsBoarding, IsReadyFor};
-ghost use Rattle.svc_core.specs.Scope as rule;
+ghost use Rattle.svc_rules.specs.Scope as rule;
 ghost use Rattle.svc_core.specs.State.{world_of, IsState};
 
-use crate::scope::{Scope, scope_of};
-use crate::state::{Cash, Scratch, State};
+use crate::state::{Cash, Scratch};
 use std::alloc::Global;
 use std::sync::ledger::Ledger;
 use svc_base::{Day, OutOfMemory, Steps};
 use svc_loan::Loan;
 use svc_replay::LoanBooks;
+use svc_rules::{Scope, State, scope_of};
 use svc_types::{Command, Terms};
 
 /// Makes the room that a command needs which is not refused, and the loan that it takes on, so that
@@ -93,7 +93,7 @@ fn room_for_one<B: LoanBooks>(
     state.loans.reserve_for(id, today)?;
     state.seals.reserve(0, closed as u32)?;
     cash.book.reserve(11)?;
-    make_room(&mut scratch.dues, closed)
+    clear_for(&mut scratch.dues, closed)
 }
 
 /// A place, rows and a position for a loan that is taken on.
@@ -147,11 +147,11 @@ fn room_for_all<B: LoanBooks>(
     state.loans.reserve_all(later)?;
     state.seals.reserve(count as u32, 0)?;
     cash.book.reserve(11 * count as u32)?;
-    make_room(&mut scratch.lines, count)
+    clear_for(&mut scratch.lines, count)
 }
 
 /// Empties a list, and makes room in it for so many.
-fn make_room<T: Drop>(items: &mut Vec<T>, count: usize) -> Result<(), OutOfMemory>
+fn clear_for<T: Drop>(items: &mut Vec<T>, count: usize) -> Result<(), OutOfMemory>
     ensures { OnOk result (count ≤ vec_capacity items.new) }
 {
     items.clear();

@@ -18,7 +18,7 @@ use crate::asking::answer;
 use crate::fault::CoreFault;
 use crate::parts::{Parts, accept_prepared, judge_new, repeat};
 use crate::posted::Posted;
-use crate::state::{Cash, Scratch, State};
+use crate::state::{Cash, Scratch};
 use crate::verdict::Verdict;
 use custodial_book::Book;
 use period_adjust::Seals;
@@ -28,6 +28,7 @@ use std::sync::ledger::Ledger;
 use svc_base::{Day, Month, OutOfMemory, Steps};
 use svc_loan::{Loan, Loans};
 use svc_replay::LoanBooks;
+use svc_rules::State;
 use svc_types::{Command, Key, Query, Reply};
 use svc_world::{Answer, Custody};
 

@@ -1,22 +1,11 @@
-//! What the core holds.
+//! What the core holds beside the world.
 
 use crate::positions::Positions;
 use custodial_book::Book;
-use period_adjust::{ReportLine, Seals};
+use period_adjust::ReportLine;
 use remit_types::MonthDue;
 use std::alloc::Global;
-use svc_base::Day;
-use svc_loan::Loans;
-use svc_replay::LoanBooks;
 use svc_world::Custody;
-
-/// The world: the business day, all loans, and the reports.
-#[derive(Drop)]
-pub(crate) struct State<B: LoanBooks> {
-    pub(crate) today: Day,
-    pub(crate) loans: Loans<B>,
-    pub(crate) seals: Seals,
-}
 
 /// The custodial rows of all commands, and what runs along: the custodial line, and what custody holds for each loan.
 #[derive(Drop)]

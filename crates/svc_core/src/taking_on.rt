@@ -10,9 +10,9 @@ ghost use Rattle.svc_core.specs.Cash.{IsKeptIn};
 ghost use Rattle.svc_core.specs.Ready.{IsBoarding};
 ghost use Rattle.svc_core.specs.State.{IsState, world_of};
 
-use crate::state::State;
 use svc_loan::Loan;
 use svc_replay::LoanBooks;
+use svc_rules::State;
 use svc_types::Terms;
 
 /// Takes a loan on that was made for the command with these terms, as the one after `count` others. Nothing

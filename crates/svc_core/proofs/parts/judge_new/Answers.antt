@@ -4,7 +4,7 @@ use Rattle.svc_types.specs.Keys.{IsKey}
 use Rattle.svc_world.specs.Judging.{judged}
 use Rattle.std.specs.Option.{option_map}
 use Rattle.svc_world.specs.World.{today_after}
-use Rattle.svc_core.specs.Scope.{scope_of}
+use Rattle.svc_rules.specs.Scope.{scope_of}
 use Rattle.svc_core.specs.Ready.{IsReadyFor}
 use Rattle.svc_core.proofs.PartsLemmas.{count_few, state_is, judged_here, refused_steps, fresh_steps}
 use Rattle.svc_core.proofs.parts.judge_new.Goals as goal
@@ -15,7 +15,7 @@ overflow_cast-count g c =
     omega arith
 
 pub refuse-requires : goal.refuse-requires
-refuse-requires g c = record { state = state_is c.args.parts.now.posted c.count-count.result c.args.parts.now.state.today c.args.parts.now.state.loans c.args.parts.now.state.seals c.args.parts.now.cash.book.rows c.args.parts.now.cash.custody c.args.parts.now.cash.positions.items c.requires.parts c.count-count.ensures }
+refuse-requires g c = record { world = (state_is c.args.parts.now.posted c.count-count.result c.args.parts.now.state.today c.args.parts.now.state.loans c.args.parts.now.state.seals c.args.parts.now.cash.book.rows c.args.parts.now.cash.custody c.args.parts.now.cash.positions.items c.requires.parts c.count-count.ensures).world }
 
 pub prepare-requires-clause-state : goal.prepare-requires-clause-state
 prepare-requires-clause-state g c = state_is c.args.parts.now.posted c.count-count.result c.args.parts.now.state.today c.args.parts.now.state.loans c.args.parts.now.state.seals c.args.parts.now.cash.book.rows c.args.parts.now.cash.custody c.args.parts.now.cash.positions.items c.requires.parts c.count-count.ensures

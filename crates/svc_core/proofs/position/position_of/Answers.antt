@@ -5,7 +5,7 @@ use Rattle.svc_loan.specs.Kept.{KeptLoan}
 use Rattle.svc_core.specs.Positions as rule
 use Rattle.svc_core.specs.Positions.{IsPosition}
 use Rattle.svc_core.specs.State.{world_of}
-use Rattle.svc_core.proofs.RuleLemmas.{find-held}
+use Rattle.svc_rules.proofs.RuleLemmas.{find-held}
 use Rattle.svc_core.proofs.PositionLemmas.{IsReadIn, found_read, position_are, position_within, remitted_sum}
 use Rattle.svc_core.proofs.position.position_of.Given.{Over}
 use Rattle.svc_core.proofs.position.position_of.Goals as goal

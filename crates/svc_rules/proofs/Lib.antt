@@ -1,0 +1,4 @@
+pub mod RuleLemmas
+pub mod AnalysingLemmas
+pub mod RefusingLemmas
+pub mod FiguresLemmas

@@ -1,0 +1,4 @@
+pub mod State
+pub mod Scope
+pub mod Costs
+pub mod Rules
