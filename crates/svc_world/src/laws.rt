@@ -72,7 +72,8 @@ pub fn rows_add_up()
 {}
 
 /// After every history nothing that texts say without a sign is below 0: of the custodial line what the accounts hold,
-/// suspense, what is held and what the servicer advanced, of each line of a report both balances, and so of each answer.
+/// suspense, what is held and what the servicer advanced, of each line of a report both balances; and so of each answer but a
+/// command with its reply.
 pub fn texts_want_no_sign()
     ensures custody { (h : List Accepted) → IsHistory h → IsUnsigned (custody_of (world h)) }
     ensures reports { (h : List Accepted) → IsHistory h → All IsUnsignedReport (world h).seals.reports }
