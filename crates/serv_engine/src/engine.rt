@@ -93,11 +93,11 @@ impl<B: LoanBooks> Engine<B> {
         ensures kept { IfErr result (λ f. (f ≡ EngineFault.DiskFault) ⊎ ((D.seen disk.new ≡ D.seen disk.old)
             ⊎ ((s : List ℕ) → D.seen disk.old ≡ Some s → IsClosed s (D.seen disk.new)))) }
         ensures faults { D.faults disk.old ≤ D.faults disk.new }
-        ensures bound { ((a : Account) (m : ℕ) → B.cost a m ≡ cost_of_month a m)
+        ensures bound { ((a : Account) (m : ℕ) → B.cost a m ≤ cost_of_month a m)
             → ((a : Account) (m : ℕ) → B.month_cost a m ≡ 0)
             → IfOk result (λ e. steps.new ≤ steps.old + history_bound [] e.history) }
         // At a fault there was no step, or those of the commands before it and of the one that it comes with.
-        ensures bound_err { ((a : Account) (m : ℕ) → B.cost a m ≡ cost_of_month a m)
+        ensures bound_err { ((a : Account) (m : ℕ) → B.cost a m ≤ cost_of_month a m)
             → ((a : Account) (m : ℕ) → B.month_cost a m ≡ 0)
             → OnErr result ((steps.new ≡ steps.old)
             ⊎ ((s : List ℕ) → D.seen disk.old ≡ Some s → IsFileWithin s steps.old steps.new)) }
@@ -168,7 +168,7 @@ impl<B: LoanBooks> Engine<B> {
         // A command more takes its line's bytes and seven.
         ensures length { (base : ℕ) → self.old.journal.size ≡ base + lengths_of self.old.history
             → OnOk result (self.new.journal.size ≡ base + lengths_of self.new.history) }
-        ensures bound { ((a : Account) (m : ℕ) → B.cost a m ≡ cost_of_month a m)
+        ensures bound { ((a : Account) (m : ℕ) → B.cost a m ≤ cost_of_month a m)
             → ((a : Account) (m : ℕ) → B.month_cost a m ≡ 0)
             → steps.new ≤ steps.old + step_bound self.old.history key.now command.now }
     {
@@ -194,7 +194,7 @@ impl<B: LoanBooks> Engine<B> {
         ensures answer { IfOk result (λ a. answer_to self.now.history query.now ≡ Some a) }
         ensures fault { IfErr result (IsAskFault (query_refusal self.now.history query.now)) }
         ensures memory { IfErr result (λ f. f ≡ EngineFault.OutOfMemory → WantsMemory query.now) }
-        ensures bound { ((a : Account) (m : ℕ) → B.cost a m ≡ cost_of_month a m)
+        ensures bound { ((a : Account) (m : ℕ) → B.cost a m ≤ cost_of_month a m)
             → steps.new ≤ steps.old + query_bound (world self.now.history) query.now }
     {
         match self.core.ask(query, steps) {

@@ -51,10 +51,10 @@ pub(crate) fn take_over<B: LoanBooks, D: Disk, L: Ledger>(
     ensures kept { IfErr result (λ f. (f ≡ EngineFault.DiskFault) ⊎ (disk.new ≡ disk.old)) }
     ensures limit { journal.new.limit ≡ journal.old.limit }
     ensures faults { D.faults disk.old ≤ D.faults disk.new }
-    ensures bound { ((a : Account) (m : ℕ) → B.cost a m ≡ cost_of_month a m)
+    ensures bound { ((a : Account) (m : ℕ) → B.cost a m ≤ cost_of_month a m)
         → ((a : Account) (m : ℕ) → B.month_cost a m ≡ 0)
         → IfOk result (λ core. steps.new ≤ steps.old + history_bound [] core.history) }
-    ensures bound_err { ((a : Account) (m : ℕ) → B.cost a m ≡ cost_of_month a m)
+    ensures bound_err { ((a : Account) (m : ℕ) → B.cost a m ≤ cost_of_month a m)
         → ((a : Account) (m : ℕ) → B.month_cost a m ≡ 0)
         → OnErr result (AreLinesWithin (lines_in frames.now) steps.old steps.new) }
 {

@@ -33,7 +33,7 @@ fn accept_again<B: LoanBooks, L: Ledger>(
     ensures more { OnOk result (core.new.history ≡ core.old.history ++ accepted key.now command.now ∷ []) }
     ensures fault { IfErr result (λ f. (f ≡ EngineFault.OutOfMemory) ⊎ ((f ≡ EngineFault.Damaged place)
         × (judged core.old.history key.now command.now ≢ Judgement.Fresh))) }
-    ensures bound { ((a : Account) (m : ℕ) → B.cost a m ≡ cost_of_month a m)
+    ensures bound { ((a : Account) (m : ℕ) → B.cost a m ≤ cost_of_month a m)
         → ((a : Account) (m : ℕ) → B.month_cost a m ≡ 0)
         → steps.new ≤ steps.old + step_bound core.old.history key.now command.now }
 {
@@ -61,11 +61,11 @@ fn replay_line<B: LoanBooks, L: Ledger>(
     ensures next { OnOk result (IsNext line.now core.old.history core.new.history) }
     ensures fault { IfErr result (λ f. (f ≡ EngineFault.OutOfMemory)
         ⊎ ((f ≡ EngineFault.Damaged place) × IsUnfit core.old.history line.now)) }
-    ensures bound { ((a : Account) (m : ℕ) → B.cost a m ≡ cost_of_month a m)
+    ensures bound { ((a : Account) (m : ℕ) → B.cost a m ≤ cost_of_month a m)
         → ((a : Account) (m : ℕ) → B.month_cost a m ≡ 0)
         → OnOk result (steps.new + history_bound [] core.old.history
         ≤ steps.old + history_bound [] core.new.history) }
-    ensures bound_err { ((a : Account) (m : ℕ) → B.cost a m ≡ cost_of_month a m)
+    ensures bound_err { ((a : Account) (m : ℕ) → B.cost a m ≤ cost_of_month a m)
         → ((a : Account) (m : ℕ) → B.month_cost a m ≡ 0)
         → OnErr result (IsLineWithin core.old.history line.now steps.old steps.new) }
 {
@@ -88,10 +88,10 @@ pub(crate) fn replay<B: LoanBooks, L: Ledger>(
     ensures lines { IfOk result (λ core. lines_of_history core.history ≡ lines_in frames.now) }
     ensures history { IfOk result (λ core. IsHistory core.history) }
     ensures fault { IfErr result (IsReplayFault frames.now) }
-    ensures bound { ((a : Account) (m : ℕ) → B.cost a m ≡ cost_of_month a m)
+    ensures bound { ((a : Account) (m : ℕ) → B.cost a m ≤ cost_of_month a m)
         → ((a : Account) (m : ℕ) → B.month_cost a m ≡ 0)
         → IfOk result (λ core. steps.new ≤ steps.old + history_bound [] core.history) }
-    ensures bound_err { ((a : Account) (m : ℕ) → B.cost a m ≡ cost_of_month a m)
+    ensures bound_err { ((a : Account) (m : ℕ) → B.cost a m ≤ cost_of_month a m)
         → ((a : Account) (m : ℕ) → B.month_cost a m ≡ 0)
         → OnErr result (AreLinesWithin (lines_in frames.now) steps.old steps.new) }
 {

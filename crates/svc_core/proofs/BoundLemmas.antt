@@ -1,4 +1,4 @@
--- Where the cost of a call about a month is the cost of that month, and the facts of a month cost nothing, what a
+-- Where a call about a month costs no more than that month, and the facts of a month cost nothing, what a
 -- request costs lies within the bound on its steps.
 use Rattle.std.proofs.Common.{◌≡◌, ℕ, ◌+◌, ◌-◌, ◌≤◌, Bool, true, false, cond, List, [], ◌∷◌, length, get_or, arith, refl, sym, ap, subst, ◌∙◌}
 use Rattle.std.specs.Prelude.{Some, None, ℤ, nat_le, if◌then◌else◌}
@@ -97,24 +97,24 @@ months_free : (mc : Account → ℕ → ℕ) (a : Account) (m n : ℕ) → ((b :
 unfolding months_cost
 months_free mc a m n free = zero_sum (mc a) (range_with_len m n) (λ p. free a p)
 
-changing_is : (cost mc : Account → ℕ → ℕ) (w : World) (m : ℕ) (l : Held) → ((b : Account) (p : ℕ) → cost b p ≡ cost_of_month b p) → ((b : Account) (p : ℕ) → mc b p ≡ 0) → changing_cost cost mc w m l ≡ cost_of_month l.account m
-changing_is cost mc w m l is free = (let n = month_after (last_month w.seals.reports) - m in omega (arith, is l.account m, months_free mc l.account m n free))
+changing_within : (cost mc : Account → ℕ → ℕ) (w : World) (m : ℕ) (l : Held) → ((b : Account) (p : ℕ) → cost b p ≤ cost_of_month b p) → ((b : Account) (p : ℕ) → mc b p ≡ 0) → changing_cost cost mc w m l ≤ cost_of_month l.account m
+changing_within cost mc w m l is free = (let n = month_after (last_month w.seals.reports) - m in omega (arith, is l.account m, months_free mc l.account m n free))
 
-asking_is : (cost : Account → ℕ → ℕ) (w : World) (id m : ℕ) → ((b : Account) (p : ℕ) → cost b p ≡ cost_of_month b p) → asking_month cost w id m ≡ cost_for w id m
-asking_is cost w id m is = elim (find_loan id w.loans) as (λ o. option_map_or (λ (l : Held). cost l.account m) o 0 ≡ option_map_or (λ (l : Held). cost_of_month l.account m) o 0) [ None ↦ refl | Some l ↦ is l.account m ]
+month_within : (cost : Account → ℕ → ℕ) (w : World) (id m : ℕ) → ((b : Account) (p : ℕ) → cost b p ≤ cost_of_month b p) → asking_month cost w id m ≤ cost_for w id m
+month_within cost w id m is = elim (find_loan id w.loans) as (λ o. option_map_or (λ (l : Held). cost l.account m) o 0 ≤ option_map_or (λ (l : Held). cost_of_month l.account m) o 0) [ None ↦ omega arith | Some l ↦ is l.account m ]
 
-entering_is : (cost mc : Account → ℕ → ℕ) (w : World) (id m : ℕ) → ((b : Account) (p : ℕ) → cost b p ≡ cost_of_month b p) → ((b : Account) (p : ℕ) → mc b p ≡ 0) → entering_cost cost mc w id m ≡ cost_for w id m
-entering_is cost mc w id m is free = elim (find_loan id w.loans) as (λ o. option_map_or (changing_cost cost mc w m) o 0 ≡ option_map_or (λ (l : Held). cost_of_month l.account m) o 0) [ None ↦ refl | Some l ↦ changing_is cost mc w m l is free ]
+entering_within : (cost mc : Account → ℕ → ℕ) (w : World) (id m : ℕ) → ((b : Account) (p : ℕ) → cost b p ≤ cost_of_month b p) → ((b : Account) (p : ℕ) → mc b p ≡ 0) → entering_cost cost mc w id m ≤ cost_for w id m
+entering_within cost mc w id m is free = elim (find_loan id w.loans) as (λ o. option_map_or (changing_cost cost mc w m) o 0 ≤ option_map_or (λ (l : Held). cost_of_month l.account m) o 0) [ None ↦ omega arith | Some l ↦ changing_within cost mc w m l is free ]
 
-reversing_is : (cost mc : Account → ℕ → ℕ) (w : World) (number : ℕ) (l : Held) → ((b : Account) (p : ℕ) → cost b p ≡ cost_of_month b p) → ((b : Account) (p : ℕ) → mc b p ≡ 0) → reversing_cost cost mc w number l ≡ entry_cost number l
-reversing_is cost mc w number l is free = elim (entry_of l.account number) as (λ o. option_map_or (λ (e : Entry). changing_cost cost mc w (month_of e.day) l) o 0 ≡ option_map_or (λ (e : Entry). cost_of_month l.account (month_of e.day)) o 0) [ None ↦ refl | Some e ↦ changing_is cost mc w (month_of e.day) l is free ]
+reversing_within : (cost mc : Account → ℕ → ℕ) (w : World) (number : ℕ) (l : Held) → ((b : Account) (p : ℕ) → cost b p ≤ cost_of_month b p) → ((b : Account) (p : ℕ) → mc b p ≡ 0) → reversing_cost cost mc w number l ≤ entry_cost number l
+reversing_within cost mc w number l is free = elim (entry_of l.account number) as (λ o. option_map_or (λ (e : Entry). changing_cost cost mc w (month_of e.day) l) o 0 ≤ option_map_or (λ (e : Entry). cost_of_month l.account (month_of e.day)) o 0) [ None ↦ omega arith | Some e ↦ changing_within cost mc w (month_of e.day) l is free ]
 
-reversals_are : (cost mc : Account → ℕ → ℕ) (w : World) (id number : ℕ) → ((b : Account) (p : ℕ) → cost b p ≡ cost_of_month b p) → ((b : Account) (p : ℕ) → mc b p ≡ 0) → option_map_or (reversing_cost cost mc w number) (find_loan id w.loans) 0 ≡ cost_for_entry w id number
-reversals_are cost mc w id number is free = elim (find_loan id w.loans) as (λ o. option_map_or (reversing_cost cost mc w number) o 0 ≡ option_map_or (entry_cost number) o 0) [ None ↦ refl | Some l ↦ reversing_is cost mc w number l is free ]
+reversals_within : (cost mc : Account → ℕ → ℕ) (w : World) (id number : ℕ) → ((b : Account) (p : ℕ) → cost b p ≤ cost_of_month b p) → ((b : Account) (p : ℕ) → mc b p ≡ 0) → option_map_or (reversing_cost cost mc w number) (find_loan id w.loans) 0 ≤ cost_for_entry w id number
+reversals_within cost mc w id number is free = elim (find_loan id w.loans) as (λ o. option_map_or (reversing_cost cost mc w number) o 0 ≤ option_map_or (entry_cost number) o 0) [ None ↦ omega arith | Some l ↦ reversing_within cost mc w number l is free ]
 
-advancing_is : (cost : Account → ℕ → ℕ) (today : ℕ) (ls : List Held) → ((b : Account) (p : ℕ) → cost b p ≡ cost_of_month b p) → advancing_cost cost today ls ≡ cost_for_all (month_of today) ls
-advancing_is cost today [] is = refl
-advancing_is cost today (l ∷ ls) is = omega (arith, sum_by-cons (λ (k : Held). cost k.account (month_of today)) l ls, is l.account (month_of today), advancing_is cost today ls is)
+advancing_within : (cost : Account → ℕ → ℕ) (today : ℕ) (ls : List Held) → ((b : Account) (p : ℕ) → cost b p ≤ cost_of_month b p) → advancing_cost cost today ls ≤ cost_for_all (month_of today) ls
+advancing_within cost today [] is = omega arith
+advancing_within cost today (l ∷ ls) is = omega (arith, sum_by-cons (λ (k : Held). cost k.account (month_of today)) l ls, is l.account (month_of today), advancing_within cost today ls is)
 
 closing_free : (mc : Account → ℕ → ℕ) (p : ℕ) (ls : List Held) → ((b : Account) (q : ℕ) → mc b q ≡ 0) → closing_cost mc p ls ≡ 0
 closing_free mc p ls free = zero_sum (λ (l : Held). if nat_le (boarded_month l) p then mc l.account p else 0) ls (λ l. elim (nat_le (boarded_month l) p) as (λ v. (if v then mc l.account p else 0) ≡ 0) [ true ↦ free l.account p | false ↦ refl ])
@@ -137,9 +137,9 @@ payoff_more n id d w c h e =
 
 -- ---- a refused command, and a fresh one
 
-refused_within : (cost : Account → ℕ → ℕ) (w : World) (c : Command) → ((b : Account) (p : ℕ) → cost b p ≡ cost_of_month b p) → refusing_cost cost w c ≤ bound_refused w c
-refused_within cost w (command.Curtail id d c) is = omega (arith, asking_is cost w id (month_of d) is)
-refused_within cost w (command.Payoff id d c) is = omega (arith, asking_is cost w id (month_of d) is)
+refused_within : (cost : Account → ℕ → ℕ) (w : World) (c : Command) → ((b : Account) (p : ℕ) → cost b p ≤ cost_of_month b p) → refusing_cost cost w c ≤ bound_refused w c
+refused_within cost w (command.Curtail id d c) is = omega (arith, month_within cost w id (month_of d) is)
+refused_within cost w (command.Payoff id d c) is = omega (arith, month_within cost w id (month_of d) is)
 refused_within cost w (command.Day d) is = omega arith
 refused_within cost w (command.Board id t) is = omega arith
 refused_within cost w (command.Pay id d c over) is = omega arith
@@ -155,20 +155,20 @@ refused_within cost w (command.Close p) is = omega arith
 refused_within cost w (command.Remit p) is = omega arith
 refused_within cost w (command.Retype id from kind) is = omega arith
 
-fresh_within : (cost mc : Account → ℕ → ℕ) (n : ℕ) (w : World) (c : Command) → ((b : Account) (p : ℕ) → cost b p ≡ cost_of_month b p) → ((b : Account) (p : ℕ) → mc b p ≡ 0) → IsWorld n w → refusal_of n w c ≡ None → refusing_cost cost w c + preparing_cost cost w c + accepting_cost cost mc w (after (n + 1) w c) c ≤ bound_fresh w (after (n + 1) w c) c
-fresh_within cost mc n w (command.Day d) is free h e = omega (arith, advancing_is cost w.today (after (n + 1) w (command.Day d)).loans is)
+fresh_within : (cost mc : Account → ℕ → ℕ) (n : ℕ) (w : World) (c : Command) → ((b : Account) (p : ℕ) → cost b p ≤ cost_of_month b p) → ((b : Account) (p : ℕ) → mc b p ≡ 0) → IsWorld n w → refusal_of n w c ≡ None → refusing_cost cost w c + preparing_cost cost w c + accepting_cost cost mc w (after (n + 1) w c) c ≤ bound_fresh w (after (n + 1) w c) c
+fresh_within cost mc n w (command.Day d) is free h e = omega (arith, advancing_within cost w.today (after (n + 1) w (command.Day d)).loans is)
 fresh_within cost mc n w (command.Board id t) is free h e = omega (arith, is (begun t w.today) (month_of t.boarded))
-fresh_within cost mc n w (command.Pay id d c over) is free h e = omega (arith, entering_is cost mc (after (n + 1) w (command.Pay id d c over)) id (month_of d) is free)
-fresh_within cost mc n w (command.Curtail id d c) is free h e = omega (arith, asking_is cost w id (month_of d) is, curtail_more n id d w c h e, entering_is cost mc (after (n + 1) w (command.Curtail id d c)) id (month_of d) is free)
-fresh_within cost mc n w (command.Payoff id d c) is free h e = omega (arith, asking_is cost w id (month_of d) is, payoff_more n id d w c h e, entering_is cost mc (after (n + 1) w (command.Payoff id d c)) id (month_of d) is free)
-fresh_within cost mc n w (command.Deposit id d c) is free h e = omega (arith, entering_is cost mc (after (n + 1) w (command.Deposit id d c)) id (month_of d) is free)
-fresh_within cost mc n w (command.Disburse id d c line) is free h e = omega (arith, entering_is cost mc (after (n + 1) w (command.Disburse id d c line)) id (month_of d) is free)
-fresh_within cost mc n w (command.Refund id c) is free h e = omega (arith, entering_is cost mc (after (n + 1) w (command.Refund id c)) id (month_of w.today) is free)
-fresh_within cost mc n w (command.Waive id c) is free h e = omega (arith, entering_is cost mc (after (n + 1) w (command.Waive id c)) id (month_of w.today) is free)
-fresh_within cost mc n w (command.Reverse id number) is free h e = omega (arith, reversals_are cost mc (after (n + 1) w (command.Reverse id number)) id number is free)
+fresh_within cost mc n w (command.Pay id d c over) is free h e = omega (arith, entering_within cost mc (after (n + 1) w (command.Pay id d c over)) id (month_of d) is free)
+fresh_within cost mc n w (command.Curtail id d c) is free h e = omega (arith, month_within cost w id (month_of d) is, curtail_more n id d w c h e, entering_within cost mc (after (n + 1) w (command.Curtail id d c)) id (month_of d) is free)
+fresh_within cost mc n w (command.Payoff id d c) is free h e = omega (arith, month_within cost w id (month_of d) is, payoff_more n id d w c h e, entering_within cost mc (after (n + 1) w (command.Payoff id d c)) id (month_of d) is free)
+fresh_within cost mc n w (command.Deposit id d c) is free h e = omega (arith, entering_within cost mc (after (n + 1) w (command.Deposit id d c)) id (month_of d) is free)
+fresh_within cost mc n w (command.Disburse id d c line) is free h e = omega (arith, entering_within cost mc (after (n + 1) w (command.Disburse id d c line)) id (month_of d) is free)
+fresh_within cost mc n w (command.Refund id c) is free h e = omega (arith, entering_within cost mc (after (n + 1) w (command.Refund id c)) id (month_of w.today) is free)
+fresh_within cost mc n w (command.Waive id c) is free h e = omega (arith, entering_within cost mc (after (n + 1) w (command.Waive id c)) id (month_of w.today) is free)
+fresh_within cost mc n w (command.Reverse id number) is free h e = omega (arith, reversals_within cost mc (after (n + 1) w (command.Reverse id number)) id number is free)
 fresh_within cost mc n w (command.Line id line kind month every c) is free h e = omega arith
 fresh_within cost mc n w (command.Drop id line) is free h e = omega arith
-fresh_within cost mc n w (command.Analyse id plan) is free h e = omega (arith, entering_is cost mc (after (n + 1) w (command.Analyse id plan)) id (month_of w.today) is free)
+fresh_within cost mc n w (command.Analyse id plan) is free h e = omega (arith, entering_within cost mc (after (n + 1) w (command.Analyse id plan)) id (month_of w.today) is free)
 fresh_within cost mc n w (command.Close p) is free h e = omega (arith, closing_free mc p w.loans free)
 fresh_within cost mc n w (command.Remit p) is free h e = omega arith
 fresh_within cost mc n w (command.Retype id from kind) is free h e = omega arith
@@ -178,12 +178,12 @@ fresh_within cost mc n w (command.Retype id from kind) is free h e = omega arith
 known_kept : (h : List Accepted) (key : List ℕ) (c : Command) (k : Known) (n : ℕ) → known h key ≡ Some k → where_fresh (judged h key c) n ≡ 0
 known_kept h key c k n e = ap (λ j. where_fresh j n) (judged_known h key c k e) ∙ (elim (is_same k.command c) as (λ v. where_fresh (if v then Kept k.reply else Refused (KeyReused k.reply.number)) n ≡ 0) [ true ↦ refl | false ↦ refl ])
 
-unknown_within : (cost mc : Account → ℕ → ℕ) (h : List Accepted) (key : List ℕ) (c : Command) (j : Judgement) → ((b : Account) (p : ℕ) → cost b p ≡ cost_of_month b p) → ((b : Account) (p : ℕ) → mc b p ≡ 0) → IsHistory h → judged h key c ≡ j → unknown_cost cost (world h) c j + where_fresh j (accepted_cost cost mc h c) ≤ bound_by (world h) (after (length h + 1) (world h) c) c j
+unknown_within : (cost mc : Account → ℕ → ℕ) (h : List Accepted) (key : List ℕ) (c : Command) (j : Judgement) → ((b : Account) (p : ℕ) → cost b p ≤ cost_of_month b p) → ((b : Account) (p : ℕ) → mc b p ≡ 0) → IsHistory h → judged h key c ≡ j → unknown_cost cost (world h) c j + where_fresh j (accepted_cost cost mc h c) ≤ bound_by (world h) (after (length h + 1) (world h) c) c j
 unknown_within cost mc h key c (Kept r) is free hist e = omega arith
 unknown_within cost mc h key c (Refused why) is free hist e = omega (arith, refused_within cost (world h) c is)
 unknown_within cost mc h key c Fresh is free hist e = omega (arith, fresh_within cost mc (length h) (world h) c is free (is_world h hist) (fresh_none h key c e))
 
-pub submitting_within : (cost mc : Account → ℕ → ℕ) (h : List Accepted) (key : List ℕ) (c : Command) → ((b : Account) (p : ℕ) → cost b p ≡ cost_of_month b p) → ((b : Account) (p : ℕ) → mc b p ≡ 0) → IsHistory h → submitting_cost cost mc h key c ≤ step_bound h key c
+pub submitting_within : (cost mc : Account → ℕ → ℕ) (h : List Accepted) (key : List ℕ) (c : Command) → ((b : Account) (p : ℕ) → cost b p ≤ cost_of_month b p) → ((b : Account) (p : ℕ) → mc b p ≡ 0) → IsHistory h → submitting_cost cost mc h key c ≤ step_bound h key c
 unfolding step_bound
 submitting_within cost mc h key c is free hist =
     let j = judged h key c in
@@ -194,19 +194,19 @@ submitting_within cost mc h key c is free hist =
       | Some k ↦ λ e. omega (arith, known_kept h key c k (accepted_cost cost mc h c) e)
     ] refl
 
-quoting_is : (cost : Account → ℕ → ℕ) (w : World) (id d : ℕ) → ((b : Account) (p : ℕ) → cost b p ≡ cost_of_month b p) → option_map_or (quote_cost cost d) (find_loan id w.loans) 0 ≡ option_map_or (quote_cost cost_of_month d) (find_loan id w.loans) 0
-quoting_is cost w id d is = elim (find_loan id w.loans) as (λ o. option_map_or (quote_cost cost d) o 0 ≡ option_map_or (quote_cost cost_of_month d) o 0) [
-  | None ↦ refl
-  | Some l ↦ elim (nat_le d l.account.today) as (λ v. (if v then cost l.account (month_of d) else cost (advanced_to d l.account) (month_of l.account.today)) ≡ (if v then cost_of_month l.account (month_of d) else cost_of_month (advanced_to d l.account) (month_of l.account.today))) [
+quoting_within : (cost : Account → ℕ → ℕ) (w : World) (id d : ℕ) → ((b : Account) (p : ℕ) → cost b p ≤ cost_of_month b p) → option_map_or (quote_cost cost d) (find_loan id w.loans) 0 ≤ option_map_or (quote_cost cost_of_month d) (find_loan id w.loans) 0
+quoting_within cost w id d is = elim (find_loan id w.loans) as (λ o. option_map_or (quote_cost cost d) o 0 ≤ option_map_or (quote_cost cost_of_month d) o 0) [
+  | None ↦ omega arith
+  | Some l ↦ elim (nat_le d l.account.today) as (λ v. (if v then cost l.account (month_of d) else cost (advanced_to d l.account) (month_of l.account.today)) ≤ (if v then cost_of_month l.account (month_of d) else cost_of_month (advanced_to d l.account) (month_of l.account.today))) [
     | true ↦ is l.account (month_of d)
     | false ↦ is (advanced_to d l.account) (month_of l.account.today)
   ]
 ]
 
-pub asking_within : (cost : Account → ℕ → ℕ) (w : World) (q : Query) → ((b : Account) (p : ℕ) → cost b p ≡ cost_of_month b p) → asking_cost cost w q ≤ query_bound w q
+pub asking_within : (cost : Account → ℕ → ℕ) (w : World) (q : Query) → ((b : Account) (p : ℕ) → cost b p ≤ cost_of_month b p) → asking_cost cost w q ≤ query_bound w q
 unfolding query_bound
-asking_within cost w (query.At id d) is = omega (arith, asking_is cost w id (month_of d) is)
-asking_within cost w (query.Payoff id d) is = omega (arith, asking_is cost w id (month_of d) is)
+asking_within cost w (query.At id d) is = omega (arith, month_within cost w id (month_of d) is)
+asking_within cost w (query.Payoff id d) is = omega (arith, month_within cost w id (month_of d) is)
 asking_within cost w (query.Books id) is = omega arith
 asking_within cost w (query.Escrow id) is = omega arith
 asking_within cost w (query.Report p) is = omega arith
@@ -215,7 +215,7 @@ asking_within cost w query.Custodial is = omega arith
 asking_within cost w (query.Rows number) is = omega arith
 asking_within cost w (query.Loan id) is = omega arith
 asking_within cost w (query.History id) is = omega arith
-asking_within cost w (query.Quote id d) is = omega (arith, quoting_is cost w id d is)
+asking_within cost w (query.Quote id d) is = omega (arith, quoting_within cost w id d is)
 asking_within cost w (query.Arrears id) is = omega arith
 asking_within cost w query.Aging is = omega arith
 asking_within cost w query.Status is = omega arith

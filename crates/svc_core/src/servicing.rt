@@ -144,7 +144,7 @@ impl<B: LoanBooks> Core<B> {
         // After a refusal or want of memory nothing was accepted, and the bound is that of the judgement alone.
         ensures refused_steps { OnErr result (steps.new ≤ steps.old
             + core.judging_cost B.cost self.old.history key.now command.now) }
-        ensures bound { ((a : Account) (m : ℕ) → B.cost a m ≡ cost_of_month a m)
+        ensures bound { ((a : Account) (m : ℕ) → B.cost a m ≤ cost_of_month a m)
             → ((a : Account) (m : ℕ) → B.month_cost a m ≡ 0)
             → steps.new ≤ steps.old + step_bound self.old.history key.now command.now }
     {
@@ -163,7 +163,7 @@ impl<B: LoanBooks> Core<B> {
         ensures refused { IfErr result (core.IsQueryFault (query_refusal self.now.history query.now)) }
         ensures memory { IfErr result (λ f. f ≡ CoreFault.OutOfMemory → WantsMemory query.now) }
         ensures steps { steps.new ≤ steps.old + asking_cost B.cost (world self.now.history) query.now }
-        ensures bound { ((a : Account) (m : ℕ) → B.cost a m ≡ cost_of_month a m)
+        ensures bound { ((a : Account) (m : ℕ) → B.cost a m ≤ cost_of_month a m)
             → steps.new ≤ steps.old + query_bound (world self.now.history) query.now }
     {
         answer(

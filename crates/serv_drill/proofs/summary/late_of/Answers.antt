@@ -1,4 +1,5 @@
 use Rattle.std.proofs.Common.{length, refl, subst, arith}
+use Rattle.std.proofs.Math.Nat.{le_refl}
 use Rattle.svc_types.specs.declared.requests.Query.TheVariants as query
 use Rattle.svc_world.specs.World.{world}
 use Rattle.svc_world.specs.Answers.{query_refusal}
@@ -9,7 +10,7 @@ use Rattle.serv_drill.proofs.summary.late_of.Goals as goal
 
 pub returns-in-Ok-clause-steps : goal.returns-in-Ok-clause-steps
 unfolding query_bound
-returns-in-Ok-clause-steps g c = let most = c.ask.ensures.bound (λ a m. refl) in omega (arith, most)
+returns-in-Ok-clause-steps g c = let most = c.ask.ensures.bound (λ a m. le_refl _) in omega (arith, most)
 
 pub returns-in-Err-Refused-clause-late : goal.returns-in-Err-Refused-clause-late
 returns-in-Err-Refused-clause-late g c =
@@ -19,8 +20,8 @@ returns-in-Err-Refused-clause-late g c =
 
 pub returns-in-Err-Refused-clause-steps : goal.returns-in-Err-Refused-clause-steps
 unfolding query_bound
-returns-in-Err-Refused-clause-steps g c = let most = c.ask.ensures.bound (λ a m. refl) in omega (arith, most)
+returns-in-Err-Refused-clause-steps g c = let most = c.ask.ensures.bound (λ a m. le_refl _) in omega (arith, most)
 
 pub returns-in-Err-OutOfMemory-clause-steps : goal.returns-in-Err-OutOfMemory-clause-steps
 unfolding query_bound
-returns-in-Err-OutOfMemory-clause-steps g c = let most = c.ask.ensures.bound (λ a m. refl) in omega (arith, most)
+returns-in-Err-OutOfMemory-clause-steps g c = let most = c.ask.ensures.bound (λ a m. le_refl _) in omega (arith, most)

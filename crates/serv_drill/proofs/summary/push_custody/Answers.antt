@@ -1,4 +1,5 @@
 use Rattle.std.proofs.Common.{◌++◌, refl, ap, ◌∙◌, arith}
+use Rattle.std.proofs.Math.Nat.{le_refl}
 use Rattle.std.proofs.lemmas.Result.{on_ok_weaker}
 use Rattle.svc_core.specs.Bound.{query_bound}
 use Rattle.serv_drill.proofs.SummaryLemmas.{custody_spelled, custody_text}
@@ -13,8 +14,8 @@ returns-in-Ok-clause-pushed g c =
 
 pub returns-in-Ok-clause-steps : goal.returns-in-Ok-clause-steps
 unfolding query_bound
-returns-in-Ok-clause-steps g c = let most = c.ask.ensures.bound (λ a m. refl) in omega (arith, most)
+returns-in-Ok-clause-steps g c = let most = c.ask.ensures.bound (λ a m. le_refl _) in omega (arith, most)
 
 pub returns-in-Err-clause-steps : goal.returns-in-Err-clause-steps
 unfolding query_bound
-returns-in-Err-clause-steps g c = let most = c.ask.ensures.bound (λ a m. refl) in omega (arith, most)
+returns-in-Err-clause-steps g c = let most = c.ask.ensures.bound (λ a m. le_refl _) in omega (arith, most)

@@ -9,6 +9,6 @@ use Rattle.serv_engine.proofs.replaying.replay.Given as goal
 abbrev pub invariant-loop-i : goal.invariant-loop-i
 invariant-loop-i g l = record {
   lines : lines_of_history l.core.history ≡ take l.i (lines_in l.frames);
-  bound : ((a : Account) (m : ℕ) → g.B.LoanBooks.cost a m ≡ cost_of_month a m)
+  bound : ((a : Account) (m : ℕ) → g.B.LoanBooks.cost a m ≤ cost_of_month a m)
       → ((a : Account) (m : ℕ) → g.B.LoanBooks.month_cost a m ≡ 0) → l.steps ≤ l.fn.steps + history_bound [] l.core.history;
 }
