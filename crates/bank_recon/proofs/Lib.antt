@@ -7,7 +7,6 @@ pub mod RowLemmas
 pub mod SpanLemmas
 pub mod AmountLemmas
 pub mod ColumnLemmas
-pub mod RecordLemmas
 pub mod ReadingLemmas
 pub mod TextLemmas
 pub mod AskLemmas

@@ -1,17 +1,16 @@
 -- What a bank's list says, row by row; a list says one thing.
-use Rattle.std.proofs.Common.{◌≡◌, ◌≢◌, ◌<◌, ◌+◌, ◌^◌, ◌⊎◌, inl, inr, ℕ, zero, suc, List, [], ◌∷◌, ◌++◌, length, map, get_or, refl, sym, ap, ◌∙◌, subst, arith, append_assoc}
-use Rattle.std.specs.Prelude.{Result, Ok, Err, IfOk, IfErr, filter}
+use Rattle.std.proofs.Common.{◌≡◌, ◌<◌, ◌+◌, ◌^◌, ℕ, zero, suc, List, [], ◌∷◌, ◌++◌, length, map, get_or, refl, sym, ap, ◌∙◌, subst, arith}
+use Rattle.std.specs.Prelude.{Result, Ok, Err, IfOk, IfErr, OnOk, filter}
 use Rattle.std.specs.List.{AllZip}
 use Rattle.std.proofs.lemmas.List.{map-append}
 use Rattle.std.proofs.lemmas.List.Elements.{filter-append}
-use Rattle.csv.specs.Reading.{Reached, default_config, strip_bom}
-use Rattle.csv.specs.declared.parser.State.{State}
-use Rattle.csv.specs.declared.parser.State.TheVariants.{StartRecord}
 use Rattle.svc_base.specs.Text.{text_of_number, text_of_signed}
 use Rattle.svc_base.proofs.TextLemmas.{number_injective}
 use Rattle.custodial_book.specs.declared.part.Account.{Account}
 use Rattle.custodial_book.specs.declared.part.Account.TheVariants.{T, P}
-use Rattle.serv_import.specs.Batches.{records_of}
+use Rattle.serv_rows.specs.Files.{records_of, BeginsWith, IsFile}
+use Rattle.serv_rows.specs.Columns.{count, column}
+use Rattle.serv_rows.proofs.ColumnLemmas.{one_column}
 use Rattle.bank_recon.specs.declared.item.BankItem.{BankItem}
 use Rattle.bank_recon.specs.declared.line.LineKind.{LineKind}
 use Rattle.bank_recon.specs.declared.line.LineKind.TheVariants.{Open, Bank}
@@ -19,25 +18,12 @@ use Rattle.bank_recon.specs.declared.line.Line.{Line}
 use Rattle.bank_recon.specs.declared.fault.ReconFault.{ReconFault}
 use Rattle.bank_recon.specs.declared.fault.ReconFault.TheVariants.{Bad, OutOfMemory}
 use Rattle.bank_recon.specs.declared.statement.Statement.{Statement}
-use Rattle.bank_recon.specs.Rows.{header, text_of_kind, text_of_account, row_of, IsLine, Fits, IsFirstMisfit, IsBadAt, count, column}
+use Rattle.bank_recon.specs.Rows.{header, text_of_kind, text_of_account, row_of, IsLine, Fits, IsBadAt}
 use Rattle.bank_recon.specs.Reading.{is_kind, items_of_kind, IsStatement, IsBadRow, headless, misfit, Reading, Lists, BadRow, IsReading, IsAnswered, IsFault}
-use Rattle.bank_recon.specs.Taking.{TakesRow, TakesHeader, IsWrong, IsRowFault}
+use Rattle.bank_recon.specs.Taking.{HasLines, TakesLine}
 use Rattle.bank_recon.proofs.AmountLemmas.{signed_injective}
-use Rattle.bank_recon.proofs.RecordLemmas.{rows_begin}
 
 -- ---- row by row
-
--- what rows after the header have
-pub record HasLines (rows : List (List (List ℕ))) (carried bank : List BankItem) : Type 0 where
-  pub lines : List Line
-  pub each : AllZip IsLine rows lines
-  pub carried_are : carried ≡ items_of_kind Open lines
-  pub bank_are : bank ≡ items_of_kind Bank lines
-
--- what the rows so far say: the first is the header
-abbrev pub AreTaken : List (List (List ℕ)) → List BankItem → List BankItem → Type 0
-AreTaken [] carried bank = (carried ≡ []) × (bank ≡ [])
-AreTaken (first ∷ rows) carried bank = (first ≡ header) × HasLines rows carried bank
 
 zip_push : (rows : List (List (List ℕ))) (lines : List Line) (row : List (List ℕ)) (line : Line) → AllZip IsLine rows lines → IsLine row line → AllZip IsLine (rows ++ row ∷ []) (lines ++ line ∷ [])
 zip_push [] [] row line h is = (is, tt)
@@ -50,62 +36,47 @@ kind_push kind lines line =
     ap (map (λ (l : Line). l.item)) (filter-append (λ (l : Line). is_kind kind l.kind) lines (line ∷ []))
     ∙ map-append (λ (l : Line). l.item) (filter (λ (l : Line). is_kind kind l.kind) lines) (filter (λ (l : Line). is_kind kind l.kind) (line ∷ []))
 
-lines_more : (rows : List (List (List ℕ))) (row : List (List ℕ)) (old new : Statement) → HasLines rows old.carried.items old.bank.items → TakesRow row old new → HasLines (rows ++ row ∷ []) new.carried.items new.bank.items
-lines_more rows row old new h t = record {
-  lines = h.lines ++ t.line ∷ [];
-  each = zip_push rows h.lines row t.line h.each t.has;
-  carried_are = t.takes.carried ∙ ap (λ l. l ++ items_of_kind Open (t.line ∷ [])) h.carried_are ∙ sym (kind_push Open h.lines t.line);
-  bank_are = t.takes.bank ∙ ap (λ l. l ++ items_of_kind Bank (t.line ∷ [])) h.bank_are ∙ sym (kind_push Bank h.lines t.line);
+lines_more : (rows : List (List (List ℕ))) (row : List (List ℕ)) (line : Line) (old new : Statement) → IsLine row line → TakesLine line old new → HasLines rows old.carried.items old.bank.items
+    → HasLines (rows ++ row ∷ []) new.carried.items new.bank.items
+lines_more rows row line old new is takes h = record {
+  lines = h.lines ++ line ∷ [];
+  each = zip_push rows h.lines row line h.each is;
+  carried_are = takes.carried ∙ ap (λ l. l ++ items_of_kind Open (line ∷ [])) h.carried_are ∙ sym (kind_push Open h.lines line);
+  bank_are = takes.bank ∙ ap (λ l. l ++ items_of_kind Bank (line ∷ [])) h.bank_are ∙ sym (kind_push Bank h.lines line);
 }
 
--- one row more
-pub taken_more : (rows : List (List (List ℕ))) (number : ℕ) (row : List (List ℕ)) (old new : Statement) → AreTaken rows old.carried.items old.bank.items → number ≡ length rows + 1
-    → (number ≡ 1 → TakesHeader row old new) → (1 < number → TakesRow row old new) → AreTaken (rows ++ row ∷ []) new.carried.items new.bank.items
-taken_more [] number row old new taken e first more =
-    let t = first (omega arith) in
-    (t.is, record { lines = []; each = tt; carried_are = t.carried ∙ taken.0; bank_are = t.bank ∙ taken.1 })
-taken_more (r ∷ rows) number row old new taken e first more = (taken.0, lines_more rows row old new taken.1 (more (omega arith)))
+-- a row that has a line adds it
+pub line_taken : {A E : Type 0} (r : Result A E) (number : ℕ) (row : List (List ℕ)) (line : Line) (old new : Statement) → IsLine row line → OnOk r (TakesLine line old new)
+    → (before : List (List (List ℕ))) → number ≡ length before + 2 → HasLines before old.carried.items old.bank.items → OnOk r (HasLines (before ++ row ∷ []) new.carried.items new.bank.items)
+line_taken (Ok a) number row line old new is takes before e h = lines_more before row line old new is takes h
+line_taken (Err x) number row line old new is takes before e h = tt
 
--- where all rows are taken, and there is one, the list is read
-pub taken_all : (bytes : List ℕ) (rows : List (List (List ℕ))) (number : ℕ) (carried bank : List BankItem) → AreTaken rows carried bank → number ≡ length rows + 1 → number ≢ 1 → rows ≡ records_of bytes → IsStatement bytes carried bank
-taken_all bytes [] number carried bank taken e some all = absurd (some (omega arith))
-taken_all bytes (r ∷ rows) number carried bank taken e some all =
-    let h = taken.1 in
-    record {
-      rows = rows;
-      lines = h.lines;
-      begins = sym all ∙ ap (λ x. x ∷ rows) taken.0;
-      each = h.each;
-      carried_are = h.carried_are;
-      bank_are = h.bank_are;
-    }
-
--- a list without rows
-pub no_rows : (bytes : List ℕ) (rows : List (List (List ℕ))) (number : ℕ) → number ≡ length rows + 1 → number ≡ 1 → rows ≡ records_of bytes → IsBadRow bytes 1 1
-no_rows bytes [] number e one all = headless (λ h. let x = h.begins in cc)
-no_rows bytes (r ∷ rows) number e one all = absurd (omega arith)
+-- want of memory is no fault of the list
+pub memory_fault : {A : Type 0} (r : Result A ReconFault) (number : ℕ) (row : List (List ℕ)) (old : Statement) → IfErr r (λ f. f ≡ OutOfMemory)
+    → IfErr r (λ f. (bytes : List ℕ) (before after : List (List (List ℕ))) → records_of bytes ≡ header ∷ (before ++ row ∷ after) → number ≡ length before + 2 → HasLines before old.carried.items old.bank.items → IsFault bytes f)
+memory_fault (Ok a) number row old h = tt
+memory_fault (Err f) number row old h = λ bytes before after all e lines. subst (IsFault bytes) (sym h) tt
 
 -- a row that goes wrong is the first
-wrong_row : (bytes ys : List ℕ) (rows : List (List (List ℕ))) (row : List (List ℕ)) (s : State) (number r c : ℕ) (carried bank : List BankItem) → AreTaken rows carried bank → number ≡ length rows + 1
-    → Reached default_config StartRecord (strip_bom bytes) (rows ++ row ∷ []) s ys → IsWrong number row r c → IsBadRow bytes r c
-wrong_row bytes ys [] row s number r c carried bank taken e reached wrong =
-    let one : number ≡ 1 = omega arith in
-    let w = wrong.first one in
-    let begin = rows_begin bytes ys (row ∷ []) s reached in
-    let at : r ≡ 1 = wrong.same ∙ one in
-    subst (λ i. IsBadRow bytes i c) (sym at) (subst (λ j. IsBadRow bytes 1 j) (sym w.0)
-    (headless (λ h. w.1 (let same : row ∷ begin.0 ≡ header ∷ h.rows = sym begin.1 ∙ h.begins in cc))))
-wrong_row bytes ys (first ∷ rows) row s number r c carried bank taken e reached wrong =
-    let begin = rows_begin bytes ys (first ∷ rows ++ row ∷ []) s reached in
-    let all : records_of bytes ≡ header ∷ (rows ++ row ∷ begin.0) =
-    begin.1 ∙ ap (λ x. x ∷ ((rows ++ row ∷ []) ++ begin.0)) taken.0 ∙ ap (λ l. header ∷ l) (append_assoc rows (row ∷ []) begin.0) in
-    let at : r ≡ length rows + 2 = (let n = wrong.same in omega arith) in
-    subst (λ i. IsBadRow bytes i c) (sym at) (misfit rows begin.0 taken.1.lines row c all taken.1.each (wrong.after (omega arith)))
+pub wrong_row : (number c : ℕ) (row : List (List ℕ)) (old : Statement) → IsBadAt row c → (bytes : List ℕ) (before after : List (List (List ℕ))) → records_of bytes ≡ header ∷ (before ++ row ∷ after)
+    → number ≡ length before + 2 → HasLines before old.carried.items old.bank.items → IsBadRow bytes number c
+wrong_row number c row old bad bytes before after all e h =
+    subst (λ i. IsBadRow bytes i c) (sym e) (misfit before after h.lines row c all h.each bad)
 
-pub fault_told : (bytes ys : List ℕ) (rows : List (List (List ℕ))) (row : List (List ℕ)) (s : State) (number : ℕ) (carried bank : List BankItem) (f : ReconFault) → AreTaken rows carried bank → number ≡ length rows + 1
-    → Reached default_config StartRecord (strip_bom bytes) (rows ++ row ∷ []) s ys → IsRowFault number row f → IsFault bytes f
-fault_told bytes ys rows row s number carried bank (Bad r c) taken e reached wrong = wrong_row bytes ys rows row s number r c carried bank taken e reached wrong
-fault_told bytes ys rows row s number carried bank OutOfMemory taken e reached wrong = tt
+-- a list without the header
+pub no_header : (bytes : List ℕ) → (BeginsWith header bytes → ⊥) → IsBadRow bytes 1 1
+no_header bytes none = headless none
+
+-- what a list says, of what is read of it
+pub statement_told : (bytes : List ℕ) (s : Statement) → IsFile header (λ records (s : Statement). HasLines records s.carried.items s.bank.items) bytes s → IsStatement bytes s.carried.items s.bank.items
+statement_told bytes s h = record {
+  rows = h.rows;
+  lines = h.rows_say.lines;
+  begins = h.begins;
+  each = h.rows_say.each;
+  carried_are = h.rows_say.carried_are;
+  bank_are = h.rows_say.bank_are;
+}
 
 -- ---- a row has one line
 
@@ -145,29 +116,6 @@ line_fits l (suc (suc (suc (suc i)))) row h = tt
 not_bad : (row : List (List ℕ)) (l : Line) (c : ℕ) → IsLine row l → IsBadAt row c → ⊥
 not_bad row l c h (count not) = not (ap length h.fields)
 not_bad row l c h (column place n m) = m.here (subst (λ r. Fits r place) (sym h.fields) (line_fits l place row h))
-
-before_or_after : (p q : ℕ) → (p < q) ⊎ (p ≡ q) ⊎ (q < p)
-before_or_after zero zero = inr (inl refl)
-before_or_after zero (suc q) = inl (omega arith)
-before_or_after (suc p) zero = inr (inr (omega arith))
-before_or_after (suc p) (suc q) = next (before_or_after p q) where
-  next : (p < q) ⊎ (p ≡ q) ⊎ (q < p) → (suc p < suc q) ⊎ (suc p ≡ suc q) ⊎ (suc q < suc p)
-  next (inl h) = inl (omega arith)
-  next (inr (inl h)) = inr (inl (ap suc h))
-  next (inr (inr h)) = inr (inr (omega arith))
-
-one_misfit : (row : List (List ℕ)) (p q : ℕ) → IsFirstMisfit row p → IsFirstMisfit row q → p ≡ q
-one_misfit row p q h k = pick (before_or_after p q) where
-  pick : (p < q) ⊎ (p ≡ q) ⊎ (q < p) → p ≡ q
-  pick (inl l) = absurd (h.here (k.before p l))
-  pick (inr (inl e)) = e
-  pick (inr (inr l)) = absurd (k.here (h.before q l))
-
-one_column : (row : List (List ℕ)) (m n : ℕ) → IsBadAt row m → IsBadAt row n → m ≡ n
-one_column row m n (count a) (count b) = refl
-one_column row m n (count a) (column q k y) = absurd (a k)
-one_column row m n (column p k x) (count b) = absurd (b k)
-one_column row m n (column p k x) (column q k' y) = ap (λ i. i + 1) (one_misfit row p q x y)
 
 -- ---- a list has one reading
 
@@ -225,7 +173,7 @@ one_bad bytes r c s d (misfit before after lines row col all each bad) (headless
 one_bad bytes r c s d (misfit b1 a1 l1 r1 c1 all1 each1 bad1) (misfit b2 a2 l2 r2 c2 all2 each2 bad2) =
     let rest : b1 ++ r1 ∷ a1 ≡ b2 ++ r2 ∷ a2 = rest_told header (b1 ++ r1 ∷ a1) (b2 ++ r2 ∷ a2) (sym all1 ∙ all2) in
     let f = first_same b1 b2 a1 a2 r1 r2 l1 l2 c1 c2 rest each1 each2 bad1 bad2 in
-    (ap (λ n. n + 2) f.0, one_column r2 c1 c2 (subst (λ x. IsBadAt x c1) f.1 bad1) bad2)
+    (ap (λ n. n + 2) f.0, one_column 4 Fits r2 c1 c2 (subst (λ x. IsBadAt x c1) f.1 bad1) bad2)
 
 pub one_reading : (bytes : List ℕ) (x y : Reading) → IsReading bytes x → IsReading bytes y → x ≡ y
 one_reading bytes (Lists a b) (Lists c d) h k = (let e = one_statement bytes a b c d h k in rw (e.0, e.1) refl)

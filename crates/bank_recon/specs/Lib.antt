@@ -5,7 +5,6 @@ pub mod Rows
 pub mod Fields
 pub mod Reading
 pub mod Taking
-pub mod SomeCents
 pub mod Keys
 pub mod Counting
 pub mod Finding

@@ -1,7 +1,7 @@
 -- What a bank's list says: its items and lines, or the first row and column that do not fit.
 use Rattle.std.specs.Prelude.{◌≡◌, ℕ, ◌+◌, Bool, true, false, List, ◌∷◌, ◌++◌, length, map, ⊤, Result, Ok, Err}
 use Rattle.std.specs.List.{AllZip, filter}
-use Rattle.serv_import.specs.Batches.{records_of}
+use Rattle.serv_rows.specs.Files.{records_of, BeginsWith}
 use Rattle.bank_recon.specs.declared.item.BankItem.{BankItem}
 use Rattle.bank_recon.specs.declared.line.LineKind.{LineKind}
 use Rattle.bank_recon.specs.declared.line.LineKind.TheVariants.{Open, Bank}
@@ -21,9 +21,8 @@ abbrev pub items_of_kind : LineKind → List Line → List BankItem
 items_of_kind kind lines = map (λ (l : Line). l.item) (filter (λ (l : Line). is_kind kind l.kind) lines)
 
 -- a file begins with the header
-pub record HasHeader (bytes : List ℕ) : Type 0 where
-  pub rows : List (List (List ℕ))
-  pub begins : records_of bytes ≡ header ∷ rows
+abbrev pub HasHeader : List ℕ → Type 0
+HasHeader bytes = BeginsWith header bytes
 
 -- a list says that these items were open, and that these lines are the bank's: each row after the header has a
 -- line

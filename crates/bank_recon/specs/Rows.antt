@@ -1,9 +1,10 @@
 -- The rows of a bank's list, field by field.
-use Rattle.std.specs.Prelude.{◌≡◌, ◌≢◌, ℕ, zero, suc, ◌+◌, ◌^◌, ◌<◌, List, [], ◌∷◌, length, ⊤, ℤ, pos, ◌<ℤ◌, neg_ℤ, codes}
+use Rattle.std.specs.Prelude.{◌≡◌, ◌≢◌, ℕ, zero, suc, ◌^◌, List, [], ◌∷◌, ⊤, ℤ, pos, ◌<ℤ◌, neg_ℤ, codes}
 use Rattle.svc_base.specs.Text.{text_of_number, text_of_signed}
 use Rattle.svc_types.specs.Requests.{IsReadNumber}
 use Rattle.custodial_book.specs.declared.part.Account.{Account}
 use Rattle.custodial_book.specs.declared.part.Account.TheVariants.{T, P}
+use Rattle.serv_rows.specs.Columns.{IsBadColumn}
 use Rattle.bank_recon.specs.declared.line.LineKind.{LineKind}
 use Rattle.bank_recon.specs.declared.line.LineKind.TheVariants.{Open, Bank}
 use Rattle.bank_recon.specs.declared.line.Line.{Line}
@@ -66,12 +67,6 @@ Fits (kind ∷ account ∷ number ∷ rest) (suc (suc zero)) = IsNumberWord numb
 Fits (kind ∷ account ∷ number ∷ amount ∷ rest) (suc (suc (suc zero))) = IsAmountWord amount
 Fits row place = ⊤
 
--- the first place whose field does not fit
-pub record IsFirstMisfit (row : List (List ℕ)) (place : ℕ) : Type 0 where
-  pub before : (i : ℕ) → i < place → Fits row i
-  pub here : Fits row place → ⊥
-
 -- the column in which a row goes wrong, counted from 1; 5 where it has not four fields
-pub data IsBadAt (row : List (List ℕ)) : ℕ → Type 0 where
-  count : length row ≢ 4 → IsBadAt row 5
-  column : (place : ℕ) → length row ≡ 4 → IsFirstMisfit row place → IsBadAt row (place + 1)
+abbrev pub IsBadAt : List (List ℕ) → ℕ → Type 0
+IsBadAt row column = IsBadColumn 4 Fits row column

@@ -6,6 +6,7 @@ use Rattle.custodial_book.specs.declared.part.Account.{Account}
 use Rattle.custodial_book.specs.declared.part.Account.TheVariants.{T, P}
 use Rattle.svc_world.specs.World.{Accepted}
 use Rattle.serv_line.specs.Replies.{ended, signed_field}
+use Rattle.serv_rows.specs.Texts.{text_of_bad_row}
 use Rattle.bank_recon.specs.declared.item.BankItem.{BankItem}
 use Rattle.bank_recon.specs.declared.recon.Reason.{Reason}
 use Rattle.bank_recon.specs.declared.recon.Reason.TheVariants.{NoSuch, Extra, Amount}
@@ -69,11 +70,6 @@ text_of_recon carried bank first last h =
     span_line first last
     ++ text_of_found (book_of T carried first last h) (book_of P carried first last h) bank
     (open_of (items_in carried first last h) bank) (reasons_of (items_in carried first last h) bank)
-
--- the row and the column of a list that do not fit
-unfoldable pub text_of_bad_row : ℕ → ℕ → List ℕ
-text_of_bad_row row column = ended
-    (codes "bad row " ++ text_of_number row ++ codes " column " ++ text_of_number column)
 
 abbrev pub text_of_reading : Reading → ℕ → ℕ → List Accepted → List ℕ
 text_of_reading (Lists carried bank) first last h = text_of_recon carried bank first last h

@@ -1,17 +1,18 @@
 //! The rows of a bank's list: the line that each has.
 
-ghost use Rattle.std.specs.Prelude.{◌≡◌, ◌≢◌, ◌<◌, ◌∷◌, [], Some, IfOk, IfErr, IfSome, IfNone, length};
-ghost use Rattle.csv.specs.Records.{fields_of, field_at};
+ghost use Rattle.std.specs.Prelude.{◌≡◌, ◌≢◌, IfOk, IfErr, IfSome, IfNone, length};
+ghost use Rattle.csv.specs.Records.{fields_of};
 ghost use Rattle.svc_base.specs.Text.{text_of_number};
 ghost use Rattle.svc_types.specs.Requests.{IsReadNumber};
 ghost use Rattle.bank_recon.specs.Rows.{text_of_kind, text_of_account, IsKindWord, IsAccountWord, IsNumberWord, IsLine, IsBadAt};
 ghost use Rattle.bank_recon.specs.Fields.{fields_in};
 
-use crate::amount::read_signed;
+use crate::amount::read_item_amount;
 use crate::item::BankItem;
 use crate::line::{Line, LineKind};
 use csv::ByteRecord;
 use custodial_book::Account;
+use serv_rows::field;
 use svc_base::read_number;
 
 /// The four fields of a row.
@@ -24,7 +25,7 @@ pub(crate) struct Fields<'a> {
 }
 
 /// The fields of a row, where there are four.
-#[tactic(auto, using(crate::proofs::ColumnLemmas::four))]
+#[tactic(auto, using(serv_rows::proofs::FieldLemmas::four))]
 pub(crate) fn four_fields(row: &ByteRecord) -> Option<Fields<'_>>
     ensures four { IfSome result (λ f. fields_of row.now ≡ fields_in f) }
     ensures none { IfNone result (length (fields_of row.now) ≢ 4) }
@@ -38,18 +39,6 @@ pub(crate) fn four_fields(row: &ByteRecord) -> Option<Fields<'_>>
         number: field(row, 2),
         amount: field(row, 3),
     })
-}
-
-/// The field of a row in a place.
-#[tactic(auto, using(serv_import::proofs::ColumnLemmas::is_there))]
-fn field(row: &ByteRecord, place: usize) -> &[u8]
-    requires { place < length (fields_of row.now) }
-    ensures { field_at (fields_of row.now) place ≡ Some result.now }
-{
-    match row.get(place) {
-        Some(field) => field,
-        None => unreachable!(),
-    }
 }
 
 /// The line that a row has. Errs with the column in which the row goes wrong.
@@ -78,7 +67,7 @@ fn read_fields(fields: &Fields<'_>) -> Result<Line, u32>
     let Some(number) = spelled_number(fields.number) else {
         return Err(3);
     };
-    let Some(cents) = read_signed(fields.amount) else {
+    let Some(cents) = read_item_amount(fields.amount) else {
         return Err(4);
     };
     let item = BankItem {

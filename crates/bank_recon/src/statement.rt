@@ -1,18 +1,18 @@
 //! A bank's list: what stood open, and what the bank shows.
 
-ghost use Rattle.std.specs.Prelude.{◌≡◌, ◌<◌, ◌≤◌, ◌^◌, ◌↔◌, IsTrue, IfOk, IfErr, OnOk, length};
-ghost use Rattle.csv.specs.Records.{fields_of};
+ghost use Rattle.std.specs.Prelude.{◌≡◌, ◌≤◌, ◌^◌, ◌↔◌, IsTrue, IfOk, IfErr, OnOk, length};
 ghost use Rattle.bank_recon.specs.declared.fault.ReconFault.TheVariants as faults;
 ghost use Rattle.bank_recon.specs.Fields.{fields_in};
-ghost use Rattle.bank_recon.specs.Rows.{header};
+ghost use Rattle.bank_recon.specs.Rows as rows;
 ghost use Rattle.bank_recon.specs.Reading.{Reading, Lists, IsReading, IsAnswered, IsFault};
-ghost use Rattle.bank_recon.specs.Taking.{TakesLine, TakesRow, TakesHeader, IsRowFault};
+ghost use Rattle.bank_recon.specs.Taking.{HasLines, TakesLine};
 
 use crate::fault::ReconFault;
 use crate::item::BankItem;
 use crate::line::{Line, LineKind};
 use crate::row::{Fields, four_fields, read_row};
-use csv::{ByteRecord, ReaderBuilder};
+use csv::ByteRecord;
+use serv_rows::{Row, read_rows};
 use std::alloc::Global;
 
 /// What a bank's list says, each in its order.
@@ -43,56 +43,46 @@ fn read_list(alloc: Global, bytes: &[u8]) -> Result<Statement, ReconFault>
     ensures read { IfOk result (λ s. IsReading bytes.now (Lists s.carried.items s.bank.items)) }
     ensures bad { IfErr result (IsFault bytes.now) }
 {
-    let reader = ReaderBuilder::new()
-        .has_headers(false)
-        .flexible(true)
-        .from_reader(alloc, bytes);
     let mut statement = Statement {
         carried: Vec::new(alloc),
         bank: Vec::new(alloc),
     };
-    let mut number = 1;
-    for record in reader.into_byte_records() {
-        let Ok(record) = record else {
-            return Err(ReconFault::OutOfMemory);
-        };
-        take_row(&mut statement, number, &record)?;
-        number += 1;
-    }
-    if number == 1 {
-        return Err(ReconFault::Bad(1, 1));
-    }
+    read_rows::<Line>(alloc, bytes, &mut statement)?;
     Ok(statement)
 }
 
-/// Takes the row with that number: the first must be the header, and each row after it must have a line.
-fn take_row(statement: &mut Statement, number: u32, row: &ByteRecord) -> Result<(), ReconFault>
-    requires { 0 < number }
-    ensures first { number ≡ 1
-        → OnOk result (TakesHeader (fields_of row.now) statement.old statement.new) }
-    ensures after { 1 < number
-        → OnOk result (TakesRow (fields_of row.now) statement.old statement.new) }
-    ensures bad { IfErr result (IsRowFault number (fields_of row.now)) }
-{
-    if number > 1 {
-        return take_line(statement, number, row);
-    }
-    if is_header(row) {
-        Ok(())
-    } else {
-        Err(ReconFault::Bad(1, 1))
-    }
-}
+impl Row for Line {
+    type Said = Statement;
 
-/// Takes the line of the row with that number.
-fn take_line(statement: &mut Statement, number: u32, row: &ByteRecord) -> Result<(), ReconFault>
-    requires { 1 < number }
-    ensures taken { OnOk result (TakesRow (fields_of row.now) statement.old statement.new) }
-    ensures bad { IfErr result (IsRowFault number (fields_of row.now)) }
-{
-    match read_row(row) {
-        Ok(line) => push_line(statement, &line),
-        Err(column) => Err(ReconFault::Bad(number, column)),
+    type Fault = ReconFault;
+
+    ghost header = { rows.header };
+
+    ghost says = { λ records s. HasLines records s.carried.items s.bank.items };
+
+    ghost faulty = { λ bytes fault. IsFault bytes fault };
+
+    fn is_header(record: &ByteRecord) -> bool {
+        match four_fields(record) {
+            Some(fields) => names_columns(&fields),
+            None => false,
+        }
+    }
+
+    fn take(statement: &mut Statement, number: u32, record: &ByteRecord) -> Result<(), ReconFault> {
+        match read_row(record) {
+            Ok(line) => push_line(statement, &line),
+            Err(column) => Err(ReconFault::Bad(number, column)),
+        }
+    }
+
+    #[tactic(auto, using(crate::proofs::ReadingLemmas::no_header))]
+    fn headless() -> ReconFault {
+        ReconFault::Bad(1, 1)
+    }
+
+    fn out_of_memory() -> ReconFault {
+        ReconFault::OutOfMemory
     }
 }
 
@@ -108,19 +98,9 @@ fn push_line(statement: &mut Statement, line: &Line) -> Result<(), ReconFault>
     Ok(())
 }
 
-/// Whether a row is the header.
-fn is_header(row: &ByteRecord) -> bool
-    ensures { IsTrue result ↔ (fields_of row.now ≡ header) }
-{
-    let Some(fields) = four_fields(row) else {
-        return false;
-    };
-    names_columns(&fields)
-}
-
 /// Whether fields name the columns of a list.
 fn names_columns(fields: &Fields<'_>) -> bool
-    ensures { IsTrue result ↔ (fields_in fields.now ≡ header) }
+    ensures { IsTrue result ↔ (fields_in fields.now ≡ rows.header) }
 {
     fields.kind == b"kind".as_slice()
         && fields.account == b"account".as_slice()

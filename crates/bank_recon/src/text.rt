@@ -3,6 +3,7 @@
 ghost use Rattle.std.specs.Prelude.{◌≡◌, ◌++◌, ◌≤◌, ◌^◌, ℕ, List, IfOk, OnOk, length};
 ghost use Rattle.custodial_book.specs.declared.part.Account.TheVariants.{T, P};
 ghost use Rattle.bank_recon.specs.Reconciling.{sum_in, lines_of};
+ghost use Rattle.serv_rows.specs.Texts as row_texts;
 ghost use Rattle.bank_recon.specs.Texts as texts;
 
 use crate::fault::ReconFault;
@@ -11,11 +12,10 @@ use crate::recon::{Recon, recon_of};
 use crate::span::items_of_span;
 use crate::statement::{Statement, items};
 use crate::sums::{sum_of_items, sum_of_lines};
-use crate::writing::{
-    AccountSums, push_account, push_all_unbooked, push_bad_row, push_open_items, push_span,
-};
+use crate::writing::{AccountSums, push_account, push_all_unbooked, push_open_items, push_span};
 use custodial_book::Account;
 use serv_line::push_bytes;
+use serv_rows::push_bad_row;
 use std::alloc::Global;
 use std::sync::ledger::Ledger;
 use svc_base::{OutOfMemory, Steps};
@@ -96,7 +96,7 @@ fn text_of_lists<B: LoanBooks, L: Ledger>(
 
 /// The row and the column of a list that do not fit, as a text.
 fn text_of_bad_row(alloc: Global, row: u32, column: u32) -> Result<Vec<u8>, OutOfMemory>
-    ensures { IfOk result (λ t. t.items ≡ texts.text_of_bad_row row column) }
+    ensures { IfOk result (λ t. t.items ≡ row_texts.text_of_bad_row row column) }
 {
     let mut out = Vec::new(alloc);
     push_bad_row(&mut out, row, column)?;

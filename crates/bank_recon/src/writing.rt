@@ -152,15 +152,3 @@ pub(crate) fn push_account(
     push_sums(out, sums)?;
     push_bytes(out, b"\n")
 }
-
-/// Appends the row and the column of a list that do not fit.
-#[tactic(auto, unfolding(crate::specs::Texts::text_of_bad_row))]
-pub(crate) fn push_bad_row(out: &mut Vec<u8>, row: u32, column: u32) -> Result<(), OutOfMemory>
-    ensures { OnOk result (out.new.items ≡ out.old.items ++ texts.text_of_bad_row row column) }
-{
-    push_bytes(out, b"bad row ")?;
-    push_number(out, row)?;
-    push_bytes(out, b" column ")?;
-    push_number(out, column)?;
-    push_bytes(out, b"\n")
-}

@@ -1,22 +1,20 @@
 -- What the rows of a file say, row by row.
-use Rattle.std.proofs.Common.{◌≡◌, ◌≢◌, ◌<◌, ◌+◌, ℕ, ℤ, suc, Bool, true, false, List, [], ◌∷◌, ◌++◌, Option, Some, None, cond, length, refl, sym, ap, ◌∙◌, subst, arith}
-use Rattle.std.specs.Prelude.{◌≤◌, ◌*◌, ◌^◌, Result, Ok, Err, IfSome, pos, ◌<ℤ◌, nat_le, ◌&&◌, if◌then◌else◌}
+use Rattle.std.proofs.Common.{◌≡◌, ◌+◌, ℕ, ℤ, suc, Bool, true, false, List, [], ◌∷◌, ◌++◌, Option, Some, None, cond, length, refl, sym, ap, ◌∙◌, subst, arith, Vec, Global}
+use Rattle.std.specs.Prelude.{◌≤◌, ◌*◌, ◌^◌, Result, Ok, Err, IfSome, pos, ◌<ℤ◌, nat_le, ◌&&◌, if◌then◌else◌, codes}
 use Rattle.std.specs.List.{All, find, range_with_len}
 use Rattle.std.specs.Option.{option_map}
 use Rattle.std.specs.Str.{bytes_eq}
+use Rattle.std.proofs.lemmas.Bool.{false≢true}
 use Rattle.std.proofs.lemmas.Bool.Decides.{nat_tests}
 use Rattle.std.proofs.lemmas.Int.{ints}
+use Rattle.std.proofs.lemmas.Slice.Eq.{bytes_eq-Decides}
 use Rattle.std.proofs.lemmas.List.Elements.{All-nil, All-cons}
-use Rattle.csv.specs.Reading.{Reached, default_config, strip_bom}
-use Rattle.csv.specs.declared.parser.State.{State}
-use Rattle.csv.specs.declared.parser.State.TheVariants.{StartRecord}
 use Rattle.svc_base.specs.Calendar.{IsReadDay}
 use Rattle.svc_base.specs.Text.{text_of_cents, text_of_day}
-use Rattle.serv_import.specs.Batches.{records_of}
-use Rattle.serv_import.proofs.RecordLemmas.{first_row}
+use Rattle.serv_rows.specs.Files.{records_of, BeginsWith, IsFile}
 use Rattle.pmi_track.specs.declared.insured_loan.InsuredLoan.{InsuredLoan}
 use Rattle.pmi_track.specs.declared.insured_loan.InsuredRow.{InsuredRow}
-use Rattle.pmi_track.specs.Rows.{first_below, number_in, value_in, is_read_day, day_in, asked_in, insured_by, insured_of, row_by, row_of, rows_from, is_header, rows_after, insured_in, IsInsured, IsRead}
+use Rattle.pmi_track.specs.Rows.{first_below, number_in, value_in, is_read_day, day_in, asked_in, insured_by, insured_of, row_by, row_of, rows_from, header, is_header, rows_after, insured_in, IsInsured, IsRead}
 use Rattle.pmi_track.proofs.RowLemmas.{both_true, kept_day}
 
 -- ---- the values that rows have
@@ -82,7 +80,7 @@ row_read number fields = by (insured_of fields) (insured_read fields) where
   by (Ok i) h = h i refl
   by (Err column) h = tt
 
-pub rows_read : (number : ℕ) (rows : List (List (List ℕ))) → All IsRead (rows_from number rows)
+rows_read : (number : ℕ) (rows : List (List (List ℕ))) → All IsRead (rows_from number rows)
 rows_read number [] = All-nil IsRead
 rows_read number (fields ∷ more) = All-cons IsRead (row_of number fields) (rows_from (suc number) more) (row_read number fields) (rows_read (suc number) more)
 
@@ -94,47 +92,46 @@ rows_push n (r ∷ rows) fields =
     let e : suc n + length rows ≡ n + suc (length rows) = omega arith in
     ap (λ xs. row_of n r ∷ xs) (rows_push (suc n) rows fields ∙ ap (λ k. rows_from (suc n) rows ++ row_of k fields ∷ []) e)
 
--- what the rows so far say: the first is the header
-abbrev pub AreTaken : List (List (List ℕ)) → List InsuredRow → Type 0
-AreTaken [] said = said ≡ []
-AreTaken (first ∷ more) said = (is_header first ≡ true) × (said ≡ rows_from 2 more)
+-- what rows say with one row more
+pub said_more : (number : ℕ) (fields : List (List ℕ)) (old new : List InsuredRow) → new ≡ old ++ row_of number fields ∷ []
+    → (before : List (List (List ℕ))) → number ≡ length before + 2 → old ≡ rows_from 2 before → new ≡ rows_from 2 (before ++ fields ∷ [])
+said_more number fields old new h before e said =
+    let count : number ≡ 2 + length before = omega arith in
+    h ∙ ap (λ xs. xs ++ row_of number fields ∷ []) said ∙ ap (λ k. rows_from 2 before ++ row_of k fields ∷ []) count ∙ sym (rows_push 2 before fields)
 
-pub taken_more : (rows : List (List (List ℕ))) (number : ℕ) (fields : List (List ℕ)) (before after : List InsuredRow) → AreTaken rows before
-    → number ≡ length rows + 1
-    → (number ≡ 1 → (is_header fields ≡ true) × (after ≡ before))
-    → (1 < number → after ≡ before ++ row_of number fields ∷ [])
-    → AreTaken (rows ++ (fields ∷ [])) after
-taken_more [] number fields before after taken e first more = let is = first (omega arith) in (is.0, is.1 ∙ taken)
-taken_more (r ∷ rows) number fields before after taken e first more =
-    let is = more (omega arith) in
-    let count : number ≡ 2 + length rows = omega arith in (
-      taken.0,
-      is ∙ ap (λ xs. xs ++ row_of number fields ∷ []) taken.1 ∙ ap (λ k. rows_from 2 rows ++ row_of k fields ∷ []) count ∙ sym (rows_push 2 rows fields),
-    )
+-- ---- files
 
--- where all rows are taken, and there is one, the file is read
-pub taken_all : (bytes : List ℕ) (rows : List (List (List ℕ))) (number : ℕ) (said : List InsuredRow) → AreTaken rows said
-    → number ≡ length rows + 1 → number ≢ 1 → rows ≡ records_of bytes → insured_in bytes ≡ Some said
+-- what a file says, of what is read of it
+pub insured_told : (bytes : List ℕ) (v : Vec InsuredRow Global) → IsFile header (λ records (rows : Vec InsuredRow Global). rows.items ≡ rows_from 2 records) bytes v → insured_in bytes ≡ Some v.items
 unfolding insured_in
-taken_all bytes [] number said taken e some all = absurd (some (omega arith))
-taken_all bytes (r ∷ rows) number said taken e some all =
-    ap rows_after (sym all) ∙ ap (λ v. if v then Some (rows_from 2 rows) else None) taken.0 ∙ ap Some (sym taken.1)
+insured_told bytes v h = ap rows_after h.begins ∙ ap Some (sym h.rows_say)
 
-pub taken_read : (rows : List (List (List ℕ))) (said : List InsuredRow) → AreTaken rows said → All IsRead said
-taken_read [] said taken = subst (All IsRead) (sym taken) (All-nil IsRead)
-taken_read (r ∷ rows) said taken = subst (All IsRead) (sym taken.1) (rows_read 2 rows)
+pub rows_told : (bytes : List ℕ) (v : Vec InsuredRow Global) → IsFile header (λ records (rows : Vec InsuredRow Global). rows.items ≡ rows_from 2 records) bytes v → All IsRead v.items
+rows_told bytes v h = subst (All IsRead) (sym h.rows_say) (rows_read 2 h.rows)
 
--- a file without rows, and one whose first row is another
-pub no_rows : (bytes : List ℕ) (rows : List (List (List ℕ))) (number : ℕ) → number ≡ length rows + 1 → number ≡ 1 → rows ≡ records_of bytes
-    → insured_in bytes ≡ None
+four_same : (a b c d : List ℕ) → a ≡ codes "loan" → b ≡ codes "value" → c ≡ codes "line" → d ≡ codes "asked" → a ∷ b ∷ c ∷ d ∷ [] ≡ header
+four_same a b c d p q r s = rw (p, q, r, s) refl
+
+header_named : (fields : List (List ℕ)) → is_header fields ≡ true → fields ≡ header
+header_named (a ∷ b ∷ c ∷ d ∷ []) e =
+    let p = both_true (bytes_eq a (codes "loan")) (bytes_eq b (codes "value") && (bytes_eq c (codes "line") && bytes_eq d (codes "asked"))) e in
+    let q = both_true (bytes_eq b (codes "value")) (bytes_eq c (codes "line") && bytes_eq d (codes "asked")) p.1 in
+    let r = both_true (bytes_eq c (codes "line")) (bytes_eq d (codes "asked")) q.1 in
+    four_same a b c d ((bytes_eq-Decides a (codes "loan")).0 p.0) ((bytes_eq-Decides b (codes "value")).0 q.0)
+    ((bytes_eq-Decides c (codes "line")).0 r.0) ((bytes_eq-Decides d (codes "asked")).0 r.1)
+header_named [] e = absurd (false≢true e)
+header_named (a ∷ []) e = absurd (false≢true e)
+header_named (a ∷ b ∷ []) e = absurd (false≢true e)
+header_named (a ∷ b ∷ c ∷ []) e = absurd (false≢true e)
+header_named (a ∷ b ∷ c ∷ d ∷ x ∷ more) e = absurd (false≢true e)
+
+-- a file without the header says nothing
+pub headless : (bytes : List ℕ) → (BeginsWith header bytes → ⊥) → insured_in bytes ≡ None
 unfolding insured_in
-no_rows bytes [] number e one all = ap rows_after (sym all)
-no_rows bytes (r ∷ rows) number e one all = absurd (omega arith)
-
-pub other_row : (bytes ys : List ℕ) (rows : List (List (List ℕ))) (fields : List (List ℕ)) (s : State) (number : ℕ) → number ≡ length rows + 1
-    → number ≡ 1 → Reached default_config StartRecord (strip_bom bytes) (rows ++ (fields ∷ [])) s ys → is_header fields ≡ false → insured_in bytes ≡ None
-unfolding insured_in
-other_row bytes ys [] fields s number e one reached other =
-    let first = first_row bytes ys fields s reached in
-    ap rows_after first.1 ∙ ap (λ v. if v then Some (rows_from 2 first.0) else None) other
-other_row bytes ys (r ∷ rows) fields s number e one reached other = absurd (omega arith)
+headless bytes none = by (records_of bytes) (λ rows e. none (record { rows = rows; begins = e })) where
+  by : (records : List (List (List ℕ))) → ((rows : List (List (List ℕ))) → records ≡ header ∷ rows → ⊥) → rows_after records ≡ None
+  by [] h = refl
+  by (first ∷ rows) h = elim (is_header first) as (λ b. is_header first ≡ b → (if b then Some (rows_from 2 rows) else None) ≡ None) [
+    | true ↦ λ e. absurd (h rows (ap (λ x. x ∷ rows) (header_named first e)))
+    | false ↦ λ e. refl
+  ] refl

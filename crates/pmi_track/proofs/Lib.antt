@@ -2,7 +2,6 @@ pub mod ScheduleLemmas
 pub mod RangeLemmas
 pub mod RowLemmas
 pub mod TextLemmas
-pub mod FieldLemmas
 pub mod LoanLemmas
 pub mod TermsLemmas
 pub mod EndingLemmas

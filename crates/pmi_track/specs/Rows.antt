@@ -5,7 +5,7 @@ use Rattle.std.specs.Option.{option_map}
 use Rattle.std.specs.Str.{bytes_eq}
 use Rattle.svc_base.specs.Calendar.{IsReadDay, month_of, day_in_month, month_length, year_of_month}
 use Rattle.svc_base.specs.Text.{text_of_number, text_of_cents, text_of_day}
-use Rattle.serv_import.specs.Batches.{records_of}
+use Rattle.serv_rows.specs.Files.{records_of}
 use Rattle.pmi_track.specs.declared.insured_loan.InsuredLoan.{InsuredLoan}
 use Rattle.pmi_track.specs.declared.insured_loan.InsuredRow.{InsuredRow}
 use Rattle.pmi_track.specs.declared.insured_loan.InsuredRow.TheVariants.{Row, Bad}
@@ -72,6 +72,9 @@ rows_from number (fields ∷ more) = row_of number fields ∷ rows_from (suc num
 -- ---- files
 
 -- the first row of a file names the columns
+abbrev pub header : List (List ℕ)
+header = codes "loan" ∷ codes "value" ∷ codes "line" ∷ codes "asked" ∷ []
+
 abbrev pub is_header : List (List ℕ) → Bool
 is_header (loan ∷ value ∷ line ∷ asked ∷ []) =
     bytes_eq loan (codes "loan")

@@ -11,6 +11,7 @@ use Rattle.svc_world.specs.World.{World, Accepted, world}
 use Rattle.serv_line.specs.Lines.{line_of}
 use Rattle.serv_line.specs.Refusals.{text_of_refusal}
 use Rattle.serv_line.specs.Replies.{ended, amount_field, number_field}
+use Rattle.serv_rows.specs.Texts.{text_of_bad_row}
 use Rattle.pmi_track.specs.declared.insured_loan.InsuredLoan.{InsuredLoan}
 use Rattle.pmi_track.specs.declared.insured_loan.InsuredRow.{InsuredRow}
 use Rattle.pmi_track.specs.declared.insured_loan.InsuredRow.TheVariants.{Row, Bad}
@@ -44,11 +45,6 @@ text_of_ending (Runs denial) = codes " runs" ++ option_map_or text_of_denial den
 unfoldable pub text_of_outcome : ℕ → PmiOutcome → List ℕ
 text_of_outcome loan o = ended (codes "pmi " ++ (text_of_number loan ++ text_of_ending o))
 
--- the line of a row that is bad in a column
-unfoldable pub text_of_bad : ℕ → ℕ → List ℕ
-text_of_bad row column =
-    ended (codes "bad row " ++ (text_of_number row ++ (codes " column " ++ text_of_number column)))
-
 -- ---- the insurances of a file
 
 -- a refusal, or what has become of the loan's insurance
@@ -58,11 +54,11 @@ insurance_by loan None o = option_map_or (text_of_outcome loan) o []
 
 abbrev pub insurance_line : World → InsuredRow → List ℕ
 insurance_line w (Row i) = insurance_by i.loan (insurance_refusal w i) (outcome_in w i)
-insurance_line w (Bad row column) = text_of_bad row column
+insurance_line w (Bad row column) = text_of_bad_row row column
 
 -- a line for each row; without the header the first column of row 1 is bad
 abbrev pub insurance_lines : World → Option (List InsuredRow) → List ℕ
-insurance_lines w None = text_of_bad 1 1
+insurance_lines w None = text_of_bad_row 1 1
 insurance_lines w (Some rows) = flat_map (insurance_line w) rows
 
 -- what is written of a file's insurances, after the accepted commands

@@ -1,12 +1,13 @@
 //! The fields of a row, and the loan that they name.
 
-ghost use Rattle.std.specs.Prelude.{◌≡◌, ◌≢◌, ◌<◌, ◌∷◌, [], Some, Ok, Err, IfErr, IfOk, IfSome, IfNone, length};
-ghost use Rattle.csv.specs.Records.{fields_of, field_at};
+ghost use Rattle.std.specs.Prelude.{◌≡◌, ◌≢◌, ◌↔◌, IsTrue, Ok, Err, IfErr, IfOk, IfSome, IfNone, length};
+ghost use Rattle.csv.specs.Records.{fields_of};
 ghost use Rattle.pmi_track.specs.Fields.{fields_in};
 ghost use Rattle.pmi_track.specs.Rows as rows;
 
 use crate::insured_loan::InsuredLoan;
 use csv::ByteRecord;
+use serv_rows::field;
 use svc_base::{Cents, Day, read_amount, read_day, read_number};
 
 /// The four fields of a row.
@@ -19,7 +20,7 @@ pub(crate) struct Fields<'a> {
 }
 
 /// The fields of a row, where there are four.
-#[tactic(auto, using(crate::proofs::FieldLemmas::four))]
+#[tactic(auto, using(serv_rows::proofs::FieldLemmas::four))]
 pub(crate) fn four_fields(row: &ByteRecord) -> Option<Fields<'_>>
     ensures four { IfSome result (λ f. fields_of row.now ≡ fields_in f) }
     ensures none { IfNone result (length (fields_of row.now) ≢ 4) }
@@ -33,18 +34,6 @@ pub(crate) fn four_fields(row: &ByteRecord) -> Option<Fields<'_>>
         line: field(row, 2),
         asked: field(row, 3),
     })
-}
-
-/// The field of a row in a place.
-#[tactic(auto, using(serv_import::proofs::ColumnLemmas::is_there))]
-fn field(row: &ByteRecord, place: usize) -> &[u8]
-    requires { place < length (fields_of row.now) }
-    ensures { field_at (fields_of row.now) place ≡ Some result.now }
-{
-    match row.get(place) {
-        Some(field) => field,
-        None => unreachable!(),
-    }
 }
 
 /// The loan that a row names. Errs with the first column that does not fit.
@@ -122,7 +111,7 @@ fn day_in(text: &[u8]) -> Option<Day>
 
 /// Whether fields name the columns of a file.
 pub(crate) fn names_columns(fields: &Fields<'_>) -> bool
-    ensures { result ≡ rows.is_header (fields_in fields.now) }
+    ensures { IsTrue result ↔ (fields_in fields.now ≡ rows.header) }
 {
     fields.loan == b"loan".as_slice()
         && fields.value == b"value".as_slice()

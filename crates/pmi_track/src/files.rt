@@ -17,9 +17,10 @@ use crate::deciding::outcome_with;
 use crate::insured_loan::{InsuredLoan, InsuredRow};
 use crate::pmi_outcome::PmiOutcome;
 use crate::reading::insured;
-use crate::texts::{push_bad, push_drop, push_outcome};
+use crate::texts::{push_drop, push_outcome};
 use serv_import::ImportFault;
 use serv_line::push_refusal;
+use serv_rows::push_bad_row;
 use std::alloc::Global;
 use std::collections::HashMap;
 use std::sync::ledger::Ledger;
@@ -44,7 +45,7 @@ pub fn pmi_text<B: LoanBooks, L: Ledger>(
     let mut out = Vec::new(alloc);
     match insured(alloc, bytes) {
         Ok(rows) => push_lines(alloc, &mut out, core, &rows, steps)?,
-        Err(ImportFault::Header) => push_bad(&mut out, 1, 1)?,
+        Err(ImportFault::Header) => push_bad_row(&mut out, 1, 1)?,
         Err(ImportFault::OutOfMemory) => return Err(OutOfMemory),
     }
     Ok(out)
@@ -109,7 +110,7 @@ fn push_line<B: LoanBooks, L: Ledger>(
 {
     match row {
         InsuredRow::Row(insured) => push_insurance(out, core, table, insured, steps),
-        InsuredRow::Bad(row, column) => push_bad(out, *row, *column),
+        InsuredRow::Bad(row, column) => push_bad_row(out, *row, *column),
     }
 }
 

@@ -1,15 +1,17 @@
 //! Files of insured loans.
 
-ghost use Rattle.std.specs.Prelude.{◌≡◌, ◌∷◌, ◌++◌, ◌<◌, ◌≤◌, ◌^◌, [], None, Some, IfErr, IfOk, OnOk, true, false, length};
+ghost use Rattle.std.specs.Prelude.{◌≡◌, ◌∷◌, ◌++◌, ◌≤◌, ◌^◌, [], None, Some, IfErr, IfOk, OnOk, length};
 ghost use Rattle.std.specs.List.{All};
 ghost use Rattle.csv.specs.Records.{fields_of};
 ghost use Rattle.serv_import.specs.declared.fault.ImportFault.TheVariants as faults;
-ghost use Rattle.pmi_track.specs.Rows.{insured_in, is_header, row_of, IsRead};
+ghost use Rattle.pmi_track.specs.Rows as files;
+ghost use Rattle.pmi_track.specs.Rows.{insured_in, row_of, rows_from, IsRead};
 
 use crate::fields::{four_fields, names_columns, read_row};
 use crate::insured_loan::InsuredRow;
-use csv::{ByteRecord, ReaderBuilder};
+use csv::ByteRecord;
 use serv_import::ImportFault;
+use serv_rows::{Row, read_rows};
 use std::alloc::Global;
 use svc_base::OutOfMemory;
 
@@ -22,53 +24,44 @@ pub fn insured(alloc: Global, bytes: &[u8]) -> Result<Vec<InsuredRow>, ImportFau
     ensures read { IfOk result (λ v. All IsRead v.items) }
     ensures header { IfErr result (λ fault. fault ≡ faults.Header → insured_in bytes.now ≡ None) }
 {
-    let reader = ReaderBuilder::new()
-        .has_headers(false)
-        .flexible(true)
-        .from_reader(alloc, bytes);
     let mut rows = Vec::new(alloc);
-    let mut number = 1;
-    for record in reader.into_byte_records() {
-        let Ok(record) = record else {
-            return Err(ImportFault::OutOfMemory);
-        };
-        take_row(&mut rows, number, &record)?;
-        number += 1;
-    }
-    if number == 1 {
-        return Err(ImportFault::Header);
-    }
+    read_rows::<InsuredRow>(alloc, bytes, &mut rows)?;
     Ok(rows)
 }
 
-/// Takes the row with that number: the first must be the header, and of each row after it what it says is
-/// appended.
-fn take_row(rows: &mut Vec<InsuredRow>, number: u32, row: &ByteRecord) -> Result<(), ImportFault>
-    requires { 0 < number }
-    ensures first { number ≡ 1
-        → OnOk result ((is_header (fields_of row.now) ≡ true) × (rows.new.items ≡ rows.old.items)) }
-    ensures after { 1 < number → OnOk result
-        (rows.new.items ≡ rows.old.items ++ row_of number (fields_of row.now) ∷ []) }
-    ensures other { IfErr result (λ fault. fault ≡ faults.Header
-        → (number ≡ 1) × (is_header (fields_of row.now) ≡ false)) }
-{
-    if number > 1 {
-        return Ok(push_row(rows, number, row)?);
-    }
-    if names_header(row) {
-        Ok(())
-    } else {
-        Err(ImportFault::Header)
-    }
-}
+impl Row for InsuredRow {
+    type Said = Vec<InsuredRow>;
 
-/// Whether a row is the header.
-fn names_header(row: &ByteRecord) -> bool
-    ensures { result ≡ is_header (fields_of row.now) }
-{
-    match four_fields(row) {
-        Some(fields) => names_columns(&fields),
-        None => false,
+    type Fault = ImportFault;
+
+    ghost header = { files.header };
+
+    ghost says = { λ records said. said.items ≡ rows_from 2 records };
+
+    ghost faulty = { λ bytes fault. fault ≡ faults.Header → insured_in bytes ≡ None };
+
+    fn is_header(record: &ByteRecord) -> bool {
+        match four_fields(record) {
+            Some(fields) => names_columns(&fields),
+            None => false,
+        }
+    }
+
+    fn take(
+        rows: &mut Vec<InsuredRow>,
+        number: u32,
+        record: &ByteRecord,
+    ) -> Result<(), ImportFault> {
+        Ok(push_row(rows, number, record)?)
+    }
+
+    #[tactic(auto, using(crate::proofs::FileLemmas::headless))]
+    fn headless() -> ImportFault {
+        ImportFault::Header
+    }
+
+    fn out_of_memory() -> ImportFault {
+        ImportFault::OutOfMemory
     }
 }
 

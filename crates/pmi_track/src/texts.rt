@@ -73,19 +73,6 @@ fn push_denial(out: &mut Vec<u8>, denial: &Option<Denial>) -> Result<(), OutOfMe
     }
 }
 
-/// Appends the line of a row that is bad in a column.
-#[tactic(auto, using(serv_line::proofs::KeepLemmas::keeps), unfolding(crate::specs::Texts::text_of_bad))]
-pub(crate) fn push_bad(out: &mut Vec<u8>, row: u32, column: u32) -> Result<(), OutOfMemory>
-    ensures pushed { OnOk result (out.new.items ≡ out.old.items ++ texts.text_of_bad row column) }
-    ensures kept { OnErr result (Keeps out.old.items out.new.items) }
-{
-    push_bytes(out, b"bad row ")?;
-    push_number(out, row)?;
-    push_bytes(out, b" column ")?;
-    push_number(out, column)?;
-    push_bytes(out, b"\n")
-}
-
 /// Appends the line of the command that drops an escrow line of a loan.
 #[tactic(auto, using(serv_line::proofs::KeepLemmas::keeps, crate::proofs::TextLemmas::drop_joined), unfolding(crate::specs::Texts::text_of_drop))]
 pub(crate) fn push_drop(out: &mut Vec<u8>, loan: u32, line: u32) -> Result<(), OutOfMemory>

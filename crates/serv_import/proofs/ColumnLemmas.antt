@@ -2,12 +2,13 @@
 use Rattle.std.proofs.Common.{◌≡◌, ◌≢◌, ◌<◌, ℕ, zero, suc, List, [], ◌∷◌, Some, None, length, refl, sym, ◌∙◌, subst, true, arith}
 use Rattle.csv.specs.Records.{field_at}
 use Rattle.svc_types.specs.Keys.{IsKey}
+use Rattle.serv_rows.specs.Columns.{count, column}
 use Rattle.svc_forms.specs.declared.field.FieldKind.TheVariants as kind
 use Rattle.svc_forms.specs.declared.form.Form.{Form}
 use Rattle.svc_forms.specs.Values.{Spells}
 use Rattle.svc_forms.specs.Forms.{word_of}
 use Rattle.svc_forms.proofs.RequestLemmas.{same_form}
-use Rattle.serv_import.specs.Columns.{has_rows, FitsLine, NamesForm, Fits, IsBadAt, count, column}
+use Rattle.serv_import.specs.Columns.{has_rows, FitsLine, NamesForm, Fits, IsBadAt}
 
 pub bad_key : (key word loan day amount line : List ℕ) → (IsKey key → ⊥)
     → IsBadAt (key ∷ word ∷ loan ∷ day ∷ amount ∷ line ∷ []) 1
@@ -78,13 +79,6 @@ six (u ∷ v ∷ w ∷ []) a b c d e f n p0 p1 p2 p3 p4 p5 = absurd (omega arith
 six (u ∷ v ∷ w ∷ x ∷ []) a b c d e f n p0 p1 p2 p3 p4 p5 = absurd (omega arith)
 six (u ∷ v ∷ w ∷ x ∷ y ∷ []) a b c d e f n p0 p1 p2 p3 p4 p5 = absurd (omega arith)
 six (u ∷ v ∷ w ∷ x ∷ y ∷ z ∷ t ∷ more) a b c d e f n p0 p1 p2 p3 p4 p5 = absurd (omega arith)
-
--- a row has a field in each place below its count
-pub is_there : (fs : List (List ℕ)) (i : ℕ) → i < length fs → None ≡ field_at fs i → ⊥
-unfolding field_at
-is_there [] i l e = absurd (omega arith)
-is_there (f ∷ fs) zero l e = absurd cc
-is_there (f ∷ fs) (suc i) l e = is_there fs i (omega arith) e
 
 pub not_six : (row : List (List ℕ)) → length row ≢ 6 → IsBadAt row 7
 not_six row not = count not

@@ -1,4 +1,3 @@
-pub mod RecordLemmas
 pub mod ColumnLemmas
 pub mod FieldLemmas
 pub mod AnswerLemmas

@@ -15,10 +15,12 @@ use Rattle.svc_forms.specs.declared.form.Form.{Form}
 use Rattle.svc_forms.specs.declared.form.Form.TheVariants as form
 use Rattle.svc_forms.specs.declared.value.Value.TheVariants as value
 use Rattle.svc_forms.proofs.RequestLemmas.{same_form, same_value}
+use Rattle.serv_rows.specs.Columns.{count, column}
+use Rattle.serv_rows.proofs.ColumnLemmas.{one_column}
 use Rattle.serv_import.specs.declared.row.RowRequest.{RowRequest}
 use Rattle.serv_import.specs.declared.row.RowRequest.TheVariants as request
 use Rattle.serv_import.specs.Rows.{header, row_with, Asks}
-use Rattle.serv_import.specs.Columns.{has_rows, FitsLine, Fits, IsFirstMisfit, IsBadAt, count, column}
+use Rattle.serv_import.specs.Columns.{has_rows, FitsLine, Fits, IsBadAt}
 use Rattle.serv_import.specs.Batches.{IsAnswer, AreAnswers, IsBatch}
 
 -- ---- the parts of a command that rows ask
@@ -271,31 +273,6 @@ not_bad row key c col h (column place n m) =
     m.here (subst (λ r. Fits r place) (sym p.fields)
     (fits_with key p.form p.loan p.day p.amount p.last h.names p.kind p.loan_in p.day_in p.amount_in p.last_in place))
 
--- ---- a row goes wrong in one column
-
-before_or_after : (p q : ℕ) → (p < q) ⊎ (p ≡ q) ⊎ (q < p)
-before_or_after zero zero = inr (inl refl)
-before_or_after zero (suc q) = inl (omega arith)
-before_or_after (suc p) zero = inr (inr (omega arith))
-before_or_after (suc p) (suc q) = next (before_or_after p q) where
-  next : (p < q) ⊎ (p ≡ q) ⊎ (q < p) → (suc p < suc q) ⊎ (suc p ≡ suc q) ⊎ (suc q < suc p)
-  next (inl h) = inl (omega arith)
-  next (inr (inl h)) = inr (inl (ap suc h))
-  next (inr (inr h)) = inr (inr (omega arith))
-
-one_misfit : (row : List (List ℕ)) (p q : ℕ) → IsFirstMisfit row p → IsFirstMisfit row q → p ≡ q
-one_misfit row p q h k = pick (before_or_after p q) where
-  pick : (p < q) ⊎ (p ≡ q) ⊎ (q < p) → p ≡ q
-  pick (inl l) = absurd (h.here (k.before p l))
-  pick (inr (inl e)) = e
-  pick (inr (inr l)) = absurd (k.here (h.before q l))
-
-one_column : (row : List (List ℕ)) (m n : ℕ) → IsBadAt row m → IsBadAt row n → m ≡ n
-one_column row m n (count a) (count b) = refl
-one_column row m n (count a) (column q k y) = absurd (a k)
-one_column row m n (column p k x) (count b) = absurd (b k)
-one_column row m n (column p k x) (column q k' y) = ap (λ i. i + 1) (one_misfit row p q x y)
-
 -- ---- a file asks one thing
 
 one_answer : (n : ℕ) (row : List (List ℕ)) (a b : RowRequest) → IsAnswer n row a → IsAnswer n row b → a ≡ b
@@ -304,7 +281,7 @@ one_answer n row (request.Row key c) (request.Bad m col) h k = absurd (not_bad r
 one_answer n row (request.Bad m col) (request.Row key c) h k = absurd (not_bad row key c col k h.1)
 one_answer n row (request.Bad m col) (request.Bad m' col') h k =
     let e : m ≡ m' = h.0 ∙ sym k.0 in
-    let f : col ≡ col' = one_column row col col' h.1 k.1 in
+    let f : col ≡ col' = one_column 6 Fits row col col' h.1 k.1 in
     rw (e, f) refl
 
 one_list : (n : ℕ) (rows : List (List (List ℕ))) (xs ys : List RowRequest) → AreAnswers n rows xs → AreAnswers n rows ys → xs ≡ ys

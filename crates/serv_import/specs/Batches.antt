@@ -1,14 +1,10 @@
 -- What a CSV file asks, row by row.
 use Rattle.std.specs.Prelude.{◌≡◌, ⊤, ℕ, suc, List, [], ◌∷◌}
-use Rattle.csv.specs.Reading.{records, default_config, strip_bom}
+use Rattle.serv_rows.specs.Files.{records_of, BeginsWith}
 use Rattle.serv_import.specs.declared.row.RowRequest.{RowRequest}
 use Rattle.serv_import.specs.declared.row.RowRequest.TheVariants as request
 use Rattle.serv_import.specs.Rows.{header, Asks}
 use Rattle.serv_import.specs.Columns.{IsBadAt}
-
--- the records of a file, as `csv` reads them: without a byte order mark and without blank lines
-abbrev pub records_of : List ℕ → List (List (List ℕ))
-records_of bytes = records default_config (strip_bom bytes)
 
 -- what the row with a number is taken for: the command that it asks, or the column in which it goes wrong
 abbrev pub IsAnswer : ℕ → List (List ℕ) → RowRequest → Type 0
@@ -23,9 +19,8 @@ AreAnswers number (row ∷ rows) (answer ∷ answers) =
 AreAnswers number rows answers = ⊥
 
 -- a file begins with the header
-pub record HasHeader (bytes : List ℕ) : Type 0 where
-  pub rows : List (List (List ℕ))
-  pub begins : records_of bytes ≡ header ∷ rows
+abbrev pub HasHeader : List ℕ → Type 0
+HasHeader bytes = BeginsWith header bytes
 
 -- what a file asks: the header is row 1, and each row after it has an answer
 pub record IsBatch (bytes : List ℕ) (answers : List RowRequest) : Type 0 where

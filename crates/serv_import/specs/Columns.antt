@@ -1,11 +1,12 @@
 -- Where a CSV row that asks nothing goes wrong: in its first column that does not fit.
-use Rattle.std.specs.Prelude.{◌≡◌, ◌≢◌, ℕ, zero, suc, ◌+◌, ◌<◌, ◌⊎◌, ⊤, Bool, true, false, List, [], ◌∷◌, length}
+use Rattle.std.specs.Prelude.{◌≡◌, ℕ, zero, suc, ◌⊎◌, ⊤, Bool, true, false, List, [], ◌∷◌}
 use Rattle.svc_types.specs.Keys.{IsKey}
 use Rattle.svc_forms.specs.declared.field.FieldKind.TheVariants as kind
 use Rattle.svc_forms.specs.declared.form.Form.{Form}
 use Rattle.svc_forms.specs.declared.form.Form.TheVariants as form
 use Rattle.svc_forms.specs.Values.{Spells}
 use Rattle.svc_forms.specs.Forms.{word_of}
+use Rattle.serv_rows.specs.Columns.{IsBadColumn}
 
 -- the forms of commands that rows ask
 abbrev pub has_rows : Form → Bool
@@ -46,12 +47,6 @@ Fits (key ∷ word ∷ loan ∷ day ∷ amount ∷ line ∷ rest) (suc (suc (suc
     FitsWord word line
 Fits row place = ⊤
 
--- the first place whose field does not fit
-pub record IsFirstMisfit (row : List (List ℕ)) (place : ℕ) : Type 0 where
-  pub before : (i : ℕ) → i < place → Fits row i
-  pub here : Fits row place → ⊥
-
 -- the column in which a row goes wrong, counted from 1; 7 where it has not six fields
-pub data IsBadAt (row : List (List ℕ)) : ℕ → Type 0 where
-  count : length row ≢ 6 → IsBadAt row 7
-  column : (place : ℕ) → length row ≡ 6 → IsFirstMisfit row place → IsBadAt row (place + 1)
+abbrev pub IsBadAt : List (List ℕ) → ℕ → Type 0
+IsBadAt row column = IsBadColumn 6 Fits row column

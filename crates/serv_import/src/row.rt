@@ -1,7 +1,7 @@
 //! The rows of a file: what each one asks.
 
-ghost use Rattle.std.specs.Prelude.{◌≡◌, ◌≢◌, ◌<◌, ◌∷◌, ◌++◌, [], Some, IfOk, IfErr, IfSome, IfNone, OnOk, length};
-ghost use Rattle.csv.specs.Records.{fields_of, field_at};
+ghost use Rattle.std.specs.Prelude.{◌≡◌, ◌≢◌, ◌∷◌, ◌++◌, [], IfOk, IfErr, IfSome, IfNone, OnOk, length};
+ghost use Rattle.csv.specs.Records.{fields_of};
 ghost use Rattle.serv_import.specs.declared.row.RowRequest as requests;
 ghost use Rattle.serv_import.specs.Rows.{Asks};
 ghost use Rattle.serv_import.specs.Columns.{IsBadAt};
@@ -10,6 +10,7 @@ ghost use Rattle.serv_import.specs.Fields.{fields_in};
 
 use crate::commands::read_fields;
 use csv::ByteRecord;
+use serv_rows::field;
 use svc_base::OutOfMemory;
 use svc_types::{Command, Key};
 
@@ -51,18 +52,6 @@ pub(crate) fn six_fields(row: &ByteRecord) -> Option<Fields<'_>>
         amount: field(row, 4),
         line: field(row, 5),
     })
-}
-
-/// The field of a row in a place.
-#[tactic(auto, using(crate::proofs::ColumnLemmas::is_there))]
-fn field(row: &ByteRecord, place: usize) -> &[u8]
-    requires { place < length (fields_of row.now) }
-    ensures { field_at (fields_of row.now) place ≡ Some result.now }
-{
-    match row.get(place) {
-        Some(field) => field,
-        None => unreachable!(),
-    }
 }
 
 /// The command that a row asks, with its key. Errs with the column in which the row goes wrong.

@@ -21,8 +21,8 @@ returns-in_default-spelled_number-clause-bad c =
     let not : IsNumberWord c.args.fields.now.number.now → ⊥ = search rules in
     bad_number _ _ _ _ k a not
 
-pub returns-in_default-read_signed-clause-bad : goal.returns-in_default-read_signed-clause-bad
-returns-in_default-read_signed-clause-bad c =
+pub returns-in_default-read_item_amount-clause-bad : goal.returns-in_default-read_item_amount-clause-bad
+returns-in_default-read_item_amount-clause-bad c =
     let k : IsKindWord c.args.fields.now.kind.now = record { kind = c.in-Some.kind; is = c.in-Some.ensures.read } in
     let a : IsAccountWord c.args.fields.now.account.now = record { account = c.in-Some-read_account.account; is = c.in-Some-read_account.ensures.read } in
     let n : IsNumberWord c.args.fields.now.number.now = record { number = c.in-Some-spelled_number.number; range = c.in-Some-spelled_number.ensures.range; is = c.in-Some-spelled_number.ensures.read } in

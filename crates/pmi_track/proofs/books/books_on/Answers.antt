@@ -2,7 +2,7 @@ use Rattle.std.proofs.Common.{◌∙◌, length, sym, subst}
 use Rattle.svc_world.specs.World.{world}
 use Rattle.svc_world.specs.Custody.{rows_in}
 use Rattle.svc_core.specs.Core.{IsQueryFault}
-use Rattle.serv_import.proofs.AnswerLemmas.{fault_told}
+use Rattle.serv_rows.proofs.FaultLemmas.{fault_told}
 use Rattle.pmi_track.specs.Loans.{day_refusal}
 use Rattle.pmi_track.proofs.LoanLemmas.{refusal_at, books_told, books_some}
 use Rattle.pmi_track.proofs.books.books_on.Goals as goal

@@ -1,7 +1,7 @@
 use Rattle.std.proofs.Common.{arith}
 use Rattle.pmi_track.proofs.WholeLemmas.{lines_told, no_header_told, steps_told}
 use Rattle.pmi_track.proofs.files.pmi_text.Goals as goal
-use Rattle.pmi_track.proofs.files.pmi_text.Goals.{in-Ok+in_ok-push_lines-in-Ok, in-Err-Header+in_ok-push_bad-in-Err-Header}
+use Rattle.pmi_track.proofs.files.pmi_text.Goals.{in-Ok+in_ok-push_lines-in-Ok, in-Err-Header+in_ok-push_bad_row-in-Err-Header}
 
 pub returns-in_err-push_lines-in-Ok-clause-steps : goal.returns-in_err-push_lines-in-Ok-clause-steps
 returns-in_err-push_lines-in-Ok-clause-steps g c =
@@ -13,9 +13,9 @@ returns-clause-text g c = elim c.match-insured.branch [
   | in-Ok+in_ok-push_lines-in-Ok w ↦
       rw w.out-is (lines_told c.args.core.now.history c.args.bytes.now w.in-Ok.rows.items w.deref.result.now c.new-out.result.items w.push_lines.new.out.items
       w.in-Ok.ensures.rows w.deref.ensures.value c.new-out.ensures.items w.in_ok-push_lines-in-Ok.ensures.pushed)
-  | in-Err-Header+in_ok-push_bad-in-Err-Header w ↦
-      rw w.out-is (no_header_told c.args.core.now.history c.args.bytes.now c.new-out.result.items w.push_bad.new.out.items (w.in-Err-Header.ensures.header w.in-Err-Header.field-0-is)
-      c.new-out.ensures.items w.in_ok-push_bad-in-Err-Header.ensures.pushed)
+  | in-Err-Header+in_ok-push_bad_row-in-Err-Header w ↦
+      rw w.out-is (no_header_told c.args.core.now.history c.args.bytes.now c.new-out.result.items w.push_bad_row.new.out.items (w.in-Err-Header.ensures.header w.in-Err-Header.field-0-is)
+      c.new-out.ensures.items w.in_ok-push_bad_row-in-Err-Header.ensures.pushed)
 ]
 
 pub returns-clause-steps : goal.returns-clause-steps
@@ -23,5 +23,5 @@ returns-clause-steps g c = elim c.match-insured.branch [
   | in-Ok+in_ok-push_lines-in-Ok w ↦
       rw w.steps-is (steps_told g.B.LoanBooks.cost c.args.core.now.history c.args.bytes.now w.in-Ok.rows.items w.deref.result.now c.args.steps.now w.push_lines.new.steps
       w.in-Ok.ensures.rows w.deref.ensures.value w.push_lines.ensures.steps)
-  | in-Err-Header+in_ok-push_bad-in-Err-Header w ↦ rw w.steps-is (omega arith)
+  | in-Err-Header+in_ok-push_bad_row-in-Err-Header w ↦ rw w.steps-is (omega arith)
 ]

@@ -1,16 +1,17 @@
--- The records that a reader reaches are the first ones of a text: each takes a byte at least. Up to `few_records` as
--- in serv_import.
-use Rattle.std.proofs.Common.{◌≡◌, ◌≤◌, ◌<◌, ◌+◌, ℕ, zero, suc, Bool, true, false, List, [], ◌∷◌, ◌++◌, Option, Some, None, length, refl, subst, arith}
+-- The records of a text: those that a reader reaches are its first ones, or all where nothing is left, and each takes
+-- a byte at least.
+use Rattle.std.proofs.Common.{◌≡◌, ◌≤◌, ◌<◌, ◌+◌, ℕ, zero, suc, Bool, true, false, List, [], ◌∷◌, ◌++◌, Option, Some, None, length, refl, sym, subst, arith}
 use Rattle.std.proofs.lemmas.Bool.{false≢true}
 use Rattle.std.specs.Prelude.{if◌then◌else◌, ◌==◌, ◌&&◌}
 use Rattle.csv.specs.Machine.{Read, next_record, step, in_field, start_field, start_record, ends_with, after_end, ends_at_end, is_end, is_byte, fields_after, field_after}
-use Rattle.csv.specs.Reading.{Reached, records, records_from, default_config, strip_bom}
+use Rattle.csv.specs.Reading.{Reached, records_from, default_config, strip_bom, is_bom}
 use Rattle.csv.specs.declared.parser.Config.{Config}
 use Rattle.csv.specs.declared.parser.State.{State}
 use Rattle.csv.specs.declared.parser.Action.{Action}
 use Rattle.csv.specs.declared.parser.Terminator.{Terminator}
 use Rattle.csv.specs.declared.parser.Terminator.TheVariants as term
 use Rattle.csv.specs.declared.parser.State.TheVariants as st
+use Rattle.serv_rows.specs.Files.{records_of}
 
 -- a step that ends a record leaves the reader between records
 Rests : State × Action → Type 0
@@ -105,6 +106,42 @@ few_records cfg s s2 xs ys (row ∷ rows) r h =
     let fewer = l.0 in
     omega arith
 
+-- what was reached is all, where nothing is left
+all_records : (cfg : Config) (n : ℕ) (s s2 : State) (xs ys : List ℕ) (rows : List (List (List ℕ))) → Reached cfg s xs rows s2 ys
+    → next_record cfg s2 [] [] ys ≡ None → length rows ≤ n → records_from cfg n s xs ≡ rows
+unfolding Reached records_from
+all_records cfg zero s s2 xs ys [] h e l = refl
+all_records cfg (suc n) s s2 xs ys [] h e l = rw (h.0, h.1, e) refl
+all_records cfg zero s s2 xs ys (row ∷ rows) h e l = absurd (omega arith)
+all_records cfg (suc n) s s2 xs ys (row ∷ rows) h e l =
+    let rest : records_from cfg n h.0.1 h.0.2 ≡ rows = all_records cfg n h.0.1 s2 h.0.2 ys rows h.3 e (omega arith) in
+    rw (h.1, h.2, rest) refl
+
+-- ---- the records of a file
+
+without_bom : (bytes : List ℕ) → length (strip_bom bytes) ≤ length bytes
+unfolding strip_bom
+without_bom [] = omega arith
+without_bom (a ∷ []) = omega arith
+without_bom (a ∷ b ∷ []) = omega arith
+without_bom (a ∷ b ∷ c ∷ rest) =
+    elim (is_bom a b c) as (λ x. length (if x then rest else a ∷ b ∷ c ∷ rest) ≤ length (a ∷ b ∷ c ∷ rest)) [ true ↦ omega arith | false ↦ omega arith ]
+
+-- a file has no more records than bytes
+pub few_rows : (bytes ys : List ℕ) (rows : List (List (List ℕ))) (s : State) → Reached default_config st.StartRecord (strip_bom bytes) rows s ys
+    → length rows ≤ length bytes
+few_rows bytes ys rows s h =
+    let few = few_records default_config st.StartRecord s (strip_bom bytes) ys rows refl h in
+    let less = without_bom bytes in
+    omega arith
+
+-- what was read of a file are its records, where no more can be read
+pub all_rows : (bytes ys : List ℕ) (rows : List (List (List ℕ))) (s : State) → Reached default_config st.StartRecord (strip_bom bytes) rows s ys
+    → next_record default_config s [] [] ys ≡ None → rows ≡ records_of bytes
+all_rows bytes ys rows s h e =
+    let few = few_records default_config st.StartRecord s (strip_bom bytes) ys rows refl h in
+    sym (all_records default_config _ st.StartRecord s (strip_bom bytes) ys rows h e (omega arith))
+
 -- what was reached are the first records of a text
 begin_from : (cfg : Config) (n : ℕ) (s s2 : State) (xs ys : List ℕ) (rows : List (List (List ℕ))) → Reached cfg s xs rows s2 ys → length rows ≤ n
     → (after : List (List (List ℕ))) × (records_from cfg n s xs ≡ rows ++ after)
@@ -116,8 +153,9 @@ begin_from cfg (suc n) s s2 xs ys (row ∷ rows) h l =
     let same : records_from cfg n h.0.1 h.0.2 ≡ rows ++ rest.0 = rest.1 in
     (rest.0, rw (h.1, h.2, same) refl)
 
+-- what was read of a file are its first records
 pub rows_begin : (bytes ys : List ℕ) (rows : List (List (List ℕ))) (s : State) → Reached default_config st.StartRecord (strip_bom bytes) rows s ys
-    → (after : List (List (List ℕ))) × (records default_config (strip_bom bytes) ≡ rows ++ after)
+    → (after : List (List (List ℕ))) × (records_of bytes ≡ rows ++ after)
 rows_begin bytes ys rows s h =
     let few = few_records default_config st.StartRecord s (strip_bom bytes) ys rows refl h in
     begin_from default_config _ st.StartRecord s (strip_bom bytes) ys rows h (omega arith)

@@ -1,0 +1,5 @@
+pub mod Files
+pub mod Taking
+pub mod Columns
+pub mod Texts
+pub mod Amounts
