@@ -6,6 +6,7 @@ mod accepting;
 mod analysing;
 mod asking;
 mod boarding;
+mod brief;
 mod cash;
 mod changing;
 mod closing;
