@@ -1,3 +1,4 @@
+pub mod BriefLemmas
 pub mod PostedLemmas
 pub mod RepliesLemmas
 pub mod CashLemmas

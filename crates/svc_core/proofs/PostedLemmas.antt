@@ -1,21 +1,28 @@
 -- One command more under a key that no other has.
-use Rattle.std.proofs.Common.{◌≡◌, ℕ, zero, suc, ◌+◌, ◌-◌, ◌≤◌, ◌<◌, get_or, true, false, cond, List, [], ◌∷◌, ◌++◌, length, arith, refl, sym, ap, ◌∙◌}
+use Rattle.std.proofs.Common.{◌≡◌, ℕ, zero, suc, ◌+◌, ◌-◌, ◌≤◌, ◌<◌, get_or, Bool, true, false, cond, List, [], ◌∷◌, ◌++◌, length, arith, refl, sym, ap, ◌∙◌, length-append}
 use Rattle.std.proofs.lemmas.Bool.Decides.{Decides-eqb}
 use Rattle.std.proofs.lemmas.Slice.Eq.{slice_eq-Decides}
-use Rattle.std.specs.Prelude.{Option, Some, None, if◌then◌else◌}
+use Rattle.std.specs.Prelude.{Some, None, if◌then◌else◌}
 use Rattle.std.specs.List.{position, position_from}
 use Rattle.std.specs.Map.{keys_of, lookup}
 use Rattle.std.specs.Option.{option_map}
+use Rattle.std.specs.List.{All}
 use Rattle.std.proofs.lemmas.Iterator.Adapters.{position_from-zero}
+use Rattle.std.proofs.lemmas.List.{map-append}
+use Rattle.std.proofs.lemmas.List.Elements.{All-head, All-tail, All-push}
 use Rattle.indexmap.specs.IndexMap.{IndexMap, insert_entry}
 use Rattle.indexmap.proofs.CallerLemmas.{insert_entry-new}
+use Rattle.svc_types.specs.declared.terms.Terms.{Terms}
 use Rattle.svc_types.specs.declared.requests.Command.{Command}
 use Rattle.svc_types.specs.declared.replies.Reply.{Reply}
 use Rattle.svc_world.specs.World.{World, Accepted, accepted, first_world, after, world_from, world}
 use Rattle.svc_world.specs.Judging.{is_key, nth_accepted, reply_of, next_reply, known_from}
-use Rattle.svc_core.specs.Posted.{number_from, number_of, history_of, known_as, known_among, replies_from, replies_to}
+use Rattle.svc_core.specs.declared.brief.Brief.{Brief}
+use Rattle.svc_core.specs.Briefs.{terms_in, brief_of, command_of, StandsWithin}
+use Rattle.svc_core.specs.Posted.{number_from, number_of, history_of, pairs_of, known_as, known_among, replies_from, replies_to}
+use Rattle.svc_core.proofs.BriefLemmas.{same_command, stands_for, stands_within}
 
-pub history_push : (ps : List (List ℕ × Command)) (p : List ℕ × Command) → history_of (ps ++ p ∷ []) ≡ history_of ps ++ accepted p.0 p.1 ∷ []
+history_push : (ps : List (List ℕ × Command)) (p : List ℕ × Command) → history_of (ps ++ p ∷ []) ≡ history_of ps ++ accepted p.0 p.1 ∷ []
 history_push [] p = refl
 history_push (q ∷ qs) p = ap (λ h. accepted q.0 q.1 ∷ h) (history_push qs p)
 
@@ -42,11 +49,11 @@ numbered i (p ∷ ps) key =
     ]
 
 -- the number of a key's command is one more than its place
-pub number_at : (ps : List (List ℕ × Command)) (key : List ℕ) → option_map (λ k. k + 1) (position (is_key key) (keys_of ps)) ≡ number_of (history_of ps) key
+number_at : (ps : List (List ℕ × Command)) (key : List ℕ) → option_map (λ k. k + 1) (position (is_key key) (keys_of ps)) ≡ number_of (history_of ps) key
 number_at ps key = ap (option_map (λ k. k + 1)) (position_from-zero (is_key key) (keys_of ps)) ∙ sym (numbered 0 ps key)
 
 -- a key that has no number has no command
-pub none_there : (ps : List (List ℕ × Command)) (key : List ℕ) → number_of (history_of ps) key ≡ None → lookup (is_key key) ps ≡ None
+none_there : (ps : List (List ℕ × Command)) (key : List ℕ) → number_of (history_of ps) key ≡ None → lookup (is_key key) ps ≡ None
 none_there ps key none = absent_from 0 ps key none
   where
     absent_from : (i : ℕ) (ps : List (List ℕ × Command)) (key : List ℕ) → number_from (i + 1) (history_of ps) key ≡ None → lookup (is_key key) ps ≡ None
@@ -57,10 +64,62 @@ none_there ps key none = absent_from 0 ps key none
           | false ↦ λ is. absent_from (i + 1) ps key is
         ] (sym (ap (λ v. if v then Some (i + 1) else number_from (i + 1 + 1) (history_of ps) key) (same_way p.0 key)) ∙ e)
 
--- a command that is put in under such a key stands last
-pub stands_last : {S : Type 0} (map : IndexMap (List ℕ) Command S) (new : List (List ℕ × Command)) (key : List ℕ) (c : Command) → new ≡ insert_entry is_key map.entries key c
-    → number_of (history_of map.entries) key ≡ None → new ≡ map.entries ++ (key, c) ∷ []
-stands_last map new key c is none = is ∙ insert_entry-new is_key map key c (none_there map.entries key none)
+-- ---- commands as they are kept
+
+keys_paired : (ts : List Terms) (ps : List (List ℕ × Brief)) → keys_of (pairs_of ts ps) ≡ keys_of ps
+keys_paired ts [] = refl
+keys_paired ts (p ∷ ps) = ap (λ ks. p.0 ∷ ks) (keys_paired ts ps)
+
+-- the number of a key's command is one more than its place among them
+pub number_at_key : (ts : List Terms) (ps : List (List ℕ × Brief)) (key : List ℕ) → option_map (λ k. k + 1) (position (is_key key) (keys_of ps)) ≡ number_of (history_of (pairs_of ts ps)) key
+number_at_key ts ps key = ap (λ ks. option_map (λ k. k + 1) (position (is_key key) ks)) (sym (keys_paired ts ps)) ∙ number_at (pairs_of ts ps) key
+
+none_kept : (test : List ℕ → Bool) (ts : List Terms) (ps : List (List ℕ × Brief)) → lookup test (pairs_of ts ps) ≡ None → lookup test ps ≡ None
+none_kept test ts [] e = refl
+none_kept test ts (p ∷ ps) e =
+    elim (test p.0) as (λ v. cond v (Some (command_of ts p.1)) (lookup test (pairs_of ts ps)) ≡ None → cond v (Some p.1) (lookup test ps) ≡ None) [
+      | true ↦ λ is. absurd (cc)
+      | false ↦ λ is. none_kept test ts ps is
+    ] e
+
+-- a command that is put in under a key without a number stands last
+pub stands_last : {S : Type 0} (map : IndexMap (List ℕ) Brief S) (new : List (List ℕ × Brief)) (ts : List Terms) (key : List ℕ) (b : Brief) → new ≡ insert_entry is_key map.entries key b
+    → number_of (history_of (pairs_of ts map.entries)) key ≡ None → new ≡ map.entries ++ (key, b) ∷ []
+stands_last map new ts key b is none = is ∙ insert_entry-new is_key map key b (none_kept (is_key key) ts map.entries (none_there (pairs_of ts map.entries) key none))
+
+pub pairs_length : (ts : List Terms) (ps : List (List ℕ × Brief)) → length (pairs_of ts ps) ≡ length ps
+pairs_length ts [] = refl
+pairs_length ts (p ∷ ps) = ap suc (pairs_length ts ps)
+
+pub history_length : (ts : List Terms) (ps : List (List ℕ × Brief)) → length (history_of (pairs_of ts ps)) ≡ length ps
+history_length ts [] = refl
+history_length ts (p ∷ ps) = ap suc (history_length ts ps)
+
+-- the terms of one more loan change no command before it
+pairs_more : (ts more : List Terms) (ps : List (List ℕ × Brief)) → All (λ (p : List ℕ × Brief). StandsWithin (length ts) p.1) ps → pairs_of (ts ++ more) ps ≡ pairs_of ts ps
+pairs_more ts more [] h = refl
+pairs_more ts more (p ∷ ps) h =
+    let P : List ℕ × Brief → Type 0 = λ q. StandsWithin (length ts) q.1 in
+    ap (λ (c : Command). (p.0, c) ∷ pairs_of (ts ++ more) ps) (same_command ts more p.1 (All-head P p ps h))
+    ∙ ap (λ qs. (p.0, command_of ts p.1) ∷ qs) (pairs_more ts more ps (All-tail P p ps h))
+
+-- one command more
+pub pairs_next : (ts : List Terms) (ps : List (List ℕ × Brief)) (key : List ℕ) (c : Command) → All (λ (p : List ℕ × Brief). StandsWithin (length ts) p.1) ps
+    → history_of (pairs_of (ts ++ terms_in c) (ps ++ (key, brief_of (length ts) c) ∷ [])) ≡ history_of (pairs_of ts ps) ++ accepted key c ∷ []
+pairs_next ts ps key c h =
+    let all = ts ++ terms_in c in
+    let b = brief_of (length ts) c in
+    ap history_of (map-append (λ (p : List ℕ × Brief). (p.0, command_of all p.1)) ps ((key, b) ∷ []))
+    ∙ history_push (pairs_of all ps) (key, command_of all b)
+    ∙ ap (λ qs. history_of qs ++ accepted key (command_of all b) ∷ []) (pairs_more ts (terms_in c) ps h)
+    ∙ ap (λ (x : Command). history_of (pairs_of ts ps) ++ accepted key x ∷ []) (stands_for ts c)
+
+pub within_next : (ts new : List Terms) (ps : List (List ℕ × Brief)) (key : List ℕ) (c : Command) → new ≡ ts ++ terms_in c → All (λ (p : List ℕ × Brief). StandsWithin (length ts) p.1) ps
+    → All (λ (p : List ℕ × Brief). StandsWithin (length new) p.1) (ps ++ (key, brief_of (length ts) c) ∷ [])
+within_next ts new ps key c is h =
+    let count : length new ≡ length ts + length (terms_in c) = ap length is ∙ length-append ts (terms_in c) in
+    let x : List ℕ × Brief = (key, brief_of (length ts) c) in
+    All-push (λ (p : List ℕ × Brief). StandsWithin (length new) p.1) ps x (λ k d lt id place at. (let low = h k d lt id place at in omega (arith, low, count))) (stands_within (length ts) c (length new) (omega (arith, count)))
 
 -- the command with a number
 pub nth_some : (ps : List (List ℕ × Command)) (n : ℕ) (d : List ℕ × Command) → 1 ≤ n → n ≤ length ps → Some (accepted (get_or ps (n - 1) d).0 (get_or ps (n - 1) d).1) ≡ nth_accepted (history_of ps) n

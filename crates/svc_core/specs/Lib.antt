@@ -1,4 +1,5 @@
 pub mod Posted
+pub mod Briefs
 pub mod Replies
 pub mod Cash
 pub mod State

@@ -1,11 +1,15 @@
 -- The accepted commands with their replies, and the place of a key among them.
 use Rattle.std.specs.Prelude.{◌≡◌, ℕ, ◌+◌, ◌≤◌, List, [], ◌∷◌, length, map, Option, Some, None, if◌then◌else◌}
+use Rattle.std.specs.List.{All}
+use Rattle.svc_types.specs.declared.terms.Terms.{Terms}
 use Rattle.svc_types.specs.declared.requests.Command.{Command}
 use Rattle.svc_types.specs.declared.replies.Extra.{Extra}
 use Rattle.svc_types.specs.declared.replies.Reply.{Reply}
 use Rattle.svc_world.specs.World.{World, Accepted, accepted, first_world, after}
 use Rattle.svc_world.specs.Judging.{Known, is_key, reply_of}
 use Rattle.svc_world.specs.Desk.{Posting}
+use Rattle.svc_core.specs.declared.brief.Brief.{Brief}
+use Rattle.svc_core.specs.Briefs.{command_of, StandsWithin}
 
 -- a history of accepted commands with the reply to each, and for how many more there is room
 pub record PostedCommands : Type 0 where
@@ -26,14 +30,20 @@ number_of h key = number_from 1 h key
 abbrev pub history_of : List (List ℕ × Command) → List Accepted
 history_of ps = map (λ p. accepted p.0 p.1) ps
 
+-- commands as they are kept with their keys, by the terms of the loans that were taken on
+abbrev pub pairs_of : List Terms → List (List ℕ × Brief) → List (List ℕ × Command)
+pairs_of terms ps = map (λ p. (p.0, command_of terms p.1)) ps
+
 -- the most commands of a history
 abbrev pub most_commands : ℕ
 most_commands = 1_000_000
 
--- there are no more commands than that, and each has a reply
-pub record AreReplied (commands : List (List ℕ × Command)) (replies : List Reply) : Type 0 where
+-- there are no more commands than that, each has a reply, and the terms of each stand among those that are kept
+pub record AreReplied (terms : List Terms) (commands : List (List ℕ × Brief)) (replies : List Reply) : Type 0 where
   pub few : length commands ≤ most_commands
   pub replied : length replies ≡ length commands
+  pub few_terms : length terms ≤ length commands
+  pub within : All (λ (p : List ℕ × Brief). StandsWithin (length terms) p.1) commands
 
 abbrev pub reply : ℕ → Extra → Reply
 reply number extra = record { number = number; extra = extra }

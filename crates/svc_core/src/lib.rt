@@ -4,6 +4,7 @@
 
 mod accepting;
 mod asking;
+mod brief;
 mod cash;
 mod changing;
 mod custody_line;

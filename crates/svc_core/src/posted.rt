@@ -1,40 +1,42 @@
 //! The commands that were accepted, and where each key stands.
 
-ghost use Rattle.std.specs.Prelude.{◌≡◌, ◌+◌, ◌-◌, ◌≤◌, ◌<◌, ◌∷◌, ◌++◌, [], length, None, OnOk, slice_get, Some};
+ghost use Rattle.std.specs.Prelude.{◌≡◌, ◌+◌, ◌-◌, ◌≤◌, ◌<◌, ◌∷◌, ◌++◌, [], length, None, IsOk, OnOk, slice_get, Some};
 ghost use Rattle.std.specs.Option.{option_map};
 ghost use Rattle.svc_world.specs.World.{accepted};
 ghost use Rattle.svc_world.specs.Judging.{nth_accepted};
 ghost use Rattle.svc_core.specs.Posted.{number_of, known_as, known_among, most_commands, reply};
 
+use crate::brief::{Brief, brief_of, command_of, keep_terms};
 use crate::replies::Replies;
 use indexmap::IndexMap;
 use std::alloc::Global;
 use std::marker::Model;
-use svc_base::OutOfMemory;
-use svc_types::{Command, Extra, Key, Reply};
+use svc_base::{OutOfMemory, make_room};
+use svc_types::{Command, Extra, Key, Reply, Terms};
 
 /// The accepted commands by number, from 1, each with its key and the reply that was given. A key is
-/// found by one look-up.
+/// found by one look-up. The terms of loans stand apart, so that a command takes 32 bytes.
 #[derive(Drop)]
 pub struct Posted {
-    commands: IndexMap<Key, Command>,
+    commands: IndexMap<Key, Brief>,
+    terms: Vec<Terms>,
     replies: Replies,
 }
 
 impl Model for Posted {
-    ghost use Rattle.std.specs.Prelude.{min};
+    ghost use Rattle.std.specs.Prelude.{◌-◌, min, vec_len, vec_capacity};
     ghost use Rattle.indexmap.specs.IndexMap.{spare};
-    ghost use Rattle.svc_core.specs.Posted.{PostedCommands, AreReplied, history_of};
+    ghost use Rattle.svc_core.specs.Posted.{PostedCommands, AreReplied, history_of, pairs_of};
 
     ghost Value = { PostedCommands };
 
     ghost view = { λ p. record {
-      history = history_of p.commands.entries;
+      history = history_of (pairs_of p.terms.items p.commands.entries);
       replies = p.replies.list;
-      room = min (spare p.commands) p.replies.room;
+      room = min (min (spare p.commands) p.replies.room) (vec_capacity p.terms - vec_len p.terms);
     } };
 
-    ghost invariant = { λ p. AreReplied p.commands.entries p.replies.list };
+    ghost invariant = { λ p. AreReplied p.terms.items p.commands.entries p.replies.list };
 }
 
 impl Posted {
@@ -45,6 +47,7 @@ impl Posted {
     {
         Posted {
             commands: IndexMap::new(alloc),
+            terms: Vec::new(alloc),
             replies: Replies::new(alloc),
         }
     }
@@ -83,7 +86,8 @@ impl Posted {
         match self.number_of(key) {
             Some(number) => {
                 let place = number as usize - 1;
-                Some((self.commands[place], self.replies.get(number)))
+                let command = command_of(&self.commands[place], &self.terms);
+                Some((command, self.replies.get(number)))
             }
             None => None,
         }
@@ -95,8 +99,10 @@ impl Posted {
         ensures history { self.new.history ≡ self.old.history }
         ensures replies { self.new.replies ≡ self.old.replies }
         ensures room { OnOk result (1 ≤ self.new.room) }
+        ensures succeeds { 1 ≤ self.old.room → IsOk result }
     {
         self.commands.reserve(1)?;
+        make_room(&mut self.terms, 1, 0)?;
         self.replies.reserve()?;
         Ok(())
     }
@@ -112,7 +118,9 @@ impl Posted {
         ensures replies { self.new.replies
             ≡ self.old.replies ++ reply (length self.old.history + 1) extra ∷ [] }
     {
-        match self.commands.insert(*key, *command) {
+        let place = self.terms.len() as u32;
+        keep_terms(&mut self.terms, command);
+        match self.commands.insert(*key, brief_of(command, place)) {
             Ok(_) => {}
             Err(_) => unreachable!(),
         }
@@ -127,7 +135,7 @@ impl Posted {
             return None;
         }
         match self.commands.get_index(number as usize - 1) {
-            Some((key, command)) => Some((*key, *command)),
+            Some((key, brief)) => Some((*key, command_of(brief, &self.terms))),
             None => None,
         }
     }

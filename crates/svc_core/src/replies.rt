@@ -1,6 +1,6 @@
 //! The replies to the accepted commands.
 
-ghost use Rattle.std.specs.Prelude.{◌≡◌, ◌+◌, ◌≤◌, ◌<◌, ◌∷◌, ◌++◌, ◌-◌, [], nat_lt, length, OnOk, Some, slice_get};
+ghost use Rattle.std.specs.Prelude.{◌≡◌, ◌+◌, ◌≤◌, ◌<◌, ◌∷◌, ◌++◌, ◌-◌, [], nat_lt, length, IsOk, OnOk, Some, slice_get};
 ghost use Rattle.svc_core.specs.Posted.{most_commands, reply};
 
 use std::alloc::Global;
@@ -44,6 +44,7 @@ impl Replies {
     pub(crate) fn reserve(&mut self) -> Result<(), OutOfMemory>
         ensures list { self.new.list ≡ self.old.list }
         ensures room { OnOk result (1 ≤ self.new.room) }
+        ensures succeeds { 1 ≤ self.old.room → IsOk result }
     {
         make_room(&mut self.kept, 1, 0)?;
         Ok(())
