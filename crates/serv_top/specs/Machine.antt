@@ -1,5 +1,5 @@
 -- What a line says to the machine, its reply, what is held after it, and how many steps it may take.
-use Rattle.std.specs.Prelude.{◌≡◌, ℕ, ◌+◌, ◌≤◌, ◌⊎◌, List, [], ◌∷◌, ◌++◌, codes}
+use Rattle.std.specs.Prelude.{◌≡◌, ℕ, ◌+◌, ◌≤◌, ◌⊎◌, List, [], ◌∷◌}
 use Rattle.svc_types.specs.declared.requests.Command.{Command}
 use Rattle.svc_types.specs.declared.requests.Request.{Request}
 use Rattle.svc_types.specs.declared.requests.Request.TheVariants as request
@@ -7,8 +7,8 @@ use Rattle.svc_types.specs.Requests.{IsRequest}
 use Rattle.svc_world.specs.World.{Accepted, accepted}
 use Rattle.serv_line.specs.Lines.{line_of}
 use Rattle.serv_line.specs.LineFaults.{IsFault}
-use Rattle.svc_base.specs.Text.{text_of_number}
-use Rattle.serv_line.specs.Replies.{ended, text_of_bad}
+use Rattle.serv_line.specs.Replies.{text_of_bad}
+use Rattle.serv_rows.specs.Texts.{text_of_bad_row}
 use Rattle.serv_machine.specs.History.{History, Fresh, decided}
 use Rattle.serv_machine.specs.Replies.{reply_to_request, history_after_request, bound_of_request}
 
@@ -24,15 +24,11 @@ pub data Says (line : List ℕ) : Said → Type 0 where
   asks : (r : Request) → IsRequest r → line ≡ line_of r → Says line (Asks r)
   errs : (place : ℕ) → IsFault line place → Says line (Faulty place)
 
--- the reply to a row that goes wrong in a column
-unfoldable pub text_of_unfit : ℕ → ℕ → List ℕ
-text_of_unfit number column = ended (codes "bad row " ++ text_of_number number ++ codes " column " ++ text_of_number column)
-
 -- the reply
 abbrev pub reply_to : History → Said → List ℕ
 reply_to h (Asks r) = reply_to_request h r
 reply_to h (Faulty place) = text_of_bad place
-reply_to h (Unfit number column) = text_of_unfit number column
+reply_to h (Unfit number column) = text_of_bad_row number column
 
 -- what is held after it
 abbrev pub history_after : History → Said → History

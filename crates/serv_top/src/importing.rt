@@ -3,10 +3,9 @@
 ghost use Rattle.std.specs.Prelude.{◌≡◌, ◌≢◌, ℕ, ◌<◌, ◌≤◌, ◌^◌, ◌⊎◌, ◌++◌, [], List, map, length, Err, IfOk, IfErr, OnErr, OnOk};
 ghost use Rattle.std.specs.Io.KnownBytes.{Appends, Consumes, IsAtEnd};
 ghost use Rattle.serv_disk.specs.Faults.{HasRisen};
-ghost use Rattle.serv_line.specs.Pushed.{Keeps};
 ghost use Rattle.serv_machine.specs.OnDisk.{OnDisk};
 ghost use Rattle.serv_top.specs.Journal.{HasFileFaults, IsUnopened};
-ghost use Rattle.serv_top.specs.Machine.{Moves, reply_to, stand, text_of_unfit};
+ghost use Rattle.serv_top.specs.Machine.{Moves, reply_to, stand};
 ghost use Rattle.serv_top.specs.Outcome.{input_limit};
 ghost use Rattle.serv_top.specs.Imported.{AreRows, FileEnds, HaltsOn, ImportEnds, IsImported, IsRow, IsSaid, IsUnread, RowsEnd, StopsOn, said_of};
 
@@ -16,11 +15,11 @@ use crate::status::Status;
 use crate::stream::INPUT_LIMIT;
 use serv_disk::{Disk, Sink, Source, read_some, write_whole};
 use serv_import::{ImportFault, RowRequest, batch};
-use serv_line::{push_bytes, push_number, undone};
 use serv_machine::{Halt, Machine, answer_request};
+use serv_rows::push_bad_row;
 use std::alloc::Global;
 use std::sync::ledger::Ledger;
-use svc_base::{OutOfMemory, Steps};
+use svc_base::Steps;
 use svc_types::Request;
 
 /// How many bytes are asked for at a time.
@@ -223,32 +222,9 @@ fn reply_to_row<D: Disk, M: Machine<D>, L: Ledger>(
         RowRequest::Row(key, command) => {
             answer_request(machine, disk, &Request::Do(*key, *command), out, steps)
         }
-        RowRequest::Bad(number, column) => match push_unfit(out, *number, *column) {
+        RowRequest::Bad(number, column) => match push_bad_row(out, *number, *column) {
             Ok(()) => Ok(()),
             Err(_) => Err(Halt::OutOfMemory),
         },
     }
-}
-
-/// Appends the reply to a row that goes wrong in a column. Where memory is short `out` is as it was.
-fn push_unfit(out: &mut Vec<u8>, number: u32, column: u32) -> Result<(), OutOfMemory>
-    ensures pushed { OnOk result (out.new.items ≡ out.old.items ++ text_of_unfit number column) }
-    ensures kept { OnErr result (out.new.items ≡ out.old.items) }
-{
-    let start = out.len();
-    let pushed = append_unfit(out, number, column);
-    undone(out, start, pushed)
-}
-
-/// Appends the reply to a row that goes wrong in a column.
-#[tactic(auto, using(serv_line::proofs::KeepLemmas::keeps), unfolding(crate::specs::Machine::text_of_unfit))]
-fn append_unfit(out: &mut Vec<u8>, number: u32, column: u32) -> Result<(), OutOfMemory>
-    ensures pushed { OnOk result (out.new.items ≡ out.old.items ++ text_of_unfit number column) }
-    ensures kept { OnErr result (Keeps out.old.items out.new.items) }
-{
-    push_bytes(out, b"bad row ")?;
-    push_number(out, number)?;
-    push_bytes(out, b" column ")?;
-    push_number(out, column)?;
-    push_bytes(out, b"\n")
 }
