@@ -36,6 +36,6 @@ never_too_long s bytes short it =
     let room = twice lines it.read.fit in
     let least = base_least it.form lines it.old in
     let file : length s ≡ length (base it.form lines) + length (it.commit ∷ it.rest) =
-        ap length it.read.is ∙ length-append (base it.form lines) (it.commit ∷ it.rest) in
+    ap length it.read.is ∙ length-append (base it.form lines) (it.commit ∷ it.rest) in
     let some : length (it.commit ∷ it.rest) ≡ length it.rest + 1 = omega arith in
     absurd (omega (arith, short, room, least, file, some, it.size_is, it.past))

@@ -40,5 +40,5 @@ returns-in-Err-clause-disk g c =
     (err_disk g.D.Disk.images g.D.Disk.moment g.D.Disk.images_since c.args.disk.now c.submit.new.disk c.args.self.now c.submit.new.self (accepted c.args.key.now c.args.command.now)
     (g.met.D.Disk.only_now c.args.disk.now) c.requires.ready.2 c.submit.ensures.moments c.in-Err.fault c.in-Err.ensures.kept c.in-Err.ensures.err
     (λ stopped is. history_more c.args.self.now.history c.args.key.now c.args.command.now is (subst IsKey c.bytes.ensures.value c.bytes.ensures.key) c.requires.command
-        (fault_fresh c.args.self.now (accepted c.args.key.now c.args.command.now) _ _ _ c.in-Err.fault c.in-Err.ensures.fault stopped))
+    (fault_fresh c.args.self.now (accepted c.args.key.now c.args.command.now) _ _ _ c.in-Err.fault c.in-Err.ensures.fault stopped))
     c.submit.ensures.good)
