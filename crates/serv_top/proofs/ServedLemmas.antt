@@ -238,7 +238,7 @@ module _ (waiting : ℕ) (bytes : List ℕ) {s s' : Stand} {held held' : Option 
   tried_piece s'' is = record { said = is.said; says = says_piece is.said is.says; near = is.near; cost = is.cost }
 
   stuck_piece : (s'' : Stand) (pending : List Accepted) → IsStuck line s' s'' pending → IsStuck piece s' s'' pending
-  stuck_piece s'' pending is = record { key = is.key; command = is.command; says = says_piece _ is.says; pending_is = is.pending_is; same = is.same; cost = is.cost }
+  stuck_piece s'' pending is = record { key = is.key; command = is.command; says = says_piece _ is.says; fresh = is.fresh; pending_is = is.pending_is; same = is.same; cost = is.cost }
 
   few_of : (part rest : List ℕ) → text ≡ part ++ rest → length rest ≤ waiting
   few_of part rest joined = omega (arith, few, ap length joined, length-append part rest)
