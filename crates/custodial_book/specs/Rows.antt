@@ -93,9 +93,12 @@ IsChange z = (neg_ℤ (pos 200_000_000_000_000_000) ≤ℤ z) × (z ≤ℤ pos 2
 abbrev pub IsBalance : ℤ → Type 0
 IsBalance z = (neg_ℤ (pos 1_000_000_000_000_000_000) ≤ℤ z) × (z ≤ℤ pos 1_000_000_000_000_000_000)
 
--- a balance while a command's rows are added
-abbrev pub IsRunning : ℤ → Type 0
-IsRunning z = (neg_ℤ (pos 4_000_000_000_000_000_000) ≤ℤ z) × (z ≤ℤ pos 4_000_000_000_000_000_000)
+-- what an account may hold of a loan's totals, of which it has seven at most, and what that may change by
+abbrev pub IsCash : ℤ → Type 0
+IsCash z = (neg_ℤ (pos 700_000_000_000_000_000) ≤ℤ z) × (z ≤ℤ pos 700_000_000_000_000_000)
+
+abbrev pub IsCashChange : ℤ → Type 0
+IsCashChange z = (neg_ℤ (pos 1_400_000_000_000_000_000) ≤ℤ z) × (z ≤ℤ pos 1_400_000_000_000_000_000)
 
 -- the row stands before the rows of that command for that loan
 abbrev pub IsBefore : ℕ → ℕ → Row → Type 0

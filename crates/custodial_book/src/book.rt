@@ -1,11 +1,11 @@
 //! The book of custodial rows.
 
-ghost use Rattle.std.specs.Prelude.{IsTrue, ◌≡◌, ◌+◌, ◌/◌, ◌<◌, ◌≤◌, max, ◌+ℤ◌, ◌-ℤ◌, pos, neg_ℤ, map, [], ◌∷◌, ◌++◌, length, vec_len, vec_capacity, OnOk, OnErr, IsOk, IfSome};
+ghost use Rattle.std.specs.Prelude.{IsTrue, ◌≡◌, ◌+◌, ◌/◌, ◌<◌, ◌≤◌, max, ◌+ℤ◌, ◌-ℤ◌, ◌≤ℤ◌, pos, neg_ℤ, map, [], ◌∷◌, ◌++◌, length, vec_len, vec_capacity, OnOk, OnErr, IsOk, IfSome};
 ghost use Rattle.std.specs.List.Sorted.{IsNonDecreasingBy};
 ghost use Rattle.custodial_book.specs.declared.part.Account.{Account as AnyAccount};
 ghost use Rattle.custodial_book.specs.declared.row.Totals.{Totals as AnyTotals};
 ghost use Rattle.custodial_book.specs.Parts.{parts, nth_part};
-ghost use Rattle.custodial_book.specs.Rows.{balance_of, balance_with, cash_of, row_of, rows_of, rows_of_command, AreTotals, IsBalance, IsChange, IsRunning, ComesNext, cents_by_part};
+ghost use Rattle.custodial_book.specs.Rows.{balance_of, balance_with, cash_of, row_of, rows_of, rows_of_command, AreTotals, IsBalance, IsCash, IsCashChange, IsChange, IsTotal, ComesNext, cents_by_part};
 ghost use Rattle.custodial_book.specs.Rows as rule;
 ghost use Rattle.custodial_book.specs.Kept.{IsBook};
 ghost use Rattle.custodial_book.specs.WorkedTotals.{no_totals, paid, remitted_once, remitted_ahead, paid_off, payoff_remitted, payoff_reversed, deposited, disbursed_beyond, advance_recovered, another_deposited};
@@ -87,15 +87,9 @@ impl Book {
         ensures growth { self.new.spare ≤ max self.old.spare (max 11 (length self.old.rows / 8)) }
     {
         make_room(&mut self.entries, Part::ALL.len(), 0)?;
-        add_changes(
-            &mut self.entries,
-            &mut self.t,
-            &mut self.p,
-            number,
-            loan,
-            before,
-            after,
-        );
+        self.t += cash_change(Account::T, before, after);
+        self.p += cash_change(Account::P, before, after);
+        add_changes(&mut self.entries, number, loan, before, after);
         Ok(())
     }
 
@@ -148,26 +142,16 @@ pub fn worked_rows()
     ensures cash_covered { cash_of Account.T disbursed_beyond ≡ pos 0 }
 {}
 
-/// Adds a row for each total that changed, and what it moves to the balances t and p.
-fn add_changes(
-    entries: &mut Vec<Row>,
-    t: &mut Cents,
-    p: &mut Cents,
-    number: u32,
-    loan: u32,
-    before: &Totals,
-    after: &Totals,
-)
+/// Adds a row for each total that changed.
+fn add_changes(entries: &mut Vec<Row>, number: u32, loan: u32, before: &Totals, after: &Totals)
     requires room { vec_len entries.old + 11 ≤ vec_capacity entries.old }
-    requires book { IsBook entries.old.items t.old p.old }
+    requires rising { IsNonDecreasingBy (λ row. row.number) entries.old.items }
     requires next { ComesNext number loan entries.old.items }
     requires before { AreTotals before.now }
     requires after { AreTotals after.now }
     ensures items { entries.new.items ≡ entries.old.items ++ rows_of number loan before.now after.now }
     ensures capacity { vec_capacity entries.new ≡ vec_capacity entries.old }
     ensures rising { IsNonDecreasingBy (λ row. row.number) entries.new.items }
-    ensures t_is { t.new ≡ balance_of Account.T entries.new.items }
-    ensures p_is { p.new ≡ balance_of Account.P entries.new.items }
 {
     if are_same(before, after) {
         return;
@@ -175,7 +159,7 @@ fn add_changes(
     let changes = changes(before, after);
     for k in 0..11 {
         if let Some(row) = change(number, loan, k, changes[k]) {
-            add_row(entries, t, p, row);
+            entries.push_reserved(row);
         }
     }
 }
@@ -241,37 +225,99 @@ fn change(number: u32, loan: u32, place: usize, cents: Cents) -> Option<Row>
     }
 }
 
-/// Adds a row after the others, and what it moves to the balances t and p.
-fn add_row(entries: &mut Vec<Row>, t: &mut Cents, p: &mut Cents, row: Row)
-    requires room { vec_len entries.old < vec_capacity entries.old }
-    requires change { IsChange row.cents }
-    requires t { IsRunning t.old }
-    requires p { IsRunning p.old }
-    ensures items { entries.new.items ≡ entries.old.items ++ row ∷ [] }
-    ensures capacity { vec_capacity entries.new ≡ vec_capacity entries.old }
-    ensures len { vec_len entries.new ≡ vec_len entries.old + 1 }
-    ensures t { t.new ≡ t.old +ℤ rule.moved Account.T row.part row.cents }
-    ensures p { p.new ≡ p.old +ℤ rule.moved Account.P row.part row.cents }
-    ensures t_near { IsChange (t.new -ℤ t.old) }
-    ensures p_near { IsChange (p.new -ℤ p.old) }
+/// What an account's cash of a loan changed by, in cents.
+#[tactic(auto, using(std::proofs::lemmas::Int::ints))]
+fn cash_change(account: Account, before: &Totals, after: &Totals) -> Cents
+    requires before { AreTotals before.now }
+    requires after { AreTotals after.now }
+    ensures value { result ≡ cash_of account after.now -ℤ cash_of account before.now }
+    ensures bound { IsCashChange result }
 {
-    *t += moved(Account::T, row.part, row.cents);
-    *p += moved(Account::P, row.part, row.cents);
-    entries.push_reserved(row);
+    cash(account, after) - cash(account, before)
 }
 
-/// What a row of that part and those cents brings into an account.
-#[tactic(auto, using(std::proofs::lemmas::Int::ints), unfolding(crate::specs::Rows::moved))]
-fn moved(account: Account, part: Part, cents: Cents) -> Cents
-    requires { IsChange cents }
-    ensures value { result ≡ rule.moved account part cents }
-    ensures bound { IsChange result }
+/// What an account holds of a loan's totals, in cents.
+fn cash(account: Account, totals: &Totals) -> Cents
+    requires { AreTotals totals.now }
+    ensures value { result ≡ cash_of account totals.now }
+    ensures bound { IsCash result }
 {
-    if part.paid_to().is_account(account) {
-        cents
-    } else if part.paid_from().is_account(account) {
-        -cents
-    } else {
-        0
+    match account {
+        Account::T => cash_of_t(totals),
+        Account::P => cash_of_p(totals),
     }
+}
+
+/// What the account of taxes, insurance and unapplied funds holds of a loan's totals, in cents.
+fn cash_of_t(totals: &Totals) -> Cents
+    requires received { IsTotal totals.now.received }
+    requires escrow_advance { IsTotal totals.now.escrow_advance }
+    requires returned { IsTotal totals.now.returned }
+    requires refunded { IsTotal totals.now.refunded }
+    requires disbursed { IsTotal totals.now.disbursed }
+    requires collected { IsTotal totals.now.collected }
+    requires late { IsTotal totals.now.late }
+    ensures value { result ≡ cash_of Account.T totals.now }
+    ensures bound { IsCash result }
+{
+    let came = sum_of_two(totals.received, totals.escrow_advance);
+    let paid = paid_from_t(totals);
+    came - paid
+}
+
+/// What that account paid of a loan's totals, in cents.
+fn paid_from_t(totals: &Totals) -> Cents
+    requires returned { IsTotal totals.now.returned }
+    requires refunded { IsTotal totals.now.refunded }
+    requires disbursed { IsTotal totals.now.disbursed }
+    requires collected { IsTotal totals.now.collected }
+    requires late { IsTotal totals.now.late }
+    ensures value { result ≡ totals.now.returned +ℤ totals.now.refunded +ℤ totals.now.disbursed
+        +ℤ totals.now.collected +ℤ totals.now.late }
+    ensures low { neg_ℤ (pos 500_000_000_000_000_000) ≤ℤ result }
+    ensures high { result ≤ℤ pos 500_000_000_000_000_000 }
+{
+    let out = sum_of_three(totals.returned, totals.refunded, totals.disbursed);
+    let moved = sum_of_two(totals.collected, totals.late);
+    out + moved
+}
+
+/// What the account of principal and interest holds of a loan's totals, in cents.
+fn cash_of_p(totals: &Totals) -> Cents
+    requires collected { IsTotal totals.now.collected }
+    requires pi_advance { IsTotal totals.now.pi_advance }
+    requires fee { IsTotal totals.now.fee }
+    requires remitted { IsTotal totals.now.remitted }
+    requires residual { IsTotal totals.now.residual }
+    ensures value { result ≡ cash_of Account.P totals.now }
+    ensures bound { IsCash result }
+{
+    let came = sum_of_two(totals.collected, totals.pi_advance);
+    let paid = sum_of_three(totals.fee, totals.remitted, totals.residual);
+    came - paid
+}
+
+/// The sum of two totals, in cents.
+#[tactic(auto, using(svc_base::proofs::CentsRules::cents))]
+fn sum_of_two(a: Cents, b: Cents) -> Cents
+    requires a { IsTotal a }
+    requires b { IsTotal b }
+    ensures value { result ≡ a +ℤ b }
+    ensures low { neg_ℤ (pos 200_000_000_000_000_000) ≤ℤ result }
+    ensures high { result ≤ℤ pos 200_000_000_000_000_000 }
+{
+    a + b
+}
+
+/// The sum of three totals, in cents.
+#[tactic(auto, using(svc_base::proofs::CentsRules::cents))]
+fn sum_of_three(a: Cents, b: Cents, c: Cents) -> Cents
+    requires a { IsTotal a }
+    requires b { IsTotal b }
+    requires c { IsTotal c }
+    ensures value { result ≡ a +ℤ b +ℤ c }
+    ensures low { neg_ℤ (pos 300_000_000_000_000_000) ≤ℤ result }
+    ensures high { result ≤ℤ pos 300_000_000_000_000_000 }
+{
+    a + b + c
 }

@@ -1,12 +1,10 @@
-use Rattle.std.proofs.Common.{◌≡◌, ◌<◌, ◌≤◌, ◌++◌, length, get_or, pos, arith, sym, ap, subst, ◌∙◌, append-nil, refl, [], ◌∷◌, ◌+ℤ◌, Some, None, Vec, Global, vec_len, vec_capacity, List, ◌-◌}
+use Rattle.std.proofs.Common.{◌≡◌, ◌<◌, ◌≤◌, ◌++◌, length, get_or, pos, arith, sym, ap, subst, ◌∙◌, append-nil, refl, [], ◌∷◌, Some, None, Vec, Global, vec_len, vec_capacity, List, ◌-◌}
 use Rattle.std.proofs.lemmas.Int.{ints}
 use Rattle.std.specs.List.Sorted.{IsNonDecreasingBy}
-use Rattle.custodial_book.specs.declared.part.Account.TheVariants.{T, P}
 use Rattle.custodial_book.specs.declared.row.Row.{Row}
 use Rattle.custodial_book.specs.declared.part.Part.TheVariants.{Received}
 use Rattle.custodial_book.specs.Parts.{parts}
-use Rattle.custodial_book.specs.Rows.{balance_of, moved}
-use Rattle.custodial_book.proofs.RowLemmas.{balance_push, last_before, last_of_push, rows_more, rising_push, part_at, no_rows, changed_at, change_bound}
+use Rattle.custodial_book.proofs.RowLemmas.{last_before, last_of_push, rows_more, rising_push, part_at, no_rows, changed_at, change_bound}
 use Rattle.custodial_book.proofs.book.add_changes.Goals as goal
 use Rattle.custodial_book.proofs.book.add_changes.Goals.{in-Some, in_default}
 
@@ -15,21 +13,9 @@ loop-k-init c = record {
   items = sym (append-nil c.args.entries.now.items);
   room = omega arith;
   capacity = refl;
-  rising = c.requires.book.rising;
+  rising = c.requires.rising;
   last = last_before c.args.entries.now.items c.args.number c.args.loan c.requires.next;
-  t_is = c.requires.book.t_is;
-  p_is = c.requires.book.p_is;
-  t_low = omega (arith, ints, c.requires.book.t_bound);
-  t_high = omega (arith, ints, c.requires.book.t_bound);
-  p_low = omega (arith, ints, c.requires.book.p_bound);
-  p_high = omega (arith, ints, c.requires.book.p_bound);
 }
-
-pub add_row-requires-clause-t : goal.add_row-requires-clause-t
-add_row-requires-clause-t c = (omega (arith, ints), omega (arith, ints))
-
-pub add_row-requires-clause-p : goal.add_row-requires-clause-p
-add_row-requires-clause-p c = (omega (arith, ints), omega (arith, ints))
 
 pub change-requires-clause-cents : goal.change-requires-clause-cents
 change-requires-clause-cents c =
@@ -43,20 +29,14 @@ loop-k-preserved c =
     let bound = change_bound c.args.before.now c.args.after.now (get_or parts c.loop-k.k Received) c.requires.before c.requires.after in
     elim c.match-change.branch [
       | in-Some w ↦
-          let push : c.match-change.entries.items ≡ c.loop-k.entries.items ++ w.in-Some.row ∷ [] = ap (λ (v : Vec Row Global). v.items) w.entries-is ∙ w.add_row.ensures.items in
+          let push : c.match-change.entries.items ≡ c.loop-k.entries.items ++ w.in-Some.row ∷ [] = ap (λ (v : Vec Row Global). v.items) w.entries-is ∙ w.push_reserved.ensures.items in
           let number : w.in-Some.row.number ≡ c.args.number = w.in-Some.ensures.number in
           record {
             items = rows_more _ c.args.entries.now.items c.loop-k.entries.items c.match-change.entries.items c.loop-k.k _ (Some w.in-Some.row) (omega arith) (part_at c.loop-k.k _ (omega arith)) c.loop-k.invariant.items (w.in-Some.ensures.row c.args.before.now c.args.after.now (omega (arith, ints, changed, bound))) push;
-            room = omega (arith, ap vec_len w.entries-is, ap vec_capacity w.entries-is, w.add_row.ensures.len, w.add_row.ensures.capacity);
-            capacity = ap vec_capacity w.entries-is ∙ w.add_row.ensures.capacity ∙ c.loop-k.invariant.capacity;
+            room = omega (arith, ap vec_len w.entries-is, ap vec_capacity w.entries-is, w.push_reserved.ensures.len, w.push_reserved.ensures.capacity);
+            capacity = ap vec_capacity w.entries-is ∙ w.push_reserved.ensures.capacity ∙ c.loop-k.invariant.capacity;
             rising = subst (IsNonDecreasingBy (λ (r : Row). r.number)) (sym push) (rising_push c.loop-k.entries.items w.in-Some.row c.args.number c.loop-k.invariant.rising c.loop-k.invariant.last number);
             last = λ d some. let at : (get_or c.match-change.entries.items (length c.match-change.entries.items - 1) d).number ≡ w.in-Some.row.number = ap (λ (rs : List Row). (get_or rs (length rs - 1) d).number) push ∙ ap (λ (r : Row). r.number) (last_of_push c.loop-k.entries.items w.in-Some.row d) in omega (arith, at, number);
-            t_is = w.t-is ∙ w.add_row.ensures.t ∙ ap (λ b. b +ℤ moved T w.in-Some.row.part w.in-Some.row.cents) c.loop-k.invariant.t_is ∙ sym (balance_push T c.loop-k.entries.items w.in-Some.row) ∙ ap (balance_of T) (sym push);
-            p_is = w.p-is ∙ w.add_row.ensures.p ∙ ap (λ b. b +ℤ moved P w.in-Some.row.part w.in-Some.row.cents) c.loop-k.invariant.p_is ∙ sym (balance_push P c.loop-k.entries.items w.in-Some.row) ∙ ap (balance_of P) (sym push);
-            t_low = omega (arith, ints, w.add_row.ensures.t_near, w.t-is);
-            t_high = omega (arith, ints, w.add_row.ensures.t_near, w.t-is);
-            p_low = omega (arith, ints, w.add_row.ensures.p_near, w.p-is);
-            p_high = omega (arith, ints, w.add_row.ensures.p_near, w.p-is);
           }
       | in_default w ↦
           let same : c.match-change.entries.items ≡ c.loop-k.entries.items = ap (λ (v : Vec Row Global). v.items) w.entries-is in
@@ -66,12 +46,6 @@ loop-k-preserved c =
             capacity = ap vec_capacity w.entries-is ∙ c.loop-k.invariant.capacity;
             rising = subst (IsNonDecreasingBy (λ (r : Row). r.number)) (sym same) c.loop-k.invariant.rising;
             last = subst (λ (rs : List Row). (d : Row) → 0 < length rs → (get_or rs (length rs - 1) d).number ≤ c.args.number) (sym same) c.loop-k.invariant.last;
-            t_is = w.t-is ∙ c.loop-k.invariant.t_is ∙ ap (balance_of T) (sym same);
-            p_is = w.p-is ∙ c.loop-k.invariant.p_is ∙ ap (balance_of P) (sym same);
-            t_low = omega (arith, ints, w.t-is);
-            t_high = omega (arith, ints, w.t-is);
-            p_low = omega (arith, ints, w.p-is);
-            p_high = omega (arith, ints, w.p-is);
           }
     ]
 

@@ -1,10 +1,9 @@
-use Rattle.std.proofs.Common.{◌≡◌, ◌+◌, ◌-◌, ◌*◌, ◌<◌, ◌≤◌, pos, neg_ℤ, ◌≤ℤ◌, ◌++◌, length, get_or, take, vec_len, vec_capacity}
+use Rattle.std.proofs.Common.{◌≡◌, ◌+◌, ◌-◌, ◌<◌, ◌≤◌, ◌++◌, length, get_or, take, vec_len, vec_capacity}
 use Rattle.std.specs.List.{filter_map}
 use Rattle.std.specs.List.Sorted.{IsNonDecreasingBy}
-use Rattle.custodial_book.specs.declared.part.Account.TheVariants.{T, P}
 use Rattle.custodial_book.specs.declared.row.Row.{Row}
 use Rattle.custodial_book.specs.Parts.{parts}
-use Rattle.custodial_book.specs.Rows.{balance_of, row_of}
+use Rattle.custodial_book.specs.Rows.{row_of}
 use Rattle.custodial_book.proofs.book.add_changes.Given as goal
 
 abbrev pub invariant-loop-k : goal.invariant-loop-k
@@ -14,10 +13,4 @@ invariant-loop-k l = record {
   capacity : vec_capacity l.entries ≡ vec_capacity l.fn.entries;
   rising : IsNonDecreasingBy (λ (row : Row). row.number) l.entries.items;
   last : (d : Row) → 0 < length l.entries.items → (get_or l.entries.items (length l.entries.items - 1) d).number ≤ l.number;
-  t_is : l.t ≡ balance_of T l.entries.items;
-  p_is : l.p ≡ balance_of P l.entries.items;
-  t_low : neg_ℤ (pos (1_000_000_000_000_000_000 + 200_000_000_000_000_000 * l.k)) ≤ℤ l.t;
-  t_high : l.t ≤ℤ pos (1_000_000_000_000_000_000 + 200_000_000_000_000_000 * l.k);
-  p_low : neg_ℤ (pos (1_000_000_000_000_000_000 + 200_000_000_000_000_000 * l.k)) ≤ℤ l.p;
-  p_high : l.p ≤ℤ pos (1_000_000_000_000_000_000 + 200_000_000_000_000_000 * l.k);
 }

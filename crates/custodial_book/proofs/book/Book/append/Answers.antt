@@ -1,4 +1,5 @@
-use Rattle.std.proofs.Common.{◌≡◌, ◌++◌, List, ap, sym, subst, ◌∙◌}
+use Rattle.std.proofs.Common.{◌≡◌, ◌++◌, List, ap, arith, subst, sym, ◌∙◌}
+use Rattle.std.proofs.lemmas.Int.{ints, clamps}
 use Rattle.custodial_book.specs.declared.part.Account.{Account}
 use Rattle.custodial_book.specs.declared.part.Account.TheVariants.{T, P}
 use Rattle.custodial_book.specs.declared.row.Row.{Row}
@@ -16,12 +17,16 @@ balances c account =
 
 pub invariant_of-self-2 : goal.invariant_of-self-2
 invariant_of-self-2 c =
+    let t = balances c T in
+    let p = balances c P in
+    let t_was : c.self.inside.t ≡ balance_of T c.args.self.now.rows = c.self.invariant.t_is ∙ ap (balance_of T) (ap (λ (k : Kept). k.rows) c.self.view_is) in
+    let p_was : c.self.inside.p ≡ balance_of P c.args.self.now.rows = c.self.invariant.p_is ∙ ap (balance_of P) (ap (λ (k : Kept). k.rows) c.self.view_is) in
     record {
       rising = c.add_changes.ensures.rising;
-      t_is = c.add_changes.ensures.t_is;
-      p_is = c.add_changes.ensures.p_is;
-      t_bound = subst IsBalance (sym (c.add_changes.ensures.t_is ∙ balances c T)) c.requires.t;
-      p_bound = subst IsBalance (sym (c.add_changes.ensures.p_is ∙ balances c P)) c.requires.p;
+      t_is = omega (arith, ints, clamps, t, t_was, c.cash_change.ensures, c.self.invariant.t_bound);
+      p_is = omega (arith, ints, clamps, p, p_was, c.cash_change-2.ensures, c.self.invariant.p_bound);
+      t_bound = (omega (arith, ints, clamps, t, t_was, c.cash_change.ensures, c.self.invariant.t_bound, c.requires.t), omega (arith, ints, clamps, t, t_was, c.cash_change.ensures, c.self.invariant.t_bound, c.requires.t));
+      p_bound = (omega (arith, ints, clamps, p, p_was, c.cash_change-2.ensures, c.self.invariant.p_bound, c.requires.p), omega (arith, ints, clamps, p, p_was, c.cash_change-2.ensures, c.self.invariant.p_bound, c.requires.p));
     }
 
 pub returns-clause-balances : goal.returns-clause-balances
