@@ -36,19 +36,19 @@ pub fn read_rows<R: Row>(alloc: Global, bytes: &[u8], said: &mut R::Said) -> Res
 }
 
 /// Takes the row with that number: the first must be the header.
-fn take_row<R: Row>(said: &mut R::Said, number: u32, record: &ByteRecord) -> Result<(), R::Fault>
+fn take_row<R: Row>(said: &mut R::Said, number: u32, row: &ByteRecord) -> Result<(), R::Fault>
     requires { 0 < number }
     ensures taken { (rows : List (List (List ℕ))) → number ≡ length rows + 1
         → IsTaken R.header R.says rows said.old
-        → OnOk result (IsTaken R.header R.says (rows ++ fields_of record.now ∷ []) said.new) }
+        → OnOk result (IsTaken R.header R.says (rows ++ fields_of row.now ∷ []) said.new) }
     ensures fault { IfErr result (λ fault. (bytes : List ℕ) (rows after : List (List (List ℕ)))
-        → records_of bytes ≡ rows ++ fields_of record.now ∷ after
+        → records_of bytes ≡ rows ++ fields_of row.now ∷ after
         → number ≡ length rows + 1 → IsTaken R.header R.says rows said.old → R.faulty bytes fault) }
 {
     if number > 1 {
-        return R::take(said, number, record);
+        return R::take(said, number, row);
     }
-    if R::is_header(record) {
+    if R::is_header(row) {
         Ok(())
     } else {
         Err(R::headless())

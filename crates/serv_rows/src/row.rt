@@ -24,18 +24,18 @@ pub trait Row {
     /// Why the file of these bytes says nothing.
     ghost faulty: { List ℕ → Self.Fault → Type 0 };
 
-    /// Whether a record is the header.
-    fn is_header(record: &ByteRecord) -> bool
-        ensures { IsTrue result ↔ (fields_of record.now ≡ header) };
+    /// Whether a row is the header.
+    fn is_header(row: &ByteRecord) -> bool
+        ensures { IsTrue result ↔ (fields_of row.now ≡ header) };
 
     /// Adds what the row with that number says, counted from 1 with the header. Errs where the file says nothing
     /// because of this row, or where memory is short.
-    fn take(said: &mut Self::Said, number: u32, record: &ByteRecord) -> Result<(), Self::Fault>
+    fn take(said: &mut Self::Said, number: u32, row: &ByteRecord) -> Result<(), Self::Fault>
         requires { 1 < number }
         ensures taken { (before : List (List (List ℕ))) → number ≡ length before + 2 → says before said.old
-            → OnOk result (says (before ++ fields_of record.now ∷ []) said.new) }
+            → OnOk result (says (before ++ fields_of row.now ∷ []) said.new) }
         ensures fault { IfErr result (λ fault. (bytes : List ℕ) (before after : List (List (List ℕ)))
-            → records_of bytes ≡ header ∷ (before ++ fields_of record.now ∷ after)
+            → records_of bytes ≡ header ∷ (before ++ fields_of row.now ∷ after)
             → number ≡ length before + 2 → says before said.old → faulty bytes fault) };
 
     /// The fault of a file whose first row is not the header, or that has no row.
