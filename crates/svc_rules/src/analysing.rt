@@ -9,6 +9,7 @@ ghost use Rattle.svc_world.specs.Refusals as rule;
 ghost use Rattle.svc_rules.specs.State.{world_of};
 
 use crate::entries::refuse_adjustments;
+use crate::limits::MOST_ENTRIES;
 use crate::state::State;
 use escrow_analysis::{Analysis, analyse};
 use escrow_resolve::{Parts, settle, split};
@@ -30,7 +31,7 @@ pub(crate) fn refuse_analyse<B: LoanBooks>(
     ensures { result ≡ rule.first_of (rule.analyse_cases
         (world_of state.now.today state.now.loans state.now.seals) plan.now loan.now.held) }
 {
-    if loan.moved().entries >= 4_096 {
+    if loan.moved().entries >= MOST_ENTRIES {
         return Some(Refusal::Full(Limit::Entries));
     }
     if let Err(fault) = settle_now(loan, state.today, plan) {

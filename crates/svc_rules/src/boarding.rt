@@ -8,6 +8,7 @@ ghost use Rattle.svc_world.specs.Held.{find_loan};
 ghost use Rattle.svc_world.specs.Refusals as rule;
 ghost use Rattle.svc_rules.specs.State.{world_of};
 
+use crate::limits::MOST_LOANS;
 use crate::state::State;
 use svc_base::{Day, month_of};
 use svc_loan::Loans;
@@ -24,7 +25,7 @@ pub(crate) fn refuse_board<B: LoanBooks>(
     ensures { result ≡ rule.first_of (rule.board_cases
         (world_of state.now.today state.now.loans state.now.seals) id terms.now) }
 {
-    if count(&state.loans) >= 12_000 {
+    if count(&state.loans) >= MOST_LOANS {
         return Some(Refusal::Full(Limit::Loans));
     }
     if has_loan(&state.loans, id) {

@@ -5,6 +5,7 @@ ghost use Rattle.std.specs.Prelude.{◌≡◌, ◌+◌, ◌≤◌, None, [], ◌
 ghost use Rattle.svc_world.specs.Refusals as rule;
 ghost use Rattle.svc_rules.specs.State.{world_of};
 
+use crate::limits::{MOST_ADJUSTMENTS, MOST_ENTRIES};
 use crate::state::State;
 use period_adjust::Seals;
 use svc_base::{Cents, Day, Month};
@@ -27,7 +28,7 @@ pub(crate) fn refuse_dated<B: LoanBooks>(
     ensures since { result ≡ None → loan.now.held.account.terms.boarded ≤ day }
     ensures until { result ≡ None → day ≤ state.now.today }
 {
-    if loan.moved().entries >= 4_096 {
+    if loan.moved().entries >= MOST_ENTRIES {
         return Some(Refusal::Full(Limit::Entries));
     }
     if !(1 <= cents && cents <= 10_000_000_000) {
@@ -48,7 +49,7 @@ pub(crate) fn refuse_dated<B: LoanBooks>(
 pub(crate) fn refuse_present<B: LoanBooks>(loan: &Loan<B>, cents: Cents) -> Option<Refusal>
     ensures { result ≡ rule.first_of (rule.full_of_entries loan.now.held ∷ rule.bad_amount cents ∷ []) }
 {
-    if loan.moved().entries >= 4_096 {
+    if loan.moved().entries >= MOST_ENTRIES {
         return Some(Refusal::Full(Limit::Entries));
     }
     if !(1 <= cents && cents <= 10_000_000_000) {
@@ -64,7 +65,7 @@ pub(crate) fn refuse_adjustments<B: LoanBooks>(state: &State<B>, month: Month) -
         (rule.adjustments_full (world_of state.now.today state.now.loans state.now.seals) month ∷ []) }
 {
     let held = state.seals.held();
-    if 4_000_000 < u64::from(held) + closed_from(&state.seals, month) {
+    if MOST_ADJUSTMENTS < u64::from(held) + closed_from(&state.seals, month) {
         return Some(Refusal::AdjustmentsFull(held));
     }
     None

@@ -6,6 +6,7 @@ mod boarding;
 mod days;
 mod entries;
 mod figures;
+mod limits;
 mod lines;
 mod money_in;
 mod money_out;

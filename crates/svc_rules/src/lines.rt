@@ -3,6 +3,7 @@
 ghost use Rattle.std.specs.Prelude.{◌≡◌, [], ◌∷◌};
 ghost use Rattle.svc_world.specs.Refusals as rule;
 
+use crate::limits::MOST_LINES;
 use escrow_lines::Line;
 use svc_loan::Loan;
 use svc_replay::LoanBooks;
@@ -12,7 +13,7 @@ use svc_types::{Limit, Refusal};
 pub(crate) fn refuse_line<B: LoanBooks>(loan: &Loan<B>, line: &Line) -> Option<Refusal>
     ensures { result ≡ rule.first_of (rule.line_cases line.now loan.now.held) }
 {
-    if !has_line(loan, line.id) && loan.lines().len() >= 16 {
+    if !has_line(loan, line.id) && loan.lines().len() >= MOST_LINES {
         return Some(Refusal::Full(Limit::Lines));
     }
     match line.fault() {

@@ -8,6 +8,7 @@ ghost use Rattle.svc_loan.specs.Loans.{held_in};
 ghost use Rattle.svc_world.specs.Refusals as rule;
 ghost use Rattle.svc_rules.specs.State.{world_of};
 
+use crate::limits::MOST_MONTHS;
 use crate::state::State;
 use period_adjust::Seals;
 use svc_base::{Month, last_day, month_of};
@@ -21,7 +22,7 @@ pub(crate) fn refuse_close<B: LoanBooks>(state: &State<B>, month: Month) -> Opti
     ensures { result ≡ rule.first_of (rule.close_cases
         (world_of state.now.today state.now.loans state.now.seals) month) }
 {
-    if state.seals.reports().len() >= 600 {
+    if state.seals.reports().len() >= MOST_MONTHS {
         return Some(Refusal::Full(Limit::Months));
     }
     let next = next_to_close(state);

@@ -12,6 +12,7 @@ ghost use Rattle.svc_rules.specs.Costs.{refusing_cost};
 use crate::analysing::refuse_analyse;
 use crate::boarding::refuse_board;
 use crate::days::refuse_day;
+use crate::limits::MOST_COMMANDS;
 use crate::lines::{refuse_drop, refuse_line};
 use crate::money_in::{refuse_curtail, refuse_paid_in, refuse_payoff};
 use crate::money_out::{refuse_disburse, refuse_refund};
@@ -42,7 +43,7 @@ pub fn refuse<B: LoanBooks, L: Ledger>(
     ensures steps { steps.new ≤ steps.old + refusing_cost B.cost
         (world_of state.now.today state.now.loans state.now.seals) command.now }
 {
-    if count >= 1_000_000 {
+    if count >= MOST_COMMANDS {
         return Some(Refusal::Full(Limit::Commands));
     }
     match scope_of(command) {

@@ -4,6 +4,7 @@ ghost use Rattle.std.specs.Prelude.{◌≡◌};
 ghost use Rattle.svc_world.specs.Refusals as rule;
 ghost use Rattle.svc_rules.specs.State.{world_of};
 
+use crate::limits::MOST_TYPES;
 use crate::state::State;
 use svc_base::{Month, month_of};
 use svc_loan::Loan;
@@ -19,7 +20,7 @@ pub(crate) fn refuse_retype<B: LoanBooks>(
     ensures { result ≡ rule.first_of (rule.retype_cases
         (world_of state.now.today state.now.loans state.now.seals) from loan.now.held) }
 {
-    if loan.type_count() >= 64 {
+    if loan.type_count() >= MOST_TYPES {
         return Some(Refusal::Full(Limit::Types));
     }
     let boarded = loan.terms().boarded;
