@@ -1,13 +1,13 @@
 -- A loan of a history: what holds of it, and what a query for its books is answered.
-use Rattle.std.proofs.Common.{◌≡◌, ℕ, ◌≤◌, true, false, List, [], ◌∷◌, length, arith, refl, sym, ap, ◌∙◌, subst}
+use Rattle.std.proofs.Common.{◌≡◌, ℕ, ◌≤◌, ◌<◌, true, false, List, [], ◌∷◌, length, arith, refl, sym, ap, ◌∙◌, subst}
 use Rattle.std.specs.Prelude.{nat_lt, Some, None}
 use Rattle.std.specs.Option.{option_map, option_map_or}
 use Rattle.std.proofs.lemmas.Bool.Decides.{nat_tests}
-use Rattle.svc_base.specs.Calendar.{IsReadDay, month_of, first_day}
+use Rattle.svc_base.specs.Calendar.{IsDay, IsReadDay, month_of, first_day}
 use Rattle.svc_base.specs.DayLemmas.{month_length_least}
 use Rattle.svc_types.specs.declared.terms.Terms.{Terms}
 use Rattle.svc_types.specs.declared.books.Books.{Books}
-use Rattle.svc_types.specs.declared.replies.Refusal.TheVariants.{NoSuchLoan}
+use Rattle.svc_types.specs.declared.replies.Refusal.TheVariants.{NoSuchLoan, FutureDated, BeforeBoarding}
 use Rattle.svc_types.specs.declared.requests.Query.TheVariants as query
 use Rattle.svc_types.specs.Terms.{IsSound}
 use Rattle.svc_spec.specs.Accounts.{Account, IsAccount, books_of}
@@ -110,6 +110,28 @@ day_told h id t day k until since =
     let w = world h in
     let e = ap (λ (x : Terms). x.boarded) k.terms in
     ap (λ o. first_of (option_map_or (day_cases w day) o (case true NoSuchLoan ∷ []))) k.found ∙ no_case w day k.held until (omega (arith, e))
+
+-- after the business day, and before the boarded day, they are not
+pub late_refused : (h : List Accepted) (id : ℕ) (t : Terms) (day : ℕ) → HasLoan h id t → (world h).today < day → day_refusal h id day ≡ Some (FutureDated (world h).today)
+late_refused h id t day k after =
+    let w = world h in
+    let late : nat_lt w.today day ≡ true = grind (arith, nat_tests) in
+    ap (λ o. first_of (option_map_or (day_cases w day) o (case true NoSuchLoan ∷ []))) k.found ∙ (rw late refl)
+
+pub early_refused : (h : List Accepted) (id : ℕ) (t : Terms) (day : ℕ) → HasLoan h id t → day ≤ (world h).today → day < t.boarded → day_refusal h id day ≡ Some (BeforeBoarding t.boarded)
+early_refused h id t day k until before =
+    let w = world h in
+    let e = ap (λ (x : Terms). x.boarded) k.terms in
+    let late : nat_lt w.today day ≡ false = grind (arith, nat_tests) in
+    let early : nat_lt day k.held.account.terms.boarded ≡ true = grind (arith, nat_tests, e) in
+    ap (λ o. first_of (option_map_or (day_cases w day) o (case true NoSuchLoan ∷ []))) k.found ∙ (rw (late, early) refl) ∙ ap (λ d. Some (BeforeBoarding d)) e
+
+-- between them each day is one that a request can name
+pub day_between : (h : List Accepted) (id : ℕ) (t : Terms) (day : ℕ) → HasLoan h id t → IsDay day → day ≤ (world h).today → t.boarded ≤ day → IsReadDay day
+day_between h id t day k exists until since =
+    let first = (loan_boarded h id t k).first in
+    let last = k.today.last in
+    record { exists = exists; first = omega arith; last = omega arith }
 
 -- ---- first days
 

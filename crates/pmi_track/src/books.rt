@@ -12,7 +12,7 @@ use std::sync::ledger::Ledger;
 use svc_base::{Day, Month, OutOfMemory, Steps, first_day};
 use svc_core::{Core, CoreFault};
 use svc_replay::LoanBooks;
-use svc_types::{Books, Query, Terms};
+use svc_types::{Books, Query, Refusal, Terms};
 use svc_world::Answer;
 
 /// The books of a loan on a day. It is refused where the loan is not there or has no books on that
@@ -35,6 +35,36 @@ pub(crate) fn books_on<B: LoanBooks, L: Ledger>(
         Some(books) => Ok(books),
         None => unreachable!(),
     }
+}
+
+/// The books of a loan that is there, on any day. It is refused after the business day and before the boarded day, so on
+/// each day that no request can name; beside that it fails for want of memory alone.
+pub(crate) fn books_on_any<B: LoanBooks, L: Ledger>(
+    core: &Core<B>,
+    loan: u32,
+    terms: &Terms,
+    day: Day,
+    steps: &mut Steps<L>,
+) -> Result<Books, CoreFault>
+    requires terms { terms_in (world core.now.history) loan ≡ Some terms.now }
+    ensures books { IfOk result (λ b. OfLoan core.now.history loan (λ a. b ≡ books_of a day)) }
+    ensures told { OnOk result (day_refusal core.now.history loan day ≡ None) }
+    ensures refused { IfErr result (IsQueryFault (day_refusal core.now.history loan day)) }
+    ensures steps { steps.new ≤ steps.old
+        + asking_month B.cost (world core.now.history) loan (month_number day) }
+{
+    core.history_holds();
+    let today = core.today();
+    if day > today {
+        return Err(CoreFault::Refused(Refusal::FutureDated(today)));
+    }
+    if day < terms.boarded {
+        return Err(CoreFault::Refused(Refusal::BeforeBoarding(terms.boarded)));
+    }
+    // the calendar has the day
+    let place = day.day();
+    prove!(place >= 1);
+    books_on(core, loan, day, steps)
 }
 
 /// The books that an answer tells.

@@ -1,7 +1,6 @@
 //! What has become of the insurance of a loan.
 
-ghost use Rattle.std.specs.Prelude.{◌≡◌, ◌+◌, ◌≤◌, ℕ, None, Some, IfErr, IfOk, OnOk, IfSome};
-ghost use Rattle.svc_base.specs.Calendar.{IsReadDay};
+ghost use Rattle.std.specs.Prelude.{◌≡◌, ◌+◌, ◌≤◌, ℕ, None, Some, IfErr, IfOk, OnOk};
 ghost use Rattle.svc_spec.specs.Accounts.{Account};
 ghost use Rattle.svc_spec.specs.Months.{cost_of_month};
 ghost use Rattle.svc_world.specs.World.{world};
@@ -29,7 +28,6 @@ pub fn outcome<B: LoanBooks, L: Ledger>(
     insured: &InsuredLoan,
     steps: &mut Steps<L>,
 ) -> Result<PmiOutcome, CoreFault>
-    requires asked { IfSome insured.now.asked IsReadDay }
     ensures outcome { IfOk result
         (λ o. insured_loan.outcome_in (world core.now.history) insured.now ≡ Some o) }
     ensures told { OnOk result (insured_loan.insurance_refusal (world core.now.history) insured.now ≡ None) }
@@ -50,7 +48,6 @@ pub(crate) fn outcome_with<B: LoanBooks, L: Ledger>(
     steps: &mut Steps<L>,
 ) -> Result<PmiOutcome, CoreFault>
     requires terms { terms.now ≡ boarded_terms insured.now.loan core.now.history }
-    requires asked { IfSome insured.now.asked IsReadDay }
     ensures outcome { IfOk result
         (λ o. insured_loan.outcome_in (world core.now.history) insured.now ≡ Some o) }
     ensures told { OnOk result (insured_loan.insurance_refusal (world core.now.history) insured.now ≡ None) }

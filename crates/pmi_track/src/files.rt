@@ -1,9 +1,8 @@
 //! What is written of a file of insured loans.
 
-ghost use Rattle.std.specs.Prelude.{◌≡◌, ◌+◌, ◌≤◌, ◌++◌, ◌^◌, ℕ, IfOk, IfSome, OnOk, length, nat_eq, None, Some};
+ghost use Rattle.std.specs.Prelude.{◌≡◌, ◌+◌, ◌≤◌, ◌++◌, ◌^◌, ℕ, IfOk, OnOk, length, nat_eq, None, Some};
 ghost use Rattle.std.specs.HashMap.{get};
 ghost use Rattle.std.specs.List.{All, flat_map, sum_by};
-ghost use Rattle.svc_base.specs.Calendar.{IsReadDay};
 ghost use Rattle.svc_spec.specs.Accounts.{Account};
 ghost use Rattle.svc_spec.specs.Months.{cost_of_month};
 ghost use Rattle.svc_world.specs.World.{world};
@@ -123,7 +122,6 @@ fn push_insurance<B: LoanBooks, L: Ledger>(
     steps: &mut Steps<L>,
 ) -> Result<(), OutOfMemory>
     requires table { IsTable (get nat_eq table.now) core.now.history }
-    requires asked { IfSome insured.now.asked IsReadDay }
     ensures pushed { OnOk result (out.new.items ≡ out.old.items
         ++ texts.insurance_by insured.now.loan (insurance_refusal (world core.now.history) insured.now)
         (outcome_in (world core.now.history) insured.now)) }
@@ -193,7 +191,6 @@ fn push_ended<B: LoanBooks, L: Ledger>(
     steps: &mut Steps<L>,
 ) -> Result<(), OutOfMemory>
     requires table { IsTable (get nat_eq table.now) core.now.history }
-    requires asked { IfSome insured.now.asked IsReadDay }
     ensures pushed { OnOk result (out.new.items ≡ out.old.items
         ++ texts.drop_by insured.now (insurance_refusal (world core.now.history) insured.now)
         (outcome_in (world core.now.history) insured.now)) }

@@ -1,6 +1,6 @@
 //! What becomes of a borrower's request.
 
-ghost use Rattle.std.specs.Prelude.{◌≡◌, ◌+◌, ◌≤◌, None, Some, IfErr, IfOk, OnOk, IfSome, false};
+ghost use Rattle.std.specs.Prelude.{◌≡◌, ◌+◌, ◌≤◌, None, Some, IfErr, IfOk, OnOk, false};
 ghost use Rattle.svc_base.specs.Calendar.{IsReadDay};
 ghost use Rattle.svc_types.specs.Terms.{IsSound};
 ghost use Rattle.svc_spec.specs.Books.{AreBooks};
@@ -12,7 +12,7 @@ ghost use Rattle.pmi_track.specs.Insurance as insurance;
 ghost use Rattle.pmi_track.specs.Insured.{asked_cost, insurance_refusal};
 ghost use Rattle.pmi_track.specs.Loans.{OfLoan, terms_in};
 
-use crate::books::books_on;
+use crate::books::books_on_any;
 use crate::ending::is_within;
 use crate::insured_loan::InsuredLoan;
 use crate::pmi_outcome::Denial;
@@ -33,7 +33,6 @@ pub(crate) fn denial_of<B: LoanBooks, L: Ledger>(
     steps: &mut Steps<L>,
 ) -> Result<Option<Denial>, CoreFault>
     requires terms { terms_in (world core.now.history) insured.now.loan ≡ Some terms.now }
-    requires asked { IfSome insured.now.asked IsReadDay }
     ensures denial { IfOk result (λ d. OfLoan core.now.history insured.now.loan
         (λ a. d ≡ insurance.denial_of a insured.now.value insured.now.asked)) }
     ensures told { OnOk result (insurance_refusal (world core.now.history) insured.now ≡ None) }
@@ -45,7 +44,7 @@ pub(crate) fn denial_of<B: LoanBooks, L: Ledger>(
     let Some(day) = insured.asked else {
         return Ok(None);
     };
-    let books = books_on(core, insured.loan, day, steps)?;
+    let books = books_on_any(core, insured.loan, terms, day, steps)?;
     Ok(denial_with(&books, terms, day, insured.value))
 }
 

@@ -85,7 +85,9 @@ fn entry_made(number: u32, today: Day, command: &Command) -> Option<Entry>
         } => (day, Act::Disburse(amount, line)),
         Command::Refund(_, cents) => (today, Act::Refund(cents)),
         Command::Waive(_, cents) => (today, Act::Waive(cents)),
-        _ => return None,
+        Command::Reverse { .. } | Command::Analyse(..) | Command::Retype { .. } => return None,
+        Command::Line { .. } | Command::Drop { .. } => return None,
+        Command::Day(_) | Command::Board(..) | Command::Close(_) | Command::Remit(_) => return None,
     };
     Some(Entry { number, day, act })
 }

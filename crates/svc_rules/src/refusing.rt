@@ -137,6 +137,6 @@ fn refuse_on<B: LoanBooks, L: Ledger>(
         Command::Drop { line, .. } => refuse_drop(loan, line),
         Command::Analyse(_, plan) => refuse_analyse(state, loan, &plan),
         Command::Retype { period, .. } => refuse_retype(state, loan, period),
-        _ => None,
+        Command::Day(_) | Command::Board(..) | Command::Close(_) | Command::Remit(_) => None,
     }
 }
