@@ -1,3 +1,4 @@
 pub mod EndsLemmas
+pub mod PlanLemmas
 pub mod PostedLemmas
 pub mod QuietLemmas

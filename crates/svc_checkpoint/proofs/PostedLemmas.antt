@@ -22,6 +22,7 @@ use Rattle.svc_spec.proofs.StepsLemmas.{next_rises, books_first}
 use Rattle.svc_replay.specs.declared.cursor.Lates.{Lates}
 use Rattle.svc_replay.specs.Kept.{IsQuietAfter}
 use Rattle.svc_replay.proofs.LastLemmas.{quiet_month, posted_events, posted_books, posted_within, posted_count}
+use Rattle.svc_checkpoint.specs.declared.month_end.MonthEnd.{MonthEnd}
 use Rattle.svc_checkpoint.specs.Ends.{AreChecked, counted_before}
 use Rattle.svc_checkpoint.proofs.EndsLemmas.{counted_first, counted_later, own_day, ends_fewer, posted_ends, within_change}
 
@@ -41,7 +42,7 @@ stepped a t e b b' h may quiet terms now is =
     ∙ ap (λ x. on a.today (step a.terms (event_of e) (on e.day x))) now
     ∙ sym (posted_books a e h may quiet)
 
-checked_onto : (a : Account) (t : Terms) (e : Entry) (ends : List Books) (b b' : Books) (lates : Lates) → AreChecked a ends b lates → MayPost a e → IsAccount (posted e a) → IsQuietAfter a e.day → t ≡ a.terms → b' ≡ on b.day (step t (event_of e) (on e.day b)) → AreBooks t b' → AreChecked (posted e a) ends b' lates
+checked_onto : (a : Account) (t : Terms) (e : Entry) (ends : List MonthEnd) (b b' : Books) (lates : Lates) → AreChecked a ends b lates → MayPost a e → IsAccount (posted e a) → IsQuietAfter a e.day → t ≡ a.terms → b' ≡ on b.day (step t (event_of e) (on e.day b)) → AreBooks t b' → AreChecked (posted e a) ends b' lates
 checked_onto a t e ends b b' lates h may h' quiet terms is sound =
     let month = quiet_month a e.day may.since quiet in
     let count = h.count in
@@ -58,7 +59,7 @@ checked_onto a t e ends b b' lates h may h' quiet terms is sound =
     }
 
 -- the ends that are kept stay, and the books now are moved on
-pub checked_last : (a a' : Account) (t : Terms) (e : Entry) (ends : List Books) (b b' : Books) (lates : Lates) → AreChecked a ends b lates → MayPost a e → IsAccount a' → a' ≡ posted e a → IsQuietAfter a e.day → t ≡ a'.terms → b' ≡ on b.day (step t (event_of e) (on e.day b)) → AreBooks t b' → AreChecked a' ends b' lates
+pub checked_last : (a a' : Account) (t : Terms) (e : Entry) (ends : List MonthEnd) (b b' : Books) (lates : Lates) → AreChecked a ends b lates → MayPost a e → IsAccount a' → a' ≡ posted e a → IsQuietAfter a e.day → t ≡ a'.terms → b' ≡ on b.day (step t (event_of e) (on e.day b)) → AreBooks t b' → AreChecked a' ends b' lates
 checked_last a a' t e ends b b' lates h may h' is quiet terms step sound =
     subst (λ x. AreChecked x ends b' lates) (sym is) (checked_onto a t e ends b b' lates h may (subst IsAccount is h') quiet (terms ∙ ap (λ (x : Account). x.terms) is) step sound)
 

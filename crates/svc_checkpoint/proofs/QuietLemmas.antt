@@ -18,6 +18,7 @@ use Rattle.svc_replay.specs.Left.{AreLates, next_late}
 use Rattle.svc_replay.proofs.LeftLemmas.{entries_end, none_leads}
 use Rattle.svc_replay.proofs.AfterLemmas.{past_left}
 use Rattle.svc_replay.proofs.CursorLemmas.{after_entries}
+use Rattle.svc_checkpoint.specs.declared.month_end.MonthEnd.{MonthEnd}
 use Rattle.svc_checkpoint.specs.Ends.{AreChecked}
 use Rattle.svc_checkpoint.proofs.EndsLemmas.{checked_advance}
 
@@ -62,7 +63,7 @@ quiet_lates a d l lates quiet =
           | false ↦ λ e g. let more : a.terms.term ≤ l.count = grind (arith, nat_tests) in absurd (omega arith)
         ] refl h
 
-pub quiet_checked : (a a' : Account) (d : ℕ) (ends : List Books) (b b' : Books) (l : Lates) → AreChecked a ends b l → IsDay d → IsQuietTo a d l → a' ≡ advanced_to d a → b' ≡ on d b → AreChecked a' ends b' l
+pub quiet_checked : (a a' : Account) (d : ℕ) (ends : List MonthEnd) (b b' : Books) (l : Lates) → AreChecked a ends b l → IsDay d → IsQuietTo a d l → a' ≡ advanced_to d a → b' ≡ on d b → AreChecked a' ends b' l
 quiet_checked a a' d ends b b' l h is quiet same moved =
     let count = h.count in
     let month = quiet.month in

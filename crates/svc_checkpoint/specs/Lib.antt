@@ -1,2 +1,4 @@
+pub mod Collected
 pub mod Ends
+pub mod Plans
 pub mod WorkedLoans

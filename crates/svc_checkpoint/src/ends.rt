@@ -6,8 +6,13 @@ ghost use Rattle.svc_spec.specs.Accounts.{IsAccount, live_of, books_of};
 ghost use Rattle.svc_spec.specs.Books.{AreBooks};
 ghost use Rattle.svc_spec.specs.Months.{counted, books_at_end};
 ghost use Rattle.svc_replay.specs.Left.{IsPlace};
+ghost use Rattle.svc_checkpoint.specs.Collected.{collected_of, AreWithin};
 ghost use Rattle.svc_checkpoint.specs.Ends as rule;
+ghost use Rattle.svc_checkpoint.specs.Plans.{AreNamed};
 
+use crate::collected::Collected;
+use crate::month_end::MonthEnd;
+use crate::plans::{Plans, plan_with};
 use std::sync::ledger::Ledger;
 use svc_apply::start;
 use svc_base::{Day, Month, Steps, last_day, month_of};
@@ -25,7 +30,7 @@ pub(crate) fn place_of(kept: &LoanAccount, month: Month) -> usize
 /// The books at the end of the month before one; in the boarded month those of the boarded day.
 fn folded_before<L: Ledger>(
     kept: &LoanAccount,
-    ends: &[Books],
+    ends: &[MonthEnd],
     month: Month,
     steps: &mut Steps<L>,
 ) -> Books
@@ -45,14 +50,51 @@ fn folded_before<L: Ledger>(
     if place == 0 {
         return kept.refolded(kept.terms().boarded, steps);
     }
-    ends[place - 1]
+    books_from(kept, &ends[place - 1], last_day(month.previous()))
+}
+
+/// The books of which that is kept.
+fn books_from(kept: &LoanAccount, end: &MonthEnd, day: Day) -> Books
+    requires { rule.IsEnd kept.now.account day end.now }
+    ensures books { result ≡ books_of kept.now.account day }
+    ensures sound { AreBooks kept.now.account.terms result }
+{
+    kept.is_account();
+    let plan = plan_with(kept, end.plan);
+    let earlier = plan_with(kept, end.earlier);
+    end.books(kept.terms(), day, plan, earlier)
+}
+
+/// The plans at the end of the month before one; before the boarded one that of boarding.
+fn plans_before(kept: &LoanAccount, ends: &[MonthEnd], place: usize) -> Plans
+    requires count { place ≤ length ends.now }
+    requires ends { rule.AreEnds kept.now.account ends.now place }
+    ensures { AreNamed kept.now.account result }
+{
+    if place == 0 {
+        return Plans::with(kept, None, None);
+    }
+    let end = ends[place - 1];
+    Plans::with(kept, end.plan, end.earlier)
+}
+
+/// What is kept of books at a month's end, by plans of the account, which become theirs.
+fn end_with(kept: &LoanAccount, plans: &mut Plans, books: &Books) -> MonthEnd
+    requires plans { AreNamed kept.now.account plans.old }
+    requires books { books.now ≡ books_of kept.now.account books.now.day }
+    ensures end { rule.IsEnd kept.now.account books.now.day result }
+    ensures plans { AreNamed kept.now.account plans.new }
+{
+    kept.is_account();
+    plans.move_to(kept, books);
+    MonthEnd::of(books, plans.newest.number, plans.earlier.number)
 }
 
 /// The books at a day, folded on from the end of the month before; in the boarded month from boarding.
 #[inline(always)]
 pub(crate) fn folded<L: Ledger>(
     kept: &LoanAccount,
-    ends: &[Books],
+    ends: &[MonthEnd],
     day: Day,
     steps: &mut Steps<L>,
 ) -> Books
@@ -76,7 +118,7 @@ pub(crate) fn folded<L: Ledger>(
 #[inline(always)]
 pub(crate) fn refreshed<L: Ledger>(
     kept: &LoanAccount,
-    ends: &mut Vec<Books>,
+    ends: &mut Vec<MonthEnd>,
     from: Month,
     steps: &mut Steps<L>,
 ) -> Books
@@ -102,12 +144,13 @@ pub(crate) fn refreshed<L: Ledger>(
     let last = month_of(kept.today());
     let mut books = folded_before(kept, ends, from, steps);
     let mut cursor = Cursor::after(terms, &live, books.day);
+    let mut plans = plans_before(kept, ends, place_of(kept, from));
     let mut month = from;
     while month < last {
         let day = last_day(month);
         fold_along(&mut books, &mut cursor, terms, &live, day, steps);
         let place = place_of(kept, month);
-        ends[place] = books;
+        ends[place] = end_with(kept, &mut plans, &books);
         month = month.plus(1);
     }
     fold_along(&mut books, &mut cursor, terms, &live, kept.today(), steps);
@@ -119,7 +162,7 @@ pub(crate) fn refreshed<L: Ledger>(
 #[inline(always)]
 pub(crate) fn push_on<L: Ledger>(
     kept: &LoanAccount,
-    ends: &mut Vec<Books>,
+    ends: &mut Vec<MonthEnd>,
     now: &mut Books,
     cursor: &mut Cursor,
     day: Day,
@@ -146,6 +189,7 @@ pub(crate) fn push_on<L: Ledger>(
 {
     kept.is_account();
     let last = month_of(day);
+    let mut plans = plans_before(kept, ends, ends.len());
     let mut month = month_of(now.day);
     while month < last {
         fold_along(
@@ -156,31 +200,36 @@ pub(crate) fn push_on<L: Ledger>(
             last_day(month),
             steps,
         );
-        ends.push_reserved(*now);
+        ends.push_reserved(end_with(kept, &mut plans, now));
         month = month.plus(1);
     }
     fold_along(now, cursor, kept.terms(), &kept.live(), day, steps);
 }
 
-/// The books at the end of the month before one, and before the boarded one those at boarding.
-pub(crate) fn end_before(kept: &LoanAccount, ends: &[Books], month: Month) -> Books
+/// What was collected by the end of the month before one; before the boarded one nothing.
+pub(crate) fn collected_before(kept: &LoanAccount, ends: &[MonthEnd], month: Month) -> Collected
     requires after { month_number kept.now.account.terms.boarded ≤ month }
     requires until { month ≤ month_number kept.now.account.today }
     requires count { month ≤ month_number kept.now.account.terms.boarded + length ends.now }
     requires ends { rule.AreEnds kept.now.account ends.now (length ends.now) }
-    ensures books { result ≡ books_at_end kept.now.account (month - 1) }
-    ensures sound { AreBooks kept.now.account.terms result }
+    ensures collected { result ≡ collected_of (books_at_end kept.now.account (month - 1)) }
+    ensures within { AreWithin result }
 {
     kept.is_account();
     let place = place_of(kept, month);
     if place == 0 {
-        return start(kept.terms());
+        return Collected::of(&start(kept.terms()));
     }
-    ends[place - 1]
+    ends[place - 1].collected()
 }
 
-/// The books at the end of a month; of the business day's month those now.
-pub(crate) fn end_of(kept: &LoanAccount, ends: &[Books], now: &Books, month: Month) -> Books
+/// What was collected by the end of a month; by that of the business day's month what was until now.
+pub(crate) fn collected_by(
+    kept: &LoanAccount,
+    ends: &[MonthEnd],
+    now: &Books,
+    month: Month,
+) -> Collected
     requires after { month_number kept.now.account.terms.boarded ≤ month }
     requires until { month ≤ month_number kept.now.account.today }
     requires account { IsAccount kept.now.account }
@@ -190,12 +239,12 @@ pub(crate) fn end_of(kept: &LoanAccount, ends: &[Books], now: &Books, month: Mon
     requires ends { rule.AreEnds kept.now.account ends.now (length ends.now) }
     requires now { now.now ≡ books_of kept.now.account kept.now.account.today }
     requires sound { AreBooks kept.now.account.terms now.now }
-    ensures books { result ≡ books_at_end kept.now.account month }
-    ensures sound { AreBooks kept.now.account.terms result }
+    ensures collected { result ≡ collected_of (books_at_end kept.now.account month) }
+    ensures within { AreWithin result }
 {
     let place = place_of(kept, month);
     if place < ends.len() {
-        return ends[place];
+        return ends[place].collected();
     }
-    *now
+    Collected::of(now)
 }

@@ -2,7 +2,10 @@
 #![tactic(auto)]
 
 mod checked;
+mod collected;
 mod ends;
+mod month_end;
+mod plans;
 mod rows;
 
 pub use checked::Checked;

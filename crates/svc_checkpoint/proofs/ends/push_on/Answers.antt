@@ -1,9 +1,10 @@
-use Rattle.std.proofs.Common.{◌≡◌, ◌+◌, ◌<◌, ◌∷◌, [], ◌++◌, length, refl, sym, ap, ◌∙◌, arith, rules, length-append}
+use Rattle.std.proofs.Common.{◌+◌, ◌<◌, ◌∷◌, [], ◌++◌, length, refl, sym, ap, subst, ◌∙◌, arith, rules, length-append}
 use Rattle.svc_base.specs.Calendar.{month_of, last_day}
-use Rattle.svc_spec.specs.Accounts.{live_of, books_of}
+use Rattle.svc_spec.specs.Accounts.{live_of}
 use Rattle.svc_spec.specs.Months.{counted}
 use Rattle.svc_spec.proofs.MonthLemmas.{end_before_next}
 use Rattle.svc_spec.proofs.StepsLemmas.{ends_rise}
+use Rattle.svc_checkpoint.specs.Ends.{IsEnd}
 use Rattle.svc_checkpoint.proofs.EndsLemmas.{live_count, live_fold, own_day, of_account, counted_of, ends_pushed, place_of, place_in}
 use Rattle.svc_checkpoint.proofs.ends.push_on.Goals as goal
 
@@ -28,6 +29,14 @@ fold_along-requires-2-clause-place g c = place_of c.args.kept.now.account c.term
 pub returns-clause-place : goal.returns-clause-place
 returns-clause-place g c = place_in c.args.kept.now.account c.terms-2.result.now c.live-2.result c.args.day c.args.day c.fold_along-2.new.cursor c.terms-2.ensures c.live-2.ensures refl c.fold_along-2.ensures.place
 
+pub end_with-requires-clause-books : goal.end_with-requires-clause-books
+end_with-requires-clause-books g c =
+    let t = c.terms.result.now in
+    let live = c.live.result in
+    let r = c.fold_along.new.books in
+    let own = own_day t live c.last_day.result r c.fold_along.ensures.books in
+    own.1 ∙ of_account c.args.kept.now.account t live r.day c.terms.ensures c.live.ensures
+
 pub loop-last-preserved : goal.loop-last-preserved
 loop-last-preserved g c =
     let a = c.args.kept.now.account in
@@ -36,15 +45,16 @@ loop-last-preserved g c =
     let m = c.loop-last.month in
     let r = c.fold_along.new.books in
     let old = c.loop-last.ends.items in
+    let e = c.end_with.result in
     let before = c.loop-last.invariant in
     let own = own_day t live c.last_day.result r c.fold_along.ensures.books in
     let day = own.0 in
     let later : m < c.month_of-last.result = search rules in
     let end = end_before_next m c.args.day (omega arith) in
     let next = ap last_day c.plus-month.ensures in
-    let more = length-append old (r ∷ []) in
+    let more = length-append old (e ∷ []) in
     let pushed = ap length c.push_reserved.ensures.items in
-    let is : r ≡ books_of a (last_day (month_of a.terms.boarded + length old)) = c.fold_along.ensures.books ∙ of_account a t live c.last_day.result c.terms.ensures c.live.ensures ∙ ap (books_of a) (c.last_day.ensures ∙ ap last_day (sym before.count)) in
+    let is : IsEnd a (last_day (month_of a.terms.boarded + length old)) e = subst (λ d. IsEnd a d e) (day ∙ c.last_day.ensures ∙ ap last_day (sym before.count)) c.end_with.ensures.end in
     let here = counted_of a t live c.loop-last.now.day c.terms.ensures c.live.ensures in
     let there = counted_of a t live c.last_day.result c.terms.ensures c.live.ensures in
     let last = ap (counted a.terms (live_of a)) (sym day) in
@@ -58,6 +68,7 @@ loop-last-preserved g c =
       count = omega arith;
       len = omega arith;
       capacity = c.push_reserved.ensures.capacity ∙ before.capacity;
-      ends = rw c.push_reserved.ensures.items (ends_pushed a old (length old) (length (old ++ r ∷ [])) r before.ends refl (omega arith) is);
+      ends = rw c.push_reserved.ensures.items (ends_pushed a old (length old) (length (old ++ e ∷ [])) e before.ends refl (omega arith) is);
+      plans = c.end_with.ensures.plans;
       steps = omega (arith, c.fold_along.ensures.steps, here, there, last, before.steps);
     }

@@ -3,6 +3,7 @@ use Rattle.svc_base.specs.Calendar.{month_of, last_day}
 use Rattle.svc_spec.specs.Accounts.{live_of, books_of}
 use Rattle.svc_spec.specs.Months.{counted}
 use Rattle.svc_replay.specs.Left.{IsPlace}
+use Rattle.svc_checkpoint.specs.Plans.{AreNamed}
 use Rattle.svc_checkpoint.specs.Ends.{AreEnds}
 use Rattle.svc_checkpoint.proofs.ends.push_on.Given as goal
 
@@ -19,6 +20,7 @@ invariant-loop-last g l = record {
   capacity : vec_capacity l.ends ≡ vec_capacity l.fn.ends;
   place : IsPlace l.kept.account.terms (live_of l.kept.account) l.now.day l.cursor;
   ends : AreEnds l.kept.account l.ends.items (length l.ends.items);
+  plans : AreNamed l.kept.account l.plans;
   steps : l.steps + counted l.kept.account.terms (live_of l.kept.account) l.fn.now.day ≡ l.fn.steps + counted l.kept.account.terms (live_of l.kept.account) l.now.day;
 }
 

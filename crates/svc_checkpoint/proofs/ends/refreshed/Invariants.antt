@@ -3,6 +3,7 @@ use Rattle.svc_base.specs.Calendar.{month_of}
 use Rattle.svc_spec.specs.Accounts.{live_of, books_of}
 use Rattle.svc_spec.specs.Months.{counted}
 use Rattle.svc_replay.specs.Left.{IsPlace}
+use Rattle.svc_checkpoint.specs.Plans.{AreNamed}
 use Rattle.svc_checkpoint.specs.Ends.{AreEnds, counted_before, day_before}
 use Rattle.svc_checkpoint.proofs.ends.refreshed.Given as goal
 
@@ -18,6 +19,7 @@ invariant-loop-last g l = record {
   books : l.books ≡ books_of l.kept.account l.books.day;
   day : l.books.day ≡ day_before l.kept.account l.month;
   place : IsPlace l.kept.account.terms (live_of l.kept.account) l.books.day l.cursor;
+  plans : AreNamed l.kept.account l.plans;
   steps : l.steps + counted_before l.kept.account l.fn.from ≡ l.fn.steps + counted l.kept.account.terms (live_of l.kept.account) l.books.day;
 }
 
