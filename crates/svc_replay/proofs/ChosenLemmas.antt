@@ -3,6 +3,7 @@ use Rattle.std.proofs.Common.{◌≡◌, ℕ, zero, suc, ◌+◌, ◌≤◌, ◌
 use Rattle.std.specs.Prelude.{slice_get, Option, Some, None}
 use Rattle.std.specs.List.{insert, remove}
 use Rattle.std.specs.List.Sorted.{IsPartitionedBy, IsPartitionPoint}
+use Rattle.std.proofs.lemmas.List.{get_or_default}
 use Rattle.std.proofs.lemmas.List.Elements.{All-head, All-tail, All-take, All-drop, All-cons, All-append}
 use Rattle.std.proofs.lemmas.Option.{slice_get-get_or, same_Some}
 use Rattle.svc_types.specs.declared.account.Entry.{Entry}
@@ -139,11 +140,16 @@ count_of es ks live h same = sym (ap length same) ∙ chosen_length es ks h
 pub place_within : (es : List Entry) (ks : List ℕ) (i k d : ℕ) → AreWithin es ks → i < length ks → k ≡ get_or ks i d → k < length es
 place_within es ks i k d h lt at = subst (λ n. n < length es) (sym at) (h i d lt)
 
-pub chosen_index : (es : List Entry) (ks : List ℕ) (live : List Entry) (i k d : ℕ) (e : Entry) → AreWithin es ks → chosen es ks ≡ live → i < length ks → k ≡ get_or ks i d → get_or live i (get_or es k e) ≡ get_or es k e
+chosen_index : (es : List Entry) (ks : List ℕ) (live : List Entry) (i k d : ℕ) (e : Entry) → AreWithin es ks → chosen es ks ≡ live → i < length ks → k ≡ get_or ks i d → get_or live i (get_or es k e) ≡ get_or es k e
 chosen_index es ks live i k d e h same lt at =
     let x = get_or es k e in
     let there : slice_get es k ≡ Some (get_or live i x) = ap (slice_get es) at ∙ chosen_at es ks i d x h lt ∙ ap (λ xs. Some (get_or xs i x)) same in
     same_Some (get_or live i x) x (sym there ∙ slice_get-get_or es k e (place_within es ks i k d h lt at))
+
+pub chosen_there : (es : List Entry) (ks : List ℕ) (live : List Entry) (i k d : ℕ) (e : Entry) → AreWithin es ks → chosen es ks ≡ live → i < length ks → k ≡ get_or ks i d → get_or live i e ≡ get_or es k e
+chosen_there es ks live i k d e h same lt at =
+    let count = count_of es ks live h same in
+    get_or_default live i e (get_or es k e) (omega arith) ∙ chosen_index es ks live i k d e h same lt at
 
 -- an entry is added, and its place is put in
 pub more_within : (es : List Entry) (e : Entry) (ks : List ℕ) (i k : ℕ) → AreWithin es ks → k ≡ length es → AreWithin (es ++ e ∷ []) (insert ks i k)

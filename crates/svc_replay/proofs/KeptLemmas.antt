@@ -1,6 +1,6 @@
 -- What the fields of an account keep.
 use Rattle.std.proofs.Common.{◌≡◌, ℕ, zero, suc, ◌+◌, ◌≤◌, ◌<◌, true, false, cond, List, [], ◌∷◌, ◌++◌, length, map, get_or, set, arith, refl, sym, ap, subst, ◌∙◌}
-use Rattle.std.specs.Prelude.{◌==◌, ◌||◌, ◌≢◌, not, is_some, Option, Some, None}
+use Rattle.std.specs.Prelude.{◌==◌, ◌||◌, not, is_some, Option, Some, None}
 use Rattle.std.specs.List.{All, AllPairs, Contains, filter, find}
 use Rattle.std.specs.Option.{option_map}
 use Rattle.std.proofs.lemmas.Bool.Decides.{nat_tests}
@@ -106,20 +106,6 @@ none_named (r ∷ rs) entries number h none =
     ] refl
 
 -- ---- the place of an entry
-
-any_default : (xs : List Entry) (i : ℕ) (e d : Entry) (number : ℕ) → i < length xs → (get_or xs i e).number ≡ number → (get_or xs i d).number ≡ number
-any_default [] i e d number lt is = absurd (omega arith)
-any_default (x ∷ xs) zero e d number lt is = is
-any_default (x ∷ xs) (suc i) e d number lt is = any_default xs i e d number (omega arith) is
-
--- the place of a number is where the entries with lower numbers end
-pub place_found : (xs : List Entry) (number i : ℕ) (e : Entry) → i < length xs → (get_or xs i e).number ≡ number → IsPlaceOf number xs (Some i)
-place_found xs number i e lt is = (lt, λ d. any_default xs i e d number lt is)
-
-pub other_default : (xs : List Entry) (i : ℕ) (e d : Entry) (number : ℕ) → i < length xs → (get_or xs i e).number ≢ number → ((get_or xs i d).number == number) ≡ false
-other_default [] i e d number lt other = absurd (omega arith)
-other_default (x ∷ xs) zero e d number lt other = grind (arith, nat_tests)
-other_default (x ∷ xs) (suc i) e d number lt other = other_default xs i e d number (omega arith) other
 
 -- some entry, where there is one
 first_entry : (xs : List Entry) (i : ℕ) → i < length xs → Entry

@@ -1,5 +1,6 @@
 pub mod LeftLemmas
 pub mod AfterLemmas
+pub mod BriefLemmas
 pub mod ChosenLemmas
 pub mod CursorLemmas
 pub mod KeptLemmas

@@ -1,5 +1,6 @@
 pub mod Left
 pub mod Kept
+pub mod Briefs
 pub mod Chosen
 pub mod Faults
 pub mod WorkedAccounts

@@ -1,18 +1,18 @@
 //! The account of a loan: its entries and reversals, and the live entries in order.
 
-ghost use Rattle.std.specs.Prelude.{◌≡◌, ◌+◌, ◌≤◌, ◌<◌, nat_lt, length, true, None, IfSome, IsErrOf, IsOk, OnOk, OnErr};
+ghost use Rattle.std.specs.Prelude.{◌≡◌, ◌+◌, ◌≤◌, ◌<◌, length, true, None, IfSome, IsErrOf, IsOk, OnOk, OnErr};
 ghost use Rattle.std.specs.Prelude.{IfErr};
-ghost use Rattle.std.specs.List.{AllPairs};
 ghost use Rattle.svc_base.specs.Calendar.{month_of as month_number, months_end};
 ghost use Rattle.svc_spec.specs.Accounts as rule;
 ghost use Rattle.svc_spec.specs.Books.{AreBooks};
 ghost use Rattle.svc_spec.specs.Months.{cost_of_month, counted};
 ghost use Rattle.svc_replay.specs.Faults.{most_entries, IsPostFault, IsReverseFault};
-ghost use Rattle.svc_replay.specs.Kept.{IsLoweredBy, IsPlaceOf, IsQuietAfter, nothing, one_entry, one_reversal};
+ghost use Rattle.svc_replay.specs.Kept.{IsLoweredBy, IsQuietAfter, nothing, one_entry, one_reversal};
 
-use crate::entries::{Entries, Live, STEP};
+use crate::entries::{Entries, Live};
 use crate::fault::BookFault;
 use crate::folding::{is_quiet, refold};
+use crate::records::STEP;
 use std::alloc::Global;
 use std::marker::Model;
 use std::sync::ledger::Ledger;
@@ -132,7 +132,7 @@ impl LoanAccount {
         ensures room { IsLoweredBy one_reversal self.old.room self.new.room }
         ensures kept_room { OnErr result (IsLoweredBy nothing self.old.room self.new.room) }
     {
-        let Some(place) = place_with(self.entries.all(), number) else {
+        let Some(place) = self.entries.all().place_with(number) else {
             return Err(BookFault::NoSuchEntry);
         };
         if let Some(earlier) = self.reversers[place] {
@@ -140,7 +140,7 @@ impl LoanAccount {
         }
         self.reversals.push((number, by))?;
         self.reversers[place] = Some(by);
-        let reversed = self.entries.all()[place];
+        let reversed = self.entries.all().at(place);
         let place = self.entries.live().place_among(&reversed);
         self.entries.remove(place);
         Ok(())
@@ -205,15 +205,15 @@ impl LoanAccount {
     pub fn entry(&self, number: u32) -> Option<Entry>
         ensures { result ≡ rule.entry_of self.now.account number }
     {
-        let place = place_with(self.entries.all(), number)?;
-        Some(self.entries.all()[place])
+        let place = self.entries.all().place_with(number)?;
+        Some(self.entries.all().at(place))
     }
 
     /// What reversed the entry with that number.
     pub fn reversed_by(&self, number: u32) -> Option<u32>
         ensures { result ≡ rule.reverser_of self.now.account number }
     {
-        let place = place_with(self.entries.all(), number)?;
+        let place = self.entries.all().place_with(number)?;
         self.reversers[place]
     }
 
@@ -243,23 +243,4 @@ impl LoanAccount {
     {
         refold(&self.terms, &self.entries.live(), day, steps)
     }
-}
-
-/// The place of the entry with that number, among entries whose numbers rise.
-fn place_with(entries: &[Entry], number: u32) -> Option<usize>
-    requires { AllPairs (λ e f. e.number < f.number) entries.now }
-    ensures { IsPlaceOf number entries.now result }
-{
-    let place = entries.partition_point(|entry| is_below(entry, number));
-    if place < entries.len() && entries[place].number == number {
-        return Some(place);
-    }
-    None
-}
-
-/// Whether an entry has a lower number.
-fn is_below(entry: &Entry, number: u32) -> bool
-    ensures { result ≡ nat_lt entry.now.number number }
-{
-    entry.number < number
 }

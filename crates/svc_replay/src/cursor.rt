@@ -136,7 +136,7 @@ impl Cursor {
         if self.entry >= live.len() {
             return day;
         }
-        let first = live.at(self.entry).day;
+        let first = live.day_at(self.entry);
         if first > day {
             return day;
         }

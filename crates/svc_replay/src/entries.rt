@@ -1,20 +1,18 @@
 //! The entries of a loan, and the live ones among them.
 
-ghost use Rattle.std.specs.Prelude.{◌≡◌, ◌+◌, ◌-◌, ◌≤◌, ◌<◌, ◌∷◌, ◌++◌, [], nat_le, true, false, get_or, length, take, drop, IsOk, OnOk, OnErr};
+ghost use Rattle.std.specs.Prelude.{◌≡◌, ℕ, ◌+◌, ◌-◌, ◌≤◌, ◌<◌, ◌∷◌, ◌++◌, [], nat_le, true, false, get_or, length, take, drop, IsOk, OnOk, OnErr};
 ghost use Rattle.std.specs.Prelude.{◌==◌, not};
 ghost use Rattle.std.specs.List.{All, AllPairs, Contains, filter, insert, remove};
 ghost use Rattle.svc_types.specs.Live.{is_before, placed};
-ghost use Rattle.svc_types.specs.declared.account.Act.{Act};
+ghost use Rattle.svc_types.specs.declared.account.Entry.{Entry};
 ghost use Rattle.svc_replay.specs.Chosen.{AreWithin, chosen, passes};
 ghost use Rattle.svc_replay.specs.Kept.{differ};
 
+use crate::records::{Numbered, Records};
 use std::alloc::Global;
 use std::marker::Model;
 use svc_base::{Day, OutOfMemory, make_room};
 use svc_types::{Entry, before};
-
-/// By how many entries at least their lists grow.
-pub(crate) const STEP: usize = 6;
 
 /// By how many places at least their list grows: the smallest piece of memory has room for so many.
 const PLACES: usize = 12;
@@ -23,7 +21,7 @@ const PLACES: usize = 12;
 /// effect.
 #[derive(Drop)]
 pub(crate) struct Entries {
-    all: Vec<Entry>,
+    all: Records,
     live: Vec<u16>,
 }
 
@@ -34,12 +32,12 @@ impl Model for Entries {
     ghost Value = { Ordered };
 
     ghost view = { λ e. record {
-      all = e.all.items;
-      live = chosen e.all.items e.live.items;
-      room = min (vec_capacity e.all - vec_len e.all) (vec_capacity e.live - vec_len e.live);
+      all = e.all.all;
+      live = chosen e.all.all e.live.items;
+      room = min e.all.room (vec_capacity e.live - vec_len e.live);
     } };
 
-    ghost invariant = { λ e. AreWithin e.all.items e.live.items };
+    ghost invariant = { λ e. AreWithin e.all.all e.live.items };
 }
 
 impl Entries {
@@ -49,7 +47,7 @@ impl Entries {
         ensures live { result.live ≡ [] }
     {
         Entries {
-            all: Vec::new(alloc),
+            all: Records::new(alloc),
             live: Vec::new(alloc),
         }
     }
@@ -62,7 +60,7 @@ impl Entries {
         ensures room { self.old.room ≤ self.new.room }
         ensures succeeds { 1 ≤ self.old.room → IsOk result }
     {
-        make_room(&mut self.all, 1, STEP)?;
+        self.all.reserve()?;
         make_room(&mut self.live, 1, PLACES)?;
         Ok(())
     }
@@ -79,14 +77,10 @@ impl Entries {
         ensures room { self.old.room ≤ self.new.room + 1 }
         ensures kept_room { OnErr result (self.old.room ≤ self.new.room) }
     {
-        make_room(&mut self.all, 1, STEP)?;
-        let last = self.all.len() as u16;
+        self.all.reserve()?;
+        let last = self.all.lent().len() as u16;
         self.live.insert(place, last)?;
-        self.all.push_reserved(Entry {
-            number: entry.number,
-            day: entry.day,
-            act: entry.act,
-        });
+        self.all.push_reserved(entry);
         Ok(())
     }
 
@@ -101,24 +95,24 @@ impl Entries {
     }
 
     /// All entries, by number.
-    pub(crate) fn all(&self) -> &[Entry]
-        ensures { result.now ≡ self.now.all }
+    pub(crate) fn all(&self) -> Numbered<'_>
+        ensures { result ≡ self.now.all }
     {
-        &self.all
+        self.all.lent()
     }
 
     /// The live ones in order.
     pub(crate) fn live(&self) -> Live<'_>
         ensures { result ≡ self.now.live }
     {
-        Live::new(&self.all, &self.live)
+        Live::new(self.all.lent(), &self.live)
     }
 }
 
 /// The live entries of a loan in the order in which they take effect, read where they stand by number.
 #[derive(Drop)]
 pub struct Live<'a> {
-    entries: &'a [Entry],
+    entries: Numbered<'a>,
     places: &'a [u16],
 }
 
@@ -129,16 +123,16 @@ impl<'a> Model for Live<'a> {
 
     ghost Value = { List Entry };
 
-    ghost view = { λ l. chosen l.entries.now l.places.now };
+    ghost view = { λ l. chosen l.entries l.places.now };
 
-    ghost invariant = { λ l. AreWithin l.entries.now l.places.now };
+    ghost invariant = { λ l. AreWithin l.entries l.places.now };
 }
 
 impl<'a> Live<'a> {
     /// The entries at some places, in the order of these.
-    pub(crate) fn new(entries: &'a [Entry], places: &'a [u16]) -> Live<'a>
-        requires { AreWithin entries.now places.now }
-        ensures { result ≡ chosen entries.now places.now }
+    pub(crate) fn new(entries: Numbered<'a>, places: &'a [u16]) -> Live<'a>
+        requires { AreWithin entries places.now }
+        ensures { result ≡ chosen entries.entry places.now }
     {
         Live { entries, places }
     }
@@ -150,14 +144,21 @@ impl<'a> Live<'a> {
         self.places.len()
     }
 
-    /// The one at a place, from 0.
-    pub fn at(&self, place: usize) -> &Entry
+    /// The day of the one at a place, from 0.
+    #[inline(always)]
+    pub(crate) fn day_at(&self, place: usize) -> Day
         requires { place < length self.now }
-        ensures { get_or self.now place result.now ≡ result.now }
+        ensures { (e : Entry) → (get_or self.now place e).day ≡ result }
     {
-        let places = self.places;
-        let at = usize::from(places[place]);
-        &self.entries[at]
+        self.entries.day_at(standing(self.places, place))
+    }
+
+    /// The one at a place, from 0.
+    pub fn at(&self, place: usize) -> Entry
+        requires { place < length self.now }
+        ensures { get_or self.now place result ≡ result }
+    {
+        self.entries.at(standing(self.places, place))
     }
 
     /// How many are up to a day. It looks at the last two first, since folding mostly begins near the end.
@@ -193,7 +194,7 @@ impl<'a> Live<'a> {
         ensures taken { All (λ e. e.day ≤ day) (take result self.now) }
         ensures later { All (λ e. day < e.day) (drop result self.now) }
     {
-        let entries = self.entries;
+        let entries = &self.entries;
         self.places
             .partition_point(|place| is_by(entries, *place, day))
     }
@@ -217,7 +218,7 @@ impl<'a> Live<'a> {
         ensures { result ≡ true → insert self.now (length self.now) entry.now ≡ placed entry.now self.now }
     {
         let len = self.len();
-        len == 0 || !before(entry, self.at(len - 1))
+        len == 0 || !before(entry, &self.at(len - 1))
     }
 
     /// The place that an entry takes among them, by binary search.
@@ -226,7 +227,7 @@ impl<'a> Live<'a> {
         ensures bound { result ≤ length self.now }
         ensures placed { insert self.now result entry.now ≡ placed entry.now self.now }
     {
-        let entries = self.entries;
+        let entries = &self.entries;
         self.places
             .partition_point(|place| is_not_after(entries, *place, entry))
     }
@@ -240,38 +241,41 @@ impl<'a> Live<'a> {
         ensures others { remove self.now result
             ≡ filter (λ other. not (entry.now.number == other.number)) self.now }
     {
-        let entries = self.entries;
+        let entries = &self.entries;
         self.places
             .partition_point(|place| takes_effect_before(entries, *place, entry))
     }
 }
 
+/// Where the entry at a place among some stands by number.
+#[inline(always)]
+fn standing(places: &[u16], place: usize) -> usize
+    requires { place < length places.now }
+    ensures { (d : ℕ) → get_or places.now place d ≡ result }
+{
+    usize::from(places[place])
+}
+
 /// Whether the entry at a place is up to a day.
-fn is_by(entries: &[Entry], place: u16, day: Day) -> bool
+fn is_by(entries: &Numbered, place: u16, day: Day) -> bool
     ensures { result ≡ passes (λ e. nat_le e.day day) entries.now place }
 {
-    match entries.get(usize::from(place)) {
-        Some(entry) => entry.day <= day,
-        None => false,
-    }
+    let place = usize::from(place);
+    place < entries.len() && entries.day_at(place) <= day
 }
 
 /// Whether another entry does not take effect before the one at a place.
-fn is_not_after(entries: &[Entry], place: u16, other: &Entry) -> bool
+fn is_not_after(entries: &Numbered, place: u16, other: &Entry) -> bool
     ensures { result ≡ passes (λ e. not (is_before other.now e)) entries.now place }
 {
-    match entries.get(usize::from(place)) {
-        Some(entry) => !before(other, entry),
-        None => false,
-    }
+    let place = usize::from(place);
+    place < entries.len() && !before(other, &entries.at(place))
 }
 
 /// Whether the entry at a place takes effect before another one.
-fn takes_effect_before(entries: &[Entry], place: u16, other: &Entry) -> bool
+fn takes_effect_before(entries: &Numbered, place: u16, other: &Entry) -> bool
     ensures { result ≡ passes (λ e. is_before e other.now) entries.now place }
 {
-    match entries.get(usize::from(place)) {
-        Some(entry) => before(entry, other),
-        None => false,
-    }
+    let place = usize::from(place);
+    place < entries.len() && before(&entries.at(place), other)
 }

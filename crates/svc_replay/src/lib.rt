@@ -3,6 +3,7 @@
 
 mod account;
 mod arrears;
+mod brief;
 mod cursor;
 mod entries;
 mod fault;
@@ -11,6 +12,7 @@ mod history_lines;
 mod laws;
 mod loan_books;
 mod plain;
+mod records;
 mod rows;
 
 pub use account::LoanAccount;

@@ -67,7 +67,7 @@ returns-then-gt-clause-follows c =
     let live = c.args.live.now in
     let at = c.args.self.now in
     let d = c.args.day in
-    let e = c.at-entry.result.now in
+    let e = c.at-entry.result in
     let until = c.until-until.result in
     let past : d < e.day = search rules in
     let some : until ≡ min e.day d = c.until-until.ensures.some (omega arith) e c.at-entry.ensures in
@@ -83,7 +83,7 @@ returns-clause-follows c =
     let live = c.args.live.now in
     let at = c.args.self.now in
     let d = c.args.day in
-    let e = c.at-entry.result.now in
+    let e = c.at-entry.result in
     let until = c.until-until.result in
     let low : e.day ≤ d = search rules in
     let some : until ≡ min e.day d = c.until-until.ensures.some (omega arith) e c.at-entry.ensures in
@@ -95,7 +95,7 @@ returns-clause-follows c =
 
 pub returns-clause-by : goal.returns-clause-by
 returns-clause-by c h =
-    let e = c.at-entry.result.now in
+    let e = c.at-entry.result in
     let low : e.day ≤ c.args.day = search rules in
     record {
       month = h.month;

@@ -6,12 +6,12 @@ use Rattle.svc_replay.proofs.entries.Entries.remove.Goals as goal
 
 pub remove-requires : goal.remove-requires
 remove-requires c =
-    let count = count_of c.self.inside.all.items c.self.inside.live.items c.args.self.now.live c.self.invariant (ap (λ (o : Ordered). o.live) c.self.view_is) in
+    let count = count_of c.self.inside.all.all c.self.inside.live.items c.args.self.now.live c.self.invariant (ap (λ (o : Ordered). o.live) c.self.view_is) in
     let len : vec_len c.self.inside.live ≡ length c.self.inside.live.items = search rules in
     omega (arith, c.requires)
 
 pub returns-clause-live : goal.returns-clause-live
 returns-clause-live c =
-    ap (chosen c.self.inside.all.items) c.remove.ensures.items
-    ∙ chosen_remove c.self.inside.all.items c.self.inside.live.items c.args.place c.self.invariant
+    ap (chosen c.self.inside.all.all) c.remove.ensures.items
+    ∙ chosen_remove c.self.inside.all.all c.self.inside.live.items c.args.place c.self.invariant
     ∙ ap (λ (o : Ordered). remove o.live c.args.place) c.self.view_is

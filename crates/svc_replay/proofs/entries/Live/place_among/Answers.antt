@@ -8,7 +8,7 @@ use Rattle.svc_replay.proofs.entries.Live.place_among.Goals as goal
 
 pub returns-clause-bound : goal.returns-clause-bound
 returns-clause-bound c =
-    let es = c.self.inside.entries.now in
+    let es = c.self.inside.entries in
     let ks = c.self.inside.places.now in
     let i = c.partition_point.result in
     let e = c.args.entry.now in
@@ -19,7 +19,7 @@ returns-clause-bound c =
 
 pub returns-clause-others : goal.returns-clause-others
 returns-clause-others c =
-    let es = c.self.inside.entries.now in
+    let es = c.self.inside.entries in
     let ks = c.self.inside.places.now in
     let i = c.partition_point.result in
     let e = c.args.entry.now in

@@ -9,12 +9,12 @@ use Rattle.svc_replay.proofs.entries.Live.searched_place.Goals as goal
 
 pub returns-clause-bound : goal.returns-clause-bound
 returns-clause-bound c =
-    let count = count_of c.self.inside.entries.now c.self.inside.places.now c.args.self.now c.self.invariant c.self.view_is in
+    let count = count_of c.self.inside.entries c.self.inside.places.now c.args.self.now c.self.invariant c.self.view_is in
     omega (arith, c.partition_point.ensures.bound)
 
 pub returns-clause-placed : goal.returns-clause-placed
 returns-clause-placed c =
-    let es = c.self.inside.entries.now in
+    let es = c.self.inside.entries in
     let ks = c.self.inside.places.now in
     let i = c.partition_point.result in
     let e = c.args.entry.now in

@@ -8,7 +8,7 @@ use Rattle.svc_replay.proofs.entries.Live.searched_to.Goals as goal
 
 pub returns-clause-taken : goal.returns-clause-taken
 returns-clause-taken c =
-    let es = c.self.inside.entries.now in
+    let es = c.self.inside.entries in
     let ks = c.self.inside.places.now in
     let i = c.partition_point.result in
     let d = c.args.day in
@@ -21,7 +21,7 @@ returns-clause-taken c =
 
 pub returns-clause-later : goal.returns-clause-later
 returns-clause-later c =
-    let es = c.self.inside.entries.now in
+    let es = c.self.inside.entries in
     let ks = c.self.inside.places.now in
     let i = c.partition_point.result in
     let d = c.args.day in

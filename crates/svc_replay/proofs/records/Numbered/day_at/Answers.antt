@@ -1,0 +1,9 @@
+use Rattle.std.proofs.Common.{◌<◌, List, length, rules, arith, ap}
+use Rattle.svc_types.specs.declared.account.Entry.{Entry}
+use Rattle.svc_replay.proofs.BriefLemmas.{expanded_length}
+use Rattle.svc_replay.proofs.records.Numbered.day_at.Goals as goal
+
+pub offset_bounds-briefs-place : goal.offset_bounds-briefs-place
+offset_bounds-briefs-place c =
+    let lt : c.args.place < length c.self.inside.briefs.now = omega (arith, c.requires, ap (λ (es : List Entry). length es) c.self.view_is, expanded_length c.self.inside.settled.now c.self.inside.briefs.now) in
+    search rules
