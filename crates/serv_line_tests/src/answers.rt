@@ -1,6 +1,7 @@
 //! The text of each answer.
 
-ghost use Rattle.std.specs.Prelude.{◌≤◌};
+ghost use Rattle.std.specs.Prelude.{◌≤◌, ◌≤ℤ◌, pos};
+ghost use Rattle.svc_world.specs.Unsigned.{AreUnsignedBooks, AreUnsignedFigures, IsUnsignedCash};
 ghost use Rattle.serv_report.specs.AnswerTexts.{IsSpellable};
 ghost use Rattle.serv_report.specs.EscrowText.{HasYear};
 
@@ -54,7 +55,9 @@ fn no_plan() -> EscrowPlan {
 }
 
 /// The books of a loan on which an installment was paid.
-fn paid_books(day: Day) -> Books {
+fn paid_books(day: Day) -> Books
+    ensures { AreUnsignedBooks result }
+{
     Books {
         day,
         upb: 19_980_090,
@@ -80,7 +83,10 @@ fn has_books(
     next: Option<Month>,
     pay: Cents,
     text: &str,
-) -> Result<bool, OutOfMemory> {
+) -> Result<bool, OutOfMemory>
+    requires books { AreUnsignedBooks books }
+    requires pay { pos 0 ≤ℤ pay }
+{
     let answer = Answer::Books {
         loan,
         books,
@@ -103,7 +109,9 @@ const SATISFIED_BOOKS: &str =
 interest 1499.50 fee 62.48 principal 200000.00 charges 0.00 pay 0.00\n";
 
 /// The books of a loan in arrears.
-fn late_books() -> Books {
+fn late_books() -> Books
+    ensures { AreUnsignedBooks result }
+{
     Books {
         upb: 19_960_080,
         next: 3,
@@ -119,7 +127,9 @@ fn late_books() -> Books {
 }
 
 /// The books of a loan that was paid off.
-fn satisfied_books() -> Books {
+fn satisfied_books() -> Books
+    ensures { AreUnsignedBooks result }
+{
     Books {
         upb: 0,
         interest: 149_950,
@@ -134,16 +144,10 @@ fn satisfied_books() -> Books {
 fn books_have_their_line(rt: HostRuntime) -> Result<(), Fail> {
     let march = Some(Month::new(2024, 3));
     let april = Some(Month::new(2024, 4));
-    for (loan, books, next, pay, text) in [
-        (1, paid_books(day(2, 1)), march, 119_910, FIRST_BOOKS),
-        (12_000, late_books(), april, 119_910, LATE_BOOKS),
-        (1, satisfied_books(), None, 0, SATISFIED_BOOKS),
-    ] {
-        assert!(rt;
-            has_books(rt.alloc(), loan, books, next, pay, text)?,
-            "{text}"
-        );
-    }
+    let first = paid_books(day(2, 1));
+    assert!(rt; has_books(rt.alloc(), 1, first, march, 119_910, FIRST_BOOKS)?);
+    assert!(rt; has_books(rt.alloc(), 12_000, late_books(), april, 119_910, LATE_BOOKS)?);
+    assert!(rt; has_books(rt.alloc(), 1, satisfied_books(), None, 0, SATISFIED_BOOKS)?);
     Ok(())
 }
 
@@ -153,7 +157,9 @@ fn has_payoff(
     day: Day,
     cents: Cents,
     text: &str,
-) -> Result<bool, OutOfMemory> {
+) -> Result<bool, OutOfMemory>
+    requires { pos 0 ≤ℤ cents }
+{
     is_written(alloc, &Answer::Payoff { loan, day, cents }, text)
 }
 
@@ -161,18 +167,12 @@ fn has_payoff(
 fn payoffs_have_their_line(rt: HostRuntime) -> Result<(), Fail> {
     let first = first_day(Month::new(1990, 1));
     let last = last_day(Month::new(2099, 12));
-    for (loan, day, cents, text) in [
-        (1, day(2, 16), 20_030_040, "payoff 1 2024-02-16 200300.40\n"),
-        (0, first, 0, "payoff 0 1990-01-01 0.00\n"),
-        (
-            4_294_967_295,
-            last,
-            100_000_000_000_005,
-            "payoff 4294967295 2099-12-31 1000000000000.05\n",
-        ),
-    ] {
-        assert!(rt; has_payoff(rt.alloc(), loan, day, cents, text)?, "{text}");
-    }
+    let text = "payoff 1 2024-02-16 200300.40\n";
+    assert!(rt; has_payoff(rt.alloc(), 1, day(2, 16), 20_030_040, text)?);
+    let text = "payoff 0 1990-01-01 0.00\n";
+    assert!(rt; has_payoff(rt.alloc(), 0, first, 0, text)?);
+    let text = "payoff 4294967295 2099-12-31 1000000000000.05\n";
+    assert!(rt; has_payoff(rt.alloc(), 4_294_967_295, last, 100_000_000_000_005, text)?);
     Ok(())
 }
 
@@ -217,7 +217,9 @@ const EACH_TEXT: &str =
     "custodial T -0.01 P -2.00 suspense 3.00 escrow 4.00 escrow-advance 5.00 held 6.00 pi-advance 7.00\n";
 
 /// Whether the accounts have this line, by each call that writes it.
-fn has_accounts(alloc: Global, custody: &Custody, text: &str) -> Result<bool, OutOfMemory> {
+fn has_accounts(alloc: Global, custody: &Custody, text: &str) -> Result<bool, OutOfMemory>
+    requires { IsUnsignedCash custody.now }
+{
     let mut out = custodial(alloc, custody)?;
     push_custodial(&mut out, custody)?;
     Ok(is_twice(&out, text) && is_written(alloc, &Answer::Custodial(*custody), text)?)
@@ -371,7 +373,8 @@ month 2025-06 paid 0.00 trial 0.00 target 1040.00\n\
 end\n";
 
 fn worked_figures() -> Figures
-    ensures { HasYear result.from }
+    ensures year { HasYear result.from }
+    ensures amounts { AreUnsignedFigures result }
 {
     Figures {
         from: Month::new(2024, 7),

@@ -1,28 +1,20 @@
--- The text of each answer to a query.
-use Rattle.std.specs.Prelude.{ℕ, List, ⊤}
+-- The text of each answer to a query, and which answers have one.
+use Rattle.std.specs.Prelude.{ℕ, List}
 use Rattle.svc_world.specs.declared.answer.Answer.{Answer}
 use Rattle.svc_world.specs.declared.answer.Answer.TheVariants as answer
+use Rattle.svc_world.specs.Unsigned.{AreUnsignedFigures, IsUnsignedAnswer}
 use Rattle.serv_report.specs.Texts.{text_of_books, text_of_payoff, text_of_custody, text_of_rows}
 use Rattle.serv_report.specs.ReportTexts.{text_of_report, text_of_trial}
 use Rattle.serv_report.specs.EscrowText.{HasYear, text_of_escrow}
+use Rattle.serv_report.specs.PostingSigns.{IsUnsignedPosting}
 use Rattle.serv_report.specs.DeskTexts.{text_of_loan_terms, text_of_history, text_of_quote, text_of_arrears, text_of_aging, text_of_status, text_of_posting}
 
--- the year of an analysis that is answered has a name for each month
+-- an answer that has a text: what the text says without a sign is not below 0, of a command with its reply too, and the
+-- year of an analysis has a name for each month
 abbrev pub IsSpellable : Answer → Type 0
-IsSpellable (answer.Books loan books next pay) = ⊤
-IsSpellable (answer.Payoff loan day cents) = ⊤
-IsSpellable (answer.Escrow loan figures analysis) = HasYear figures.from
-IsSpellable (answer.Report report) = ⊤
-IsSpellable (answer.Trial report) = ⊤
-IsSpellable (answer.Custodial custody) = ⊤
-IsSpellable (answer.Rows number rows) = ⊤
-IsSpellable (answer.Loan loan terms lines types) = ⊤
-IsSpellable (answer.History loan day lines reversed) = ⊤
-IsSpellable (answer.Quote loan day cents perday) = ⊤
-IsSpellable (answer.Arrears loan day arrears) = ⊤
-IsSpellable (answer.Aging day late counts) = ⊤
-IsSpellable (answer.Status status) = ⊤
-IsSpellable (answer.Command key command reply) = ⊤
+IsSpellable (answer.Escrow loan figures analysis) = HasYear figures.from × AreUnsignedFigures figures
+IsSpellable (answer.Command key command reply) = IsUnsignedPosting command reply
+IsSpellable other = IsUnsignedAnswer other
 
 -- the text of an answer
 abbrev pub text_of_answer : Answer → List ℕ

@@ -2,18 +2,22 @@
 
 ghost use Rattle.std.specs.Prelude.{◌≡◌, ◌++◌, IfOk, OnErr, OnOk};
 ghost use Rattle.std.specs.List.{flat_map};
+ghost use Rattle.svc_world.specs.Unsigned.{IsUnsignedCash};
 ghost use Rattle.serv_line.specs.Pushed.{Keeps};
 ghost use Rattle.serv_report.specs.Texts.{text_of_accounts, text_of_borrower_cash, text_of_count, text_of_custody, text_of_investor_cash, text_of_names, text_of_part, text_of_party, text_of_row, text_of_rows};
 
-use crate::words::{push_count_field, push_end, push_numbered, push_signed_word, push_word};
+use crate::words::{
+    push_count_field, push_end, push_numbered, push_signed_word, push_unsigned_field, push_word,
+};
 use custodial_book::{Account, Part, Party, Row};
-use serv_line::{push_amount_field, push_bytes, push_signed_field, undone};
+use serv_line::{push_bytes, push_signed_field, undone};
 use std::alloc::Global;
 use svc_base::OutOfMemory;
 use svc_world::Custody;
 
 /// The line of the custodial accounts. Errs only where memory is short.
 pub fn custodial(alloc: Global, custody: &Custody) -> Result<Vec<u8>, OutOfMemory>
+    requires { IsUnsignedCash custody.now }
     ensures { IfOk result (λ text. text.items ≡ text_of_custody custody.now) }
 {
     let mut out = Vec::new(alloc);
@@ -23,6 +27,7 @@ pub fn custodial(alloc: Global, custody: &Custody) -> Result<Vec<u8>, OutOfMemor
 
 /// Appends the line of the custodial accounts. Where memory is short `out` is as it was.
 pub fn push_custodial(out: &mut Vec<u8>, custody: &Custody) -> Result<(), OutOfMemory>
+    requires { IsUnsignedCash custody.now }
     ensures pushed { OnOk result (out.new.items ≡ out.old.items ++ text_of_custody custody.now) }
     ensures kept { OnErr result (out.new.items ≡ out.old.items) }
 {
@@ -34,6 +39,7 @@ pub fn push_custodial(out: &mut Vec<u8>, custody: &Custody) -> Result<(), OutOfM
 /// Appends the line of the custodial accounts.
 #[tactic(auto, using(serv_line::proofs::KeepLemmas::keeps), unfolding(crate::specs::Texts::text_of_custody))]
 pub(crate) fn append_custody(out: &mut Vec<u8>, custody: &Custody) -> Result<(), OutOfMemory>
+    requires { IsUnsignedCash custody.now }
     ensures pushed { OnOk result (out.new.items ≡ out.old.items ++ text_of_custody custody.now) }
     ensures kept { OnErr result (Keeps out.old.items out.new.items) }
 {
@@ -57,22 +63,24 @@ fn push_accounts(out: &mut Vec<u8>, custody: &Custody) -> Result<(), OutOfMemory
 /// Appends what the account T is made of.
 #[tactic(auto, using(serv_line::proofs::KeepLemmas::keeps), unfolding(crate::specs::Texts::text_of_borrower_cash))]
 fn push_borrower_cash(out: &mut Vec<u8>, custody: &Custody) -> Result<(), OutOfMemory>
+    requires { IsUnsignedCash custody.now }
     ensures pushed { OnOk result (out.new.items ≡ out.old.items ++ text_of_borrower_cash custody.now) }
     ensures kept { OnErr result (Keeps out.old.items out.new.items) }
 {
-    push_amount_field(out, b"suspense", custody.suspense)?;
+    push_unsigned_field(out, b"suspense", custody.suspense)?;
     push_signed_field(out, b"escrow", custody.escrow)?;
-    push_amount_field(out, b"escrow-advance", custody.escrow_advance)
+    push_unsigned_field(out, b"escrow-advance", custody.escrow_advance)
 }
 
 /// Appends what the account P is made of, and what was advanced to the investor.
 #[tactic(auto, using(serv_line::proofs::KeepLemmas::keeps), unfolding(crate::specs::Texts::text_of_investor_cash))]
 fn push_investor_cash(out: &mut Vec<u8>, custody: &Custody) -> Result<(), OutOfMemory>
+    requires { IsUnsignedCash custody.now }
     ensures pushed { OnOk result (out.new.items ≡ out.old.items ++ text_of_investor_cash custody.now) }
     ensures kept { OnErr result (Keeps out.old.items out.new.items) }
 {
-    push_amount_field(out, b"held", custody.held)?;
-    push_amount_field(out, b"pi-advance", custody.pi_advance)
+    push_unsigned_field(out, b"held", custody.held)?;
+    push_unsigned_field(out, b"pi-advance", custody.pi_advance)
 }
 
 /// Appends the rows of a command.

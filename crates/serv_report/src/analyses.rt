@@ -4,13 +4,14 @@ ghost use Rattle.std.specs.Prelude.{◌≡◌, ◌+◌, ◌<◌, ◌++◌, FitsS
 ghost use Rattle.std.specs.Int.{w64};
 ghost use Rattle.std.specs.List.{flat_map};
 ghost use Rattle.escrow_analysis.specs.AggregateAnalysis.{months};
+ghost use Rattle.svc_world.specs.Unsigned.{AreUnsignedFigures};
 ghost use Rattle.serv_line.specs.Pushed.{Keeps};
 ghost use Rattle.serv_line.specs.Replies.{signed_field};
 ghost use Rattle.serv_report.specs.EscrowText.{HasYear, paid_in, text_of_balances_in, text_of_escrow, text_of_figures_of, target_at, text_of_month_of, text_of_year, trial_at};
 
-use crate::words::{push_end, push_numbered};
+use crate::words::{push_end, push_numbered, push_unsigned_field};
 use escrow_analysis::Analysis;
-use serv_line::{push_amount_field, push_bytes, push_found, push_parts, push_signed_field, undone};
+use serv_line::{push_bytes, push_found, push_parts, push_signed_field, undone};
 use std::alloc::Global;
 use svc_base::{Cents, Month, OutOfMemory, add_months, push_signed, write_month};
 use svc_types::Figures;
@@ -24,6 +25,7 @@ pub fn escrow(
     analysis: &Analysis,
 ) -> Result<Vec<u8>, OutOfMemory>
     requires year { HasYear figures.now.from }
+    requires amounts { AreUnsignedFigures figures.now }
     ensures { IfOk result (λ text. text.items ≡ text_of_escrow loan figures.now analysis.now) }
 {
     let mut out = Vec::new(alloc);
@@ -39,6 +41,7 @@ pub fn push_escrow(
     analysis: &Analysis,
 ) -> Result<(), OutOfMemory>
     requires year { HasYear figures.now.from }
+    requires amounts { AreUnsignedFigures figures.now }
     ensures pushed { OnOk result (out.new.items ≡ out.old.items
         ++ text_of_escrow loan figures.now analysis.now) }
     ensures kept { OnErr result (out.new.items ≡ out.old.items) }
@@ -57,6 +60,7 @@ pub(crate) fn append_escrow(
     analysis: &Analysis,
 ) -> Result<(), OutOfMemory>
     requires year { HasYear figures.now.from }
+    requires amounts { AreUnsignedFigures figures.now }
     ensures pushed { OnOk result (out.new.items ≡ out.old.items
         ++ text_of_escrow loan figures.now analysis.now) }
     ensures kept { OnErr result (Keeps out.old.items out.new.items) }
@@ -69,13 +73,14 @@ pub(crate) fn append_escrow(
 /// Appends what an escrow analysis of a loan would find.
 #[tactic(auto, using(serv_line::proofs::KeepLemmas::keeps), unfolding(crate::specs::EscrowText::text_of_figures_of))]
 fn push_figures(out: &mut Vec<u8>, loan: u32, figures: &Figures) -> Result<(), OutOfMemory>
+    requires { AreUnsignedFigures figures.now }
     ensures pushed { OnOk result (out.new.items ≡ out.old.items ++ text_of_figures_of loan figures.now) }
     ensures kept { OnErr result (Keeps out.old.items out.new.items) }
 {
     push_year(out, loan, figures.from)?;
     push_found(out, figures)?;
     push_parts(out, figures)?;
-    push_amount_field(out, b"pay", figures.base)?;
+    push_unsigned_field(out, b"pay", figures.base)?;
     push_bytes(out, b"\n")
 }
 

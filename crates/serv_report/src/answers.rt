@@ -16,10 +16,9 @@ use std::alloc::Global;
 use svc_base::OutOfMemory;
 use svc_world::Answer;
 
-/// The text of an answer. The year of an escrow analysis ends in December 2140 at most. Errs only
-/// where memory is short.
+/// The text of an answer to a query. Errs only where memory is short.
 pub fn write_answer(alloc: Global, answer: &Answer) -> Result<Vec<u8>, OutOfMemory>
-    requires year { IsSpellable answer.now }
+    requires spellable { IsSpellable answer.now }
     ensures { IfOk result (λ text. text.items ≡ text_of_answer answer.now) }
 {
     let mut out = Vec::new(alloc);
@@ -29,7 +28,7 @@ pub fn write_answer(alloc: Global, answer: &Answer) -> Result<Vec<u8>, OutOfMemo
 
 /// Appends the text of an answer. Where memory is short `out` is as it was.
 pub fn push_answer(out: &mut Vec<u8>, answer: &Answer) -> Result<(), OutOfMemory>
-    requires year { IsSpellable answer.now }
+    requires spellable { IsSpellable answer.now }
     ensures pushed { OnOk result (out.new.items ≡ out.old.items ++ text_of_answer answer.now) }
     ensures kept { OnErr result (out.new.items ≡ out.old.items) }
 {
@@ -40,7 +39,7 @@ pub fn push_answer(out: &mut Vec<u8>, answer: &Answer) -> Result<(), OutOfMemory
 
 /// Appends the text of an answer.
 fn append_answer(out: &mut Vec<u8>, answer: &Answer) -> Result<(), OutOfMemory>
-    requires year { IsSpellable answer.now }
+    requires spellable { IsSpellable answer.now }
     ensures pushed { OnOk result (out.new.items ≡ out.old.items ++ text_of_answer answer.now) }
     ensures kept { OnErr result (Keeps out.old.items out.new.items) }
 {

@@ -1,12 +1,13 @@
 //! The lines of a loan's books and of its payoff.
 
-ghost use Rattle.std.specs.Prelude.{◌≡◌, ◌++◌, OnErr, OnOk, codes};
+ghost use Rattle.std.specs.Prelude.{◌≡◌, ◌++◌, ◌≤ℤ◌, pos, OnErr, OnOk, codes};
 ghost use Rattle.svc_base.specs.Text.{text_of_month};
+ghost use Rattle.svc_world.specs.Unsigned.{AreUnsignedBooks};
 ghost use Rattle.serv_line.specs.Pushed.{Keeps};
 ghost use Rattle.serv_report.specs.Texts.{on_day, text_of_balances, text_of_books, text_of_collected, text_of_next, text_of_payoff};
 
-use crate::words::{push_amount_word, push_numbered, push_word};
-use serv_line::{push_amount_field, push_bytes, push_signed_field};
+use crate::words::{push_amount_word, push_numbered, push_unsigned_field, push_word};
+use serv_line::{push_bytes, push_signed_field};
 use svc_base::{Cents, Day, Month, OutOfMemory, write_day, write_month};
 use svc_types::Books;
 
@@ -19,27 +20,30 @@ pub(crate) fn append_books(
     next: Option<Month>,
     pay: Cents,
 ) -> Result<(), OutOfMemory>
+    requires books { AreUnsignedBooks books.now }
+    requires pay { pos 0 ≤ℤ pay }
     ensures pushed { OnOk result (out.new.items ≡ out.old.items ++ text_of_books loan books.now next pay) }
     ensures kept { OnErr result (Keeps out.old.items out.new.items) }
 {
     push_on_day(out, b"books ", loan, books.day)?;
     push_balances(out, books, next)?;
     push_collected(out, books)?;
-    push_amount_field(out, b"pay", pay)?;
+    push_unsigned_field(out, b"pay", pay)?;
     push_bytes(out, b"\n")
 }
 
 /// Appends what a loan owes, and what is held for it.
 #[tactic(auto, using(serv_line::proofs::KeepLemmas::keeps), unfolding(crate::specs::Texts::text_of_balances))]
 fn push_balances(out: &mut Vec<u8>, books: &Books, next: Option<Month>) -> Result<(), OutOfMemory>
+    requires { AreUnsignedBooks books.now }
     ensures pushed { OnOk result (out.new.items ≡ out.old.items ++ text_of_balances books.now next) }
     ensures kept { OnErr result (Keeps out.old.items out.new.items) }
 {
-    push_amount_field(out, b"upb", books.upb)?;
+    push_unsigned_field(out, b"upb", books.upb)?;
     push_next(out, next)?;
     push_signed_field(out, b"escrow", books.escrow)?;
-    push_amount_field(out, b"suspense", books.suspense)?;
-    push_amount_field(out, b"late", books.late_owed)
+    push_unsigned_field(out, b"suspense", books.suspense)?;
+    push_unsigned_field(out, b"late", books.late_owed)
 }
 
 /// Appends the month of the open installment, or a dash.
@@ -82,13 +86,14 @@ pub(crate) fn push_on_day(
 /// Appends what was collected of a loan.
 #[tactic(auto, using(serv_line::proofs::KeepLemmas::keeps), unfolding(crate::specs::Texts::text_of_collected))]
 fn push_collected(out: &mut Vec<u8>, books: &Books) -> Result<(), OutOfMemory>
+    requires { AreUnsignedBooks books.now }
     ensures pushed { OnOk result (out.new.items ≡ out.old.items ++ text_of_collected books.now) }
     ensures kept { OnErr result (Keeps out.old.items out.new.items) }
 {
-    push_amount_field(out, b"interest", books.interest)?;
-    push_amount_field(out, b"fee", books.fee)?;
-    push_amount_field(out, b"principal", books.principal)?;
-    push_amount_field(out, b"charges", books.late_paid)
+    push_unsigned_field(out, b"interest", books.interest)?;
+    push_unsigned_field(out, b"fee", books.fee)?;
+    push_unsigned_field(out, b"principal", books.principal)?;
+    push_unsigned_field(out, b"charges", books.late_paid)
 }
 
 /// Appends what pays a loan off on a day.
@@ -99,6 +104,7 @@ pub(crate) fn append_payoff(
     day: Day,
     cents: Cents,
 ) -> Result<(), OutOfMemory>
+    requires { pos 0 ≤ℤ cents }
     ensures pushed { OnOk result (out.new.items ≡ out.old.items ++ text_of_payoff loan day cents) }
     ensures kept { OnErr result (Keeps out.old.items out.new.items) }
 {

@@ -1,17 +1,20 @@
 //! The text of a loan's history.
 
-ghost use Rattle.std.specs.Prelude.{◌≡◌, ◌++◌, OnErr, OnOk, codes};
+ghost use Rattle.std.specs.Prelude.{◌≡◌, ◌++◌, ◌≤ℤ◌, pos, OnErr, OnOk, codes};
 ghost use Rattle.serv_line.specs.Replies.{amount_field};
 ghost use Rattle.serv_report.specs.Texts.{text_of_next};
-ghost use Rattle.std.specs.List.{flat_map};
+ghost use Rattle.std.specs.List.{All, flat_map};
+ghost use Rattle.svc_spec.specs.Books.{IsAct, IsWhat};
+ghost use Rattle.svc_world.specs.Unsigned.{IsUnsignedEvent};
 ghost use Rattle.serv_line.specs.Pushed.{Keeps};
 ghost use Rattle.serv_report.specs.DeskTexts.{amount_of_act, amount_of_what, text_of_applied, text_of_event, text_of_history, text_of_history_head, text_of_number_or, text_of_place, text_of_reversed, text_of_waiting, text_of_what, word_of_act, word_of_pay, word_of_what};
 
 use crate::books::{push_next, push_on_day};
 use crate::words::{
-    push_amount_word, push_count_field, push_end, push_number_word, push_numbered, push_word,
+    push_amount_word, push_count_field, push_end, push_number_word, push_numbered,
+    push_unsigned_field, push_word,
 };
-use serv_line::{push_amount_field, push_bytes, push_signed_field};
+use serv_line::{push_bytes, push_signed_field};
 use svc_base::{Cents, Day, OutOfMemory, write_day};
 use svc_types::{Act, Designation, HistoryLine, What};
 
@@ -24,6 +27,7 @@ pub(crate) fn append_history(
     lines: &[HistoryLine],
     reversed: &[(u32, u32)],
 ) -> Result<(), OutOfMemory>
+    requires { All IsUnsignedEvent lines.now }
     ensures pushed { OnOk result (out.new.items ≡ out.old.items ++ text_of_history loan day lines.now reversed.now) }
     ensures kept { OnErr result (Keeps out.old.items out.new.items) }
 {
@@ -47,6 +51,7 @@ fn push_head(out: &mut Vec<u8>, loan: u32, day: Day, events: usize) -> Result<()
 /// Appends events, a line each.
 #[tactic(auto, using(serv_line::proofs::KeepLemmas::keeps))]
 fn push_events(out: &mut Vec<u8>, lines: &[HistoryLine]) -> Result<(), OutOfMemory>
+    requires { All IsUnsignedEvent lines.now }
     ensures pushed { OnOk result (out.new.items ≡ out.old.items ++ flat_map text_of_event lines.now) }
     ensures kept { OnErr result (Keeps out.old.items out.new.items) }
 {
@@ -59,6 +64,7 @@ fn push_events(out: &mut Vec<u8>, lines: &[HistoryLine]) -> Result<(), OutOfMemo
 /// Appends an event: what happened, what it changed, and where it left the loan.
 #[tactic(auto, using(serv_line::proofs::KeepLemmas::keeps), unfolding(crate::specs::DeskTexts::text_of_event))]
 fn push_event(out: &mut Vec<u8>, line: &HistoryLine) -> Result<(), OutOfMemory>
+    requires { IsUnsignedEvent line.now }
     ensures pushed { OnOk result (out.new.items ≡ out.old.items ++ text_of_event line.now) }
     ensures kept { OnErr result (Keeps out.old.items out.new.items) }
 {
@@ -72,16 +78,18 @@ fn push_event(out: &mut Vec<u8>, line: &HistoryLine) -> Result<(), OutOfMemory>
 /// Appends where an event left the loan.
 #[tactic(auto, using(serv_line::proofs::KeepLemmas::keeps))]
 fn push_left(out: &mut Vec<u8>, line: &HistoryLine) -> Result<(), OutOfMemory>
+    requires { IsUnsignedEvent line.now }
     ensures pushed { OnOk result (out.new.items ≡ out.old.items ++ (amount_field (codes "upb") line.now.upb ++ text_of_next line.now.next)) }
     ensures kept { OnErr result (Keeps out.old.items out.new.items) }
 {
-    push_amount_field(out, b"upb", line.upb)?;
+    push_unsigned_field(out, b"upb", line.upb)?;
     push_next(out, line.next)
 }
 
 /// Appends what happened, and its amount.
 #[tactic(auto, using(serv_line::proofs::KeepLemmas::keeps), unfolding(crate::specs::DeskTexts::text_of_what))]
 fn push_what(out: &mut Vec<u8>, line: &HistoryLine) -> Result<(), OutOfMemory>
+    requires { IsUnsignedEvent line.now }
     ensures pushed { OnOk result (out.new.items ≡ out.old.items ++ text_of_what line.now) }
     ensures kept { OnErr result (Keeps out.old.items out.new.items) }
 {
@@ -189,7 +197,9 @@ fn act_text(act: &Act) -> &'static [u8]
 
 /// The amount of what happened, in cents; a mark has none.
 fn what_amount(what: &What) -> Cents
-    ensures { result ≡ amount_of_what what.now }
+    requires { IsWhat what.now }
+    ensures value { result ≡ amount_of_what what.now }
+    ensures low { pos 0 ≤ℤ result }
 {
     match what {
         What::MonthMark | What::LateMark(_) => 0,
@@ -199,7 +209,9 @@ fn what_amount(what: &What) -> Cents
 
 /// The amount of an entry, in cents; of an analysis its refund.
 fn act_amount(act: &Act) -> Cents
-    ensures { result ≡ amount_of_act act.now }
+    requires { IsAct act.now }
+    ensures value { result ≡ amount_of_act act.now }
+    ensures low { pos 0 ≤ℤ result }
 {
     match act {
         Act::Pay(cents, _)

@@ -1,14 +1,15 @@
 //! The texts of a loan's terms, of a quote and of arrears.
 
-ghost use Rattle.std.specs.Prelude.{◌≡◌, ◌++◌, OnErr, OnOk};
+ghost use Rattle.std.specs.Prelude.{◌≡◌, ◌++◌, ◌≤ℤ◌, pos, OnErr, OnOk};
 ghost use Rattle.std.specs.List.{flat_map};
+ghost use Rattle.svc_world.specs.Unsigned.{AreUnsignedArrears, AreUnsignedTerms};
 ghost use Rattle.serv_line.specs.Pushed.{Keeps};
 ghost use Rattle.serv_report.specs.DeskTexts.{text_of_arrears, text_of_bill, text_of_boarding, text_of_change, text_of_escrow_terms, text_of_installments, text_of_loan_terms, text_of_owed, text_of_quote, text_of_terms};
 
 use crate::books::push_on_day;
-use crate::words::{push_amount_word, push_end, push_field, push_numbered};
+use crate::words::{push_amount_word, push_end, push_field, push_numbered, push_unsigned_field};
 use escrow_lines::Line;
-use serv_line::{push_amount_field, push_bytes, push_number_field, push_values};
+use serv_line::{push_bytes, push_number_field, push_values};
 use svc_base::{Cents, Day, OutOfMemory};
 use svc_forms::Value;
 use svc_types::{Arrears, Terms, TypeChange};
@@ -22,6 +23,7 @@ pub(crate) fn append_loan(
     lines: &[Line],
     types: &[TypeChange],
 ) -> Result<(), OutOfMemory>
+    requires { AreUnsignedTerms terms.now lines.now }
     ensures pushed { OnOk result (out.new.items ≡ out.old.items ++ text_of_loan_terms loan terms.now lines.now types.now) }
     ensures kept { OnErr result (Keeps out.old.items out.new.items) }
 {
@@ -142,12 +144,14 @@ pub(crate) fn append_quote(
     cents: Cents,
     perday: Cents,
 ) -> Result<(), OutOfMemory>
+    requires cents { pos 0 ≤ℤ cents }
+    requires perday { pos 0 ≤ℤ perday }
     ensures pushed { OnOk result (out.new.items ≡ out.old.items ++ text_of_quote loan day cents perday) }
     ensures kept { OnErr result (Keeps out.old.items out.new.items) }
 {
     push_on_day(out, b"quote ", loan, day)?;
     push_amount_word(out, cents)?;
-    push_amount_field(out, b"perday", perday)?;
+    push_unsigned_field(out, b"perday", perday)?;
     push_bytes(out, b"\n")
 }
 
@@ -159,6 +163,7 @@ pub(crate) fn append_arrears(
     day: Day,
     arrears: &Arrears,
 ) -> Result<(), OutOfMemory>
+    requires { AreUnsignedArrears arrears.now }
     ensures pushed { OnOk result (out.new.items ≡ out.old.items ++ text_of_arrears loan day arrears.now) }
     ensures kept { OnErr result (Keeps out.old.items out.new.items) }
 {
@@ -170,12 +175,13 @@ pub(crate) fn append_arrears(
 /// Appends how many installments are due, what they ask, and what is to be paid.
 #[tactic(auto, using(serv_line::proofs::KeepLemmas::keeps))]
 pub(crate) fn push_owed(out: &mut Vec<u8>, arrears: &Arrears) -> Result<(), OutOfMemory>
+    requires { AreUnsignedArrears arrears.now }
     ensures pushed { OnOk result (out.new.items ≡ out.old.items ++ text_of_owed arrears.now) }
     ensures kept { OnErr result (Keeps out.old.items out.new.items) }
 {
     push_number_field(out, b"installments", arrears.installments)?;
-    push_amount_field(out, b"due", arrears.due)?;
-    push_amount_field(out, b"suspense", arrears.suspense)?;
-    push_amount_field(out, b"pay", arrears.pay)?;
-    push_amount_field(out, b"late", arrears.late)
+    push_unsigned_field(out, b"due", arrears.due)?;
+    push_unsigned_field(out, b"suspense", arrears.suspense)?;
+    push_unsigned_field(out, b"pay", arrears.pay)?;
+    push_unsigned_field(out, b"late", arrears.late)
 }

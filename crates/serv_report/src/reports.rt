@@ -1,22 +1,25 @@
 //! The texts of a month's report.
 
 ghost use Rattle.std.specs.Prelude.{◌≡◌, ◌++◌, IfOk, OnErr, OnOk};
-ghost use Rattle.std.specs.List.{flat_map};
+ghost use Rattle.std.specs.List.{All, flat_map};
+ghost use Rattle.svc_world.specs.Laws.{IsUnsignedLine, IsUnsignedReport};
 ghost use Rattle.serv_line.specs.Pushed.{Keeps};
 ghost use Rattle.serv_report.specs.ReportTexts.{balances, pair, pair_field, text_of_adjustment, text_of_all, text_of_heading, text_of_line, text_of_loan, text_of_report, text_of_sent, text_of_trial};
 
 use crate::totals::{Column, push_amount_total, push_signed_total};
 use crate::words::{
-    push_count_field, push_end, push_number_word, push_numbered, push_signed_word, push_word,
+    push_count_field, push_end, push_number_word, push_numbered, push_signed_word,
+    push_unsigned_field, push_word,
 };
 use period_adjust::{Adjustment, Report, ReportLine};
-use serv_line::{push_amount_field, push_bytes, undone};
+use serv_line::{push_bytes, undone};
 use std::alloc::Global;
 use svc_base::{Cents, Month, OutOfMemory, write_month};
 
 /// The report of a month: what each loan sends, its adjustments, and the totals. Errs only where
 /// memory is short.
 pub fn activity(alloc: Global, report: &Report) -> Result<Vec<u8>, OutOfMemory>
+    requires { IsUnsignedReport report.now }
     ensures { IfOk result (λ text. text.items ≡ text_of_report report.now) }
 {
     let mut out = Vec::new(alloc);
@@ -26,6 +29,7 @@ pub fn activity(alloc: Global, report: &Report) -> Result<Vec<u8>, OutOfMemory>
 
 /// Appends the report of a month. Where memory is short `out` is as it was.
 pub fn push_activity(out: &mut Vec<u8>, report: &Report) -> Result<(), OutOfMemory>
+    requires { IsUnsignedReport report.now }
     ensures pushed { OnOk result (out.new.items ≡ out.old.items ++ text_of_report report.now) }
     ensures kept { OnErr result (out.new.items ≡ out.old.items) }
 {
@@ -36,6 +40,7 @@ pub fn push_activity(out: &mut Vec<u8>, report: &Report) -> Result<(), OutOfMemo
 
 /// The balances of a month's report, of each loan and of all. Errs only where memory is short.
 pub fn trial(alloc: Global, report: &Report) -> Result<Vec<u8>, OutOfMemory>
+    requires { IsUnsignedReport report.now }
     ensures { IfOk result (λ text. text.items ≡ text_of_trial report.now) }
 {
     let mut out = Vec::new(alloc);
@@ -45,6 +50,7 @@ pub fn trial(alloc: Global, report: &Report) -> Result<Vec<u8>, OutOfMemory>
 
 /// Appends the balances of a month's report. Where memory is short `out` is as it was.
 pub fn push_trial(out: &mut Vec<u8>, report: &Report) -> Result<(), OutOfMemory>
+    requires { IsUnsignedReport report.now }
     ensures pushed { OnOk result (out.new.items ≡ out.old.items ++ text_of_trial report.now) }
     ensures kept { OnErr result (out.new.items ≡ out.old.items) }
 {
@@ -56,6 +62,7 @@ pub fn push_trial(out: &mut Vec<u8>, report: &Report) -> Result<(), OutOfMemory>
 /// Appends the report of a month.
 #[tactic(auto, using(serv_line::proofs::KeepLemmas::keeps), unfolding(crate::specs::ReportTexts::text_of_report))]
 pub(crate) fn append_report(out: &mut Vec<u8>, report: &Report) -> Result<(), OutOfMemory>
+    requires { IsUnsignedReport report.now }
     ensures pushed { OnOk result (out.new.items ≡ out.old.items ++ text_of_report report.now) }
     ensures kept { OnErr result (Keeps out.old.items out.new.items) }
 {
@@ -75,6 +82,7 @@ pub(crate) fn append_report(out: &mut Vec<u8>, report: &Report) -> Result<(), Ou
 /// Appends the balances of a month's report.
 #[tactic(auto, using(serv_line::proofs::KeepLemmas::keeps), unfolding(crate::specs::ReportTexts::text_of_trial))]
 pub(crate) fn append_trial(out: &mut Vec<u8>, report: &Report) -> Result<(), OutOfMemory>
+    requires { IsUnsignedReport report.now }
     ensures pushed { OnOk result (out.new.items ≡ out.old.items ++ text_of_trial report.now) }
     ensures kept { OnErr result (Keeps out.old.items out.new.items) }
 {
@@ -112,6 +120,7 @@ fn push_heading(
 /// Appends a report's lines.
 #[tactic(auto, using(serv_line::proofs::KeepLemmas::keeps))]
 fn push_lines(out: &mut Vec<u8>, lines: &[ReportLine]) -> Result<(), OutOfMemory>
+    requires { All IsUnsignedLine lines.now }
     ensures pushed { OnOk result (out.new.items ≡ out.old.items ++ flat_map text_of_line lines.now) }
     ensures kept { OnErr result (Keeps out.old.items out.new.items) }
 {
@@ -124,6 +133,7 @@ fn push_lines(out: &mut Vec<u8>, lines: &[ReportLine]) -> Result<(), OutOfMemory
 /// Appends a loan's line.
 #[tactic(auto, using(serv_line::proofs::KeepLemmas::keeps), unfolding(crate::specs::ReportTexts::text_of_line))]
 fn push_line(out: &mut Vec<u8>, line: &ReportLine) -> Result<(), OutOfMemory>
+    requires { IsUnsignedLine line.now }
     ensures pushed { OnOk result (out.new.items ≡ out.old.items ++ text_of_line line.now) }
     ensures kept { OnErr result (Keeps out.old.items out.new.items) }
 {
@@ -162,11 +172,12 @@ fn push_pair(out: &mut Vec<u8>, interest: Cents, principal: Cents) -> Result<(),
 /// Appends a loan's balance and the investor's.
 #[tactic(auto, using(serv_line::proofs::KeepLemmas::keeps))]
 fn push_balances(out: &mut Vec<u8>, line: &ReportLine) -> Result<(), OutOfMemory>
+    requires { IsUnsignedLine line.now }
     ensures pushed { OnOk result (out.new.items ≡ out.old.items ++ balances line.now.upb line.now.balance) }
     ensures kept { OnErr result (Keeps out.old.items out.new.items) }
 {
-    push_amount_field(out, b"upb", line.upb)?;
-    push_amount_field(out, b"balance", line.balance)
+    push_unsigned_field(out, b"upb", line.upb)?;
+    push_unsigned_field(out, b"balance", line.balance)
 }
 
 /// Appends the adjustments that a report sends.
@@ -210,6 +221,7 @@ fn push_sent(out: &mut Vec<u8>, lines: &[ReportLine]) -> Result<(), OutOfMemory>
 /// Appends the balances of each loan.
 #[tactic(auto, using(serv_line::proofs::KeepLemmas::keeps))]
 fn push_loans(out: &mut Vec<u8>, lines: &[ReportLine]) -> Result<(), OutOfMemory>
+    requires { All IsUnsignedLine lines.now }
     ensures pushed { OnOk result (out.new.items ≡ out.old.items ++ flat_map text_of_loan lines.now) }
     ensures kept { OnErr result (Keeps out.old.items out.new.items) }
 {
@@ -222,6 +234,7 @@ fn push_loans(out: &mut Vec<u8>, lines: &[ReportLine]) -> Result<(), OutOfMemory
 /// Appends a loan's balances.
 #[tactic(auto, using(serv_line::proofs::KeepLemmas::keeps), unfolding(crate::specs::ReportTexts::text_of_loan))]
 fn push_loan(out: &mut Vec<u8>, line: &ReportLine) -> Result<(), OutOfMemory>
+    requires { IsUnsignedLine line.now }
     ensures pushed { OnOk result (out.new.items ≡ out.old.items ++ text_of_loan line.now) }
     ensures kept { OnErr result (Keeps out.old.items out.new.items) }
 {
@@ -233,6 +246,7 @@ fn push_loan(out: &mut Vec<u8>, line: &ReportLine) -> Result<(), OutOfMemory>
 /// Appends the balances of all loans.
 #[tactic(auto, using(serv_line::proofs::KeepLemmas::keeps), unfolding(crate::specs::ReportTexts::text_of_all))]
 fn push_all(out: &mut Vec<u8>, lines: &[ReportLine]) -> Result<(), OutOfMemory>
+    requires { All IsUnsignedLine lines.now }
     ensures pushed { OnOk result (out.new.items ≡ out.old.items ++ text_of_all lines.now) }
     ensures kept { OnErr result (Keeps out.old.items out.new.items) }
 {

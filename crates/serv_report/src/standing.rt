@@ -1,11 +1,14 @@
 //! The texts of who is late, of where the books stand, and of a command with its reply.
 
 ghost use Rattle.std.specs.Prelude.{◌≡◌, ◌++◌, OnErr, OnOk, codes};
-ghost use Rattle.std.specs.List.{flat_map};
+ghost use Rattle.std.specs.List.{All, flat_map};
 ghost use Rattle.svc_types.specs.declared.requests.Request.TheVariants as request;
+ghost use Rattle.svc_world.specs.declared.desk.LateLoan.{LateLoan};
+ghost use Rattle.svc_world.specs.Unsigned.{AreUnsignedArrears};
 ghost use Rattle.serv_line.specs.Lines.{line_of};
 ghost use Rattle.serv_line.specs.Pushed.{Keeps};
 ghost use Rattle.serv_line.specs.Replies.{ended, text_of_reply};
+ghost use Rattle.serv_report.specs.PostingSigns.{IsUnsignedPosting};
 ghost use Rattle.serv_report.specs.Texts.{numbered};
 ghost use Rattle.serv_report.specs.DeskTexts.{month_field, text_of_aging, text_of_aging_head, text_of_counts, text_of_held, text_of_late, text_of_late_counts, text_of_months, text_of_posting, text_of_status};
 
@@ -25,6 +28,7 @@ pub(crate) fn append_aging(
     late: &[LateLoan],
     counts: &AgingCounts,
 ) -> Result<(), OutOfMemory>
+    requires { All (λ (l : LateLoan). AreUnsignedArrears l.arrears) late.now }
     ensures pushed { OnOk result (out.new.items ≡ out.old.items ++ text_of_aging day late.now counts.now) }
     ensures kept { OnErr result (Keeps out.old.items out.new.items) }
 {
@@ -49,6 +53,7 @@ fn push_aging_head(out: &mut Vec<u8>, day: Day, loans: usize) -> Result<(), OutO
 /// Appends late loans, a line each.
 #[tactic(auto, using(serv_line::proofs::KeepLemmas::keeps))]
 fn push_late_loans(out: &mut Vec<u8>, late: &[LateLoan]) -> Result<(), OutOfMemory>
+    requires { All (λ (l : LateLoan). AreUnsignedArrears l.arrears) late.now }
     ensures pushed { OnOk result (out.new.items ≡ out.old.items ++ flat_map text_of_late late.now) }
     ensures kept { OnErr result (Keeps out.old.items out.new.items) }
 {
@@ -61,6 +66,7 @@ fn push_late_loans(out: &mut Vec<u8>, late: &[LateLoan]) -> Result<(), OutOfMemo
 /// Appends a late loan.
 #[tactic(auto, using(serv_line::proofs::KeepLemmas::keeps), unfolding(crate::specs::DeskTexts::text_of_late))]
 fn push_late(out: &mut Vec<u8>, loan: &LateLoan) -> Result<(), OutOfMemory>
+    requires { AreUnsignedArrears loan.now.arrears }
     ensures pushed { OnOk result (out.new.items ≡ out.old.items ++ text_of_late loan.now) }
     ensures kept { OnErr result (Keeps out.old.items out.new.items) }
 {
@@ -154,6 +160,7 @@ pub(crate) fn append_posting(
     command: &Command,
     reply: &Reply,
 ) -> Result<(), OutOfMemory>
+    requires { IsUnsignedPosting command.now reply.now }
     ensures pushed { OnOk result (out.new.items ≡ out.old.items ++ text_of_posting key.now command.now reply.now) }
     ensures kept { OnErr result (Keeps out.old.items out.new.items) }
 {

@@ -47,6 +47,7 @@ pub(crate) fn push_amount_total(
     lines: &[ReportLine],
     column: Column,
 ) -> Result<(), OutOfMemory>
+    requires { pos 0 ≤ℤ total_by (amount_in column) lines.now }
     ensures pushed { OnOk result (out.new.items ≡ out.old.items
         ++ amount_field name.now (total_by (amount_in column) lines.now)) }
     ensures kept { OnErr result (Keeps out.old.items out.new.items) }

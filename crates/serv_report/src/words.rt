@@ -1,13 +1,15 @@
 //! What a line begins with, its words with a space before each, and the last line of a text.
 
-ghost use Rattle.std.specs.Prelude.{◌≡◌, ◌++◌, OnErr, OnOk};
+ghost use Rattle.std.specs.Prelude.{◌≡◌, ◌++◌, ◌≤ℤ◌, pos, OnErr, OnOk};
 ghost use Rattle.svc_base.specs.Text.{text_of_amount, text_of_number, text_of_signed};
 ghost use Rattle.serv_line.specs.Pushed.{Keeps};
-ghost use Rattle.serv_line.specs.Replies.{number_field};
+ghost use Rattle.serv_line.specs.Replies.{amount_field, number_field};
 ghost use Rattle.serv_report.specs.Texts.{end_line, numbered, spaced};
 ghost use Rattle.serv_report.specs.DeskTexts.{field};
 
-use serv_line::{push_amount, push_balance, push_bytes, push_number, push_value, push_wide};
+use serv_line::{
+    push_amount, push_amount_field, push_balance, push_bytes, push_number, push_value, push_wide,
+};
 use svc_base::{Cents, OutOfMemory};
 use svc_forms::Value;
 
@@ -44,11 +46,25 @@ pub(crate) fn push_number_word(out: &mut Vec<u8>, number: u32) -> Result<(), Out
 /// Appends an amount, which is not below zero.
 #[tactic(auto, using(serv_line::proofs::KeepLemmas::keeps))]
 pub(crate) fn push_amount_word(out: &mut Vec<u8>, amount: Cents) -> Result<(), OutOfMemory>
+    requires { pos 0 ≤ℤ amount }
     ensures pushed { OnOk result (out.new.items ≡ out.old.items ++ spaced (text_of_amount amount)) }
     ensures kept { OnErr result (Keeps out.old.items out.new.items) }
 {
     push_bytes(out, b" ")?;
     push_amount(out, amount)
+}
+
+/// Appends a name and an amount, which is not below zero.
+pub(crate) fn push_unsigned_field(
+    out: &mut Vec<u8>,
+    name: &[u8],
+    amount: Cents,
+) -> Result<(), OutOfMemory>
+    requires { pos 0 ≤ℤ amount }
+    ensures pushed { OnOk result (out.new.items ≡ out.old.items ++ amount_field name.now amount) }
+    ensures kept { OnErr result (Keeps out.old.items out.new.items) }
+{
+    push_amount_field(out, name, amount)
 }
 
 /// Appends an amount that may be below zero.
