@@ -1,6 +1,7 @@
 //! The texts of the report of 2024-04, after four months that were closed.
 
 ghost use Rattle.std.specs.Prelude.{◌≡◌, ◌<◌};
+ghost use Rattle.svc_world.specs.Laws.{IsUnsignedReport};
 ghost use Rattle.serv_report.specs.AnswerTexts.{IsSpellable};
 
 use crate::histories::core_of;
@@ -34,14 +35,18 @@ fn is_answer(alloc: Global, answer: &Answer, text: &str) -> Result<bool, OutOfMe
 }
 
 /// Whether a report has this text, by each call that writes it.
-fn has_activity(alloc: Global, report: &Report, text: &str) -> Result<bool, OutOfMemory> {
+fn has_activity(alloc: Global, report: &Report, text: &str) -> Result<bool, OutOfMemory>
+    requires { IsUnsignedReport report.now }
+{
     let mut out = activity(alloc, report)?;
     push_activity(&mut out, report)?;
     Ok(is_twice(&out, text) && is_answer(alloc, &Answer::Report(report.copy()?), text)?)
 }
 
 /// Whether the balances of a report have this text, by each call that writes it.
-fn has_trial(alloc: Global, report: &Report, text: &str) -> Result<bool, OutOfMemory> {
+fn has_trial(alloc: Global, report: &Report, text: &str) -> Result<bool, OutOfMemory>
+    requires { IsUnsignedReport report.now }
+{
     let mut out = trial(alloc, report)?;
     push_trial(&mut out, report)?;
     Ok(is_twice(&out, text) && is_answer(alloc, &Answer::Trial(report.copy()?), text)?)
@@ -55,12 +60,16 @@ struct Row {
     trial: &'static str,
 }
 
-fn has_texts(alloc: Global, report: &Report, row: &Row) -> Result<bool, OutOfMemory> {
+fn has_texts(alloc: Global, report: &Report, row: &Row) -> Result<bool, OutOfMemory>
+    requires { IsUnsignedReport report.now }
+{
     let has_lines = has_activity(alloc, report, row.report)?;
     Ok(has_trial(alloc, report, row.trial)? && has_lines)
 }
 
-fn is_report(alloc: Global, answer: &Answer, row: &Row) -> Result<bool, OutOfMemory> {
+fn is_report(alloc: Global, answer: &Answer, row: &Row) -> Result<bool, OutOfMemory>
+    requires { IsSpellable answer.now }
+{
     match answer {
         Answer::Report(report) => has_texts(alloc, report, row),
         _ => Ok(false),
@@ -68,12 +77,14 @@ fn is_report(alloc: Global, answer: &Answer, row: &Row) -> Result<bool, OutOfMem
 }
 
 /// Whether the report of 2024-04 has both texts.
+#[tactic(auto, using(serv_report::proofs::SpellLemmas::spelled))]
 fn has_april<L: Ledger>(
     alloc: Global,
     core: &Core<Checked>,
     row: &Row,
     steps: &mut Steps<L>,
 ) -> Result<bool, Fail> {
+    core.history_holds();
     let answer = core.ask(&Query::Report(Month::new(2024, 4)), steps)?;
     Ok(is_report(alloc, &answer, row)?)
 }

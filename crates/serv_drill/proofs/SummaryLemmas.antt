@@ -1,5 +1,5 @@
 -- The queries of the summary.
-use Rattle.std.proofs.Common.{◌≡◌, ℕ, ◌+◌, List, [], ◌∷◌, length, true, refl, sym, ap, subst, add-one}
+use Rattle.std.proofs.Common.{◌≡◌, ℕ, ◌+◌, List, [], ◌∷◌, length, true, refl, sym, ap, add-one}
 use Rattle.std.specs.Prelude.{Option, Some, None, pos, ◌+ℤ◌}
 use Rattle.svc_types.specs.declared.replies.Refusal.{Refusal}
 use Rattle.svc_types.specs.declared.requests.Query.TheVariants as query
@@ -12,7 +12,7 @@ use Rattle.svc_world.specs.Refusals.{first_of, case}
 use Rattle.svc_types.specs.declared.replies.Refusal.TheVariants.{NoSuchLoan}
 use Rattle.std.specs.Option.{option_map, option_map_or}
 use Rattle.svc_world.specs.Custody.{rows_in, custody_of}
-use Rattle.serv_report.specs.AnswerTexts.{IsSpellable, text_of_answer}
+use Rattle.serv_report.specs.AnswerTexts.{text_of_answer}
 use Rattle.serv_report.specs.Texts.{text_of_custody}
 use Rattle.serv_drill.specs.Summary.{late_in, late_of, late_owed}
 
@@ -29,9 +29,6 @@ late_refused h id why e = refused_at h id why (find_loan id (world h).loans) e
 custody_is : (h : List Accepted) (a : Answer) → answer_to h query.Custodial ≡ Some a → answer.Custodial (custody_of (world h)) ≡ a
 unfolding answer_from
 custody_is h a e = cc
-
-pub custody_spelled : (h : List Accepted) (a : Answer) → answer_to h query.Custodial ≡ Some a → IsSpellable a
-custody_spelled h a e = subst IsSpellable (custody_is h a e) tt
 
 pub custody_text : (h : List Accepted) (a : Answer) → answer_to h query.Custodial ≡ Some a → text_of_answer a ≡ text_of_custody (custody_of (world h))
 custody_text h a e = sym (ap text_of_answer (custody_is h a e))

@@ -73,6 +73,7 @@ fn push_custody<L: Ledger>(
         ≡ out.old.items ++ text_of_custody (custody_of (world core.now.history))) }
     ensures steps { steps.new ≤ steps.old }
 {
+    core.history_holds();
     match core.ask(&Query::Custodial, steps) {
         Ok(answer) => push_answer(out, &answer),
         Err(_) => Err(OutOfMemory),

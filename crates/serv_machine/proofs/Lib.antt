@@ -1,4 +1,3 @@
 pub mod OnDiskLemmas
-pub mod SpellLemmas
 pub mod MemoryLemmas
 pub mod EngineLemmas

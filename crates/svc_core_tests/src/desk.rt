@@ -1,10 +1,11 @@
 //! Books under test: a script is played to them, and their replies are compared with those that it has.
 
 ghost use Rattle.std.specs.Prelude.{◌≡◌, ◌<◌};
+ghost use Rattle.svc_types.specs.Requests.{IsQuery};
 
 use crate::filling::{Marks, filled};
 use serv_line::{LineFault, push_bytes, read_line, write_bad, write_refusal, write_reply};
-use serv_report::{escrow, write_answer};
+use serv_report::write_answer;
 use std::alloc::Global;
 use std::marker::Brand;
 use std::process::Abort;
@@ -14,8 +15,7 @@ use svc_base::{OutOfMemory, Steps};
 use svc_checkpoint::Checked;
 use svc_core::{Core, CoreFault};
 use svc_replay::{LoanBooks, Plain};
-use svc_types::{Reply, Request};
-use svc_world::Answer;
+use svc_types::{Query, Reply, Request};
 
 /// A part of a script: requests, each in a line that `> ` begins, and after each the reply that it must have. Of a
 /// reply that ends with `..` only what stands before that is compared.
@@ -75,25 +75,6 @@ fn marks_in(part: &Turns, turn: u32, number: u32) -> Marks {
     }
 }
 
-/// The text of an answer.
-fn answer_text(alloc: Global, answer: &Answer) -> Result<Vec<u8>, OutOfMemory> {
-    match answer {
-        Answer::Escrow {
-            loan,
-            figures,
-            analysis,
-        } => {
-            // All years of the scripts end long before the calendar does.
-            if figures.from.number() < 12 * 2_140 {
-                escrow(alloc, *loan, figures, analysis)
-            } else {
-                Ok(Vec::new(alloc))
-            }
-        }
-        _ => write_answer(alloc, answer),
-    }
-}
-
 /// The text of what a command is answered.
 fn reply_text(alloc: Global, reply: &Result<Reply, CoreFault>) -> Result<Vec<u8>, OutOfMemory> {
     match reply {
@@ -104,13 +85,19 @@ fn reply_text(alloc: Global, reply: &Result<Reply, CoreFault>) -> Result<Vec<u8>
 }
 
 /// The text of what a query is answered.
-fn answered_text(
+#[tactic(auto, using(serv_report::proofs::SpellLemmas::spelled))]
+fn asked_text<B: LoanBooks, L: Ledger>(
     alloc: Global,
-    answer: &Result<Answer, CoreFault>,
-) -> Result<Vec<u8>, OutOfMemory> {
-    match answer {
-        Ok(answer) => answer_text(alloc, answer),
-        Err(CoreFault::Refused(why)) => write_refusal(alloc, why),
+    core: &Core<B>,
+    query: &Query,
+    steps: &mut Steps<L>,
+) -> Result<Vec<u8>, OutOfMemory>
+    requires { IsQuery query.now }
+{
+    core.history_holds();
+    match core.ask(query, steps) {
+        Ok(answer) => write_answer(alloc, &answer),
+        Err(CoreFault::Refused(why)) => write_refusal(alloc, &why),
         Err(CoreFault::OutOfMemory) => Err(OutOfMemory),
     }
 }
@@ -124,7 +111,7 @@ pub(crate) fn reply_to<B: LoanBooks, L: Ledger>(
 ) -> Result<Vec<u8>, OutOfMemory> {
     match &read_line(line) {
         Ok(Request::Do(key, command)) => reply_text(alloc, &core.submit(key, command, steps)),
-        Ok(Request::Ask(query)) => answered_text(alloc, &core.ask(query, steps)),
+        Ok(Request::Ask(query)) => asked_text(alloc, core, query, steps),
         Err(LineFault(place)) => write_bad(alloc, *place),
     }
 }

@@ -2,11 +2,13 @@ use Rattle.std.proofs.Common.{◌++◌, refl, ap, ◌∙◌, arith}
 use Rattle.std.proofs.Math.Nat.{le_refl}
 use Rattle.std.proofs.lemmas.Result.{on_ok_weaker}
 use Rattle.svc_core.specs.Bound.{query_bound}
-use Rattle.serv_drill.proofs.SummaryLemmas.{custody_spelled, custody_text}
+use Rattle.svc_types.specs.declared.requests.Query.TheVariants as query
+use Rattle.serv_report.proofs.SpellLemmas.{spelled}
+use Rattle.serv_drill.proofs.SummaryLemmas.{custody_text}
 use Rattle.serv_drill.proofs.summary.push_custody.Goals as goal
 
 pub push_answer-requires : goal.push_answer-requires
-push_answer-requires g c = record { year = custody_spelled c.args.core.now.history c.in-Ok.answer c.in-Ok.ensures.answer }
+push_answer-requires g c = record { spellable = spelled c.args.core.now.history query.Custodial c.in-Ok.answer c.history_holds.ensures.history c.in-Ok.ensures.answer }
 
 pub returns-in-Ok-clause-pushed : goal.returns-in-Ok-clause-pushed
 returns-in-Ok-clause-pushed g c =

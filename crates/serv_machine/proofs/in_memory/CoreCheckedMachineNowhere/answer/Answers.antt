@@ -1,6 +1,6 @@
 use Rattle.std.proofs.lemmas.Result.{IfOk-weaker}
 use Rattle.serv_report.specs.AnswerTexts.{IsSpellable}
-use Rattle.serv_machine.proofs.SpellLemmas.{spelled}
+use Rattle.serv_report.proofs.SpellLemmas.{spelled}
 use Rattle.serv_machine.proofs.in_memory.CoreCheckedMachineNowhere.answer.Goals as goal
 
 pub returns-clause-spelled : goal.returns-clause-spelled
