@@ -1,5 +1,5 @@
 -- A loan that a command changes from a month on: what is recorded of it, the world after it, and its cost.
-use Rattle.std.proofs.Common.{◌≡◌, ℕ, ◌+◌, ◌-◌, ◌≤◌, ◌<◌, true, false, cond, List, [], ◌∷◌, ◌++◌, map, length, arith, refl, sym, ap, subst, ◌∙◌, length-append}
+use Rattle.std.proofs.Common.{◌≡◌, ℕ, ◌+◌, ◌-◌, ◌*◌, ◌≤◌, ◌<◌, true, false, cond, List, [], ◌∷◌, ◌++◌, map, length, arith, refl, sym, ap, subst, ◌∙◌, length-append}
 use Rattle.std.specs.Prelude.{Option, Some, IfSome}
 use Rattle.std.specs.List.{All, range_with_len}
 use Rattle.std.specs.Option.{option_map_or}
@@ -103,6 +103,10 @@ adjusts_few n id (b ∷ bs) (d ∷ ds) = omega (arith, change_few n id b d, adju
 first_since : {n today : ℕ} {loans : KeptLoans} {seals : State} {id m : ℕ} {f : Held → Held} → IsChanging n today loans seals id m f → IfSome (first_month seals.reporting.reports) (λ first. first ≤ m)
 first_since {loans = loans} {seals = seals} {m = m} h = first_by (first_month seals.reporting.reports) m 0 (held_in loans.loans) h.kept.held h.state.world.reports.from_first (before_named h).found h.change.since
 
+-- how many closed months a loan has from one on
+pub dues_count : (m : ℕ) (k : KeptLoan) → length (dues_since m k) ≡ boarded_month k.held + k.closed - m
+dues_count m k = length-map-range_with_len (due_of k.held) m (boarded_month k.held + k.closed - m)
+
 -- the dues before the change are of so many months at most as are closed
 dues_few : {n today : ℕ} {loans : KeptLoans} {seals : State} {id m : ℕ} {f : Held → Held} (h : IsChanging n today loans seals id m f) → length (dues_since m h.kept) ≤ length seals.reporting.reports
 dues_few {seals = seals} {m = m} h =
@@ -110,7 +114,7 @@ dues_few {seals = seals} {m = m} h =
     let closed = (before_kept h).closed in
     let since = h.change.since in
     let few = few_months seals.reporting.reports m h.state.world.reports.sealed.consecutive (first_since h) in
-    let count = length-map-range_with_len (due_of k.held) m (boarded_month k.held + k.closed - m) in
+    let count = dues_count m k in
     omega (arith, closed, since, few, count)
 
 abbrev dues : Held → ℕ → ℕ → List MonthDue
@@ -148,11 +152,21 @@ copied {loans = loans} {id = id} {m = m} before h is = of_found (λ (k : KeptLoa
 pub asks_since : {n today : ℕ} {loans : KeptLoans} {seals : State} {id m : ℕ} {f : Held → Held} → IsChanging n today loans seals id m f → OfLoan id loans.loans (λ k. boarded_month k.held ≤ m)
 asks_since {loans = loans} {id = id} {m = m} h = found_of (λ (k : KeptLoan). boarded_month k.held ≤ m) id loans.loans h.kept h.change.since h.found
 
-pub asks_room : {n today : ℕ} {loans : KeptLoans} {seals : State} {id m : ℕ} {f : Held → Held} (room : ℕ) → IsChanging n today loans seals id m f → length seals.reporting.reports ≤ room → OfLoan id loans.loans (λ k. length (dues_since m k) ≤ room)
+pub asks_room : {n today : ℕ} {loans : KeptLoans} {seals : State} {id m : ℕ} {f : Held → Held} (room : ℕ) → IsChanging n today loans seals id m f → 2 * length seals.reporting.reports ≤ room → OfLoan id loans.loans (λ k. length (dues_since m k) ≤ room)
 asks_room {loans = loans} {id = id} {m = m} room h le = found_of (λ (k : KeptLoan). length (dues_since m k) ≤ room) id loans.loans h.kept (let few = dues_few h in omega (arith, few, le)) h.found
 
 pub later_since : {n today : ℕ} {loans : KeptLoans} {seals : State} {id m : ℕ} {f : Held → Held} (later : KeptLoans) → IsChanging n today loans seals id m f → AreChanged id f loans later → OfLoan id later.loans (λ k. boarded_month k.held ≤ m)
 later_since {id = id} {m = m} later h c = let a = loan_after later h c in found_of (λ (k : KeptLoan). boarded_month k.held ≤ m) id later.loans a.kept a.since a.found
+
+pub later_fits : {n today : ℕ} {loans : KeptLoans} {seals : State} {id m : ℕ} {f : Held → Held} (later : KeptLoans) (before : List MonthDue) (room : ℕ) → IsChanging n today loans seals id m f → AreChanged id f loans later → OfLoan id loans.loans (λ k. before ≡ dues_since m k) → 2 * length seals.reporting.reports ≤ room → OfLoan id later.loans (λ k. length before + length (dues_since m k) ≤ room)
+later_fits {seals = seals} {id = id} {m = m} {f = f} later before room h c is le =
+    let a = loan_after later h c in
+    let few = dues_few h in
+    let same = ap length (copied before h is) in
+    let count = closed_months seals.reporting.reports m in
+    let most = few_months seals.reporting.reports m h.state.world.reports.sealed.consecutive (first_since h) in
+    let new : length (dues_since m a.kept) ≡ count = ap length (dues_later a) ∙ length-map-range_with_len (due_of (f h.kept.held)) m count in
+    found_of (λ (k : KeptLoan). length before + length (dues_since m k) ≤ room) id later.loans a.kept (omega (arith, few, same, most, new, le)) a.found
 
 pub later_change : {n today : ℕ} {loans : KeptLoans} {seals : State} {id m : ℕ} {f : Held → Held} (later : KeptLoans) (before : List MonthDue) → IsChanging n today loans seals id m f → AreChanged id f loans later → OfLoan id loans.loans (λ k. before ≡ dues_since m k) → OfLoan id later.loans (λ k. MayChange seals.reporting (n + 1) id before (dues_since m k))
 later_change {n = n} {seals = seals} {id = id} {m = m} {f = f} later before h c is =

@@ -9,12 +9,12 @@ use Rattle.svc_loan.specs.Loans.{KeptLoans, OfLoan}
 use Rattle.svc_rules.specs.declared.scope.Scope.{Scope}
 use Rattle.svc_rules.specs.declared.scope.Scope.TheVariants.{One, New, Every}
 
--- for a command on one loan: room in the loan, for its rows, for the dues that it had for closed months, and for
--- an adjustment of each of these
+-- for a command on one loan: room in the loan, for its rows, for the dues that it had for closed months and those that
+-- it has then, and for an adjustment of each of these
 pub record HasRoomForOne (id today : ℕ) (loans : KeptLoans) (seals : State) (rows dues : ℕ) : Type 0 where
   pub loan : OfLoan id loans.loans (IsReady today)
   pub rows_room : 11 ≤ rows
-  pub dues_room : length seals.reporting.reports ≤ dues
+  pub dues_room : 2 * length seals.reporting.reports ≤ dues
   pub adjustments : length seals.reporting.reports ≤ seals.adjustment_room
 
 -- for a loan that is taken on: a place among the others and for what custody holds for it, and room for its rows
@@ -39,7 +39,7 @@ pub record HasRoomForAll (today : ℕ) (loans : KeptLoans) (seals : State) (rows
   pub report : 1 ≤ seals.report_room
 
 -- what a command of a scope needs, where the business day is today before it and later after it: room for rows, for
--- former dues, for the positions of more loans, and for the lines of a report; and the loan that is to be taken on
+-- the dues of a loan, for the positions of more loans, and for the lines of a report; and the loan that is to be taken on
 abbrev pub IsReadyFor : Scope → ℕ → ℕ → KeptLoans → State → ℕ → ℕ → ℕ → ℕ → Option KeptLoan → Type 0
 IsReadyFor (One id) today later loans seals rows dues places lines boarding =
     HasRoomForOne id today loans seals rows dues

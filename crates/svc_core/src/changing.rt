@@ -1,6 +1,6 @@
 //! What a command on one loan makes of the world.
 
-ghost use Rattle.std.specs.Prelude.{◌≡◌, ◌+◌, ◌≤◌, ◌<◌, None, Some, length, vec_capacity};
+ghost use Rattle.std.specs.Prelude.{◌≡◌, ◌+◌, ◌*◌, ◌≤◌, ◌<◌, None, Some, length, vec_capacity};
 ghost use Rattle.std.specs.List.{All};
 ghost use Rattle.svc_base.specs.Calendar.{month_of as month_number, months_end};
 ghost use Rattle.svc_types.specs.Requests.{IsCommand};
@@ -45,7 +45,7 @@ pub(crate) fn change_one<B: LoanBooks, L: Ledger>(
     requires fresh { refusal_of count (world_of state.old.today state.old.loans state.old.seals) command.now
         ≡ None }
     requires loan { OfLoan id state.old.loans.loans (IsReady state.old.today) }
-    requires dues { length state.old.seals.reporting.reports ≤ vec_capacity dues.old }
+    requires dues { 2 * length state.old.seals.reporting.reports ≤ vec_capacity dues.old }
     requires adjustments { length state.old.seals.reporting.reports ≤ state.old.seals.adjustment_room }
     ensures world { world_of state.new.today state.new.loans state.new.seals
         ≡ after (count + 1) (world_of state.old.today state.old.loans state.old.seals) command.now }
@@ -107,7 +107,7 @@ fn change_other<B: LoanBooks, L: Ledger>(
     requires fresh { refusal_of count (world_of state.old.today state.old.loans state.old.seals) command.now
         ≡ None }
     requires loan { OfLoan id state.old.loans.loans (IsReady state.old.today) }
-    requires dues { length state.old.seals.reporting.reports ≤ vec_capacity dues.old }
+    requires dues { 2 * length state.old.seals.reporting.reports ≤ vec_capacity dues.old }
     requires adjustments { length state.old.seals.reporting.reports ≤ state.old.seals.adjustment_room }
     requires other { rule.entry_made (count + 1) state.old.today command.now ≡ None }
     ensures world { world_of state.new.today state.new.loans state.new.seals
@@ -222,7 +222,7 @@ fn analyse<B: LoanBooks, L: Ledger>(
     requires fresh { refusal_of count (world_of state.old.today state.old.loans state.old.seals)
         (request.Analyse id plan.now) ≡ None }
     requires loan { OfLoan id state.old.loans.loans (IsReady state.old.today) }
-    requires dues { length state.old.seals.reporting.reports ≤ vec_capacity dues.old }
+    requires dues { 2 * length state.old.seals.reporting.reports ≤ vec_capacity dues.old }
     requires adjustments { length state.old.seals.reporting.reports ≤ state.old.seals.adjustment_room }
     ensures world { world_of state.new.today state.new.loans state.new.seals
         ≡ after (count + 1) (world_of state.old.today state.old.loans state.old.seals)

@@ -1,7 +1,7 @@
 //! Commands that may change what is due of a loan for closed months: an entry, and a reversal. What they
 //! change is recorded for the investor.
 
-ghost use Rattle.std.specs.Prelude.{◌≡◌, ◌+◌, ◌≤◌, true, is_some, Some, None, length, vec_capacity};
+ghost use Rattle.std.specs.Prelude.{◌≡◌, ◌+◌, ◌*◌, ◌≤◌, true, is_some, Some, None, length, vec_capacity};
 ghost use Rattle.std.specs.List.{All};
 ghost use Rattle.svc_base.specs.Calendar.{month_of as month_number};
 ghost use Rattle.period_adjust.specs.Changes.{adjustments_of};
@@ -42,7 +42,7 @@ pub(crate) fn enter<B: LoanBooks, L: Ledger>(
     requires state { IsState count state.old.today state.old.loans state.old.seals }
     requires entry { MayEnter count (world_of state.old.today state.old.loans state.old.seals) id entry.now }
     requires ready { OfLoan id state.old.loans.loans (IsReady state.old.today) }
-    requires dues { length state.old.seals.reporting.reports ≤ vec_capacity dues.old }
+    requires dues { 2 * length state.old.seals.reporting.reports ≤ vec_capacity dues.old }
     requires adjustments { length state.old.seals.reporting.reports ≤ state.old.seals.adjustment_room }
     ensures world { world_of state.new.today state.new.loans state.new.seals
         ≡ world_with (world_of state.old.today state.old.loans state.old.seals) id (held.with_entry entry.now)
@@ -72,7 +72,7 @@ pub(crate) fn reverse<B: LoanBooks, L: Ledger>(
     requires fresh { refusal_of count (world_of state.old.today state.old.loans state.old.seals)
         (request.Reverse id number) ≡ None }
     requires ready { OfLoan id state.old.loans.loans (IsReady state.old.today) }
-    requires dues { length state.old.seals.reporting.reports ≤ vec_capacity dues.old }
+    requires dues { 2 * length state.old.seals.reporting.reports ≤ vec_capacity dues.old }
     requires adjustments { length state.old.seals.reporting.reports ≤ state.old.seals.adjustment_room }
     ensures world { world_of state.new.today state.new.loans state.new.seals
         ≡ after (count + 1) (world_of state.old.today state.old.loans state.old.seals)
@@ -105,36 +105,38 @@ fn entry_there<B: LoanBooks>(loans: &Loans<B>, id: u32, number: u32) -> Entry
 fn copy_dues<B: LoanBooks>(loans: &Loans<B>, id: u32, month: Month, dues: &mut Vec<MonthDue>)
     requires since { OfLoan id loans.now.loans (λ k. held.boarded_month k.held ≤ month) }
     requires room { OfLoan id loans.now.loans (λ k. length (dues_since month k) ≤ vec_capacity dues.old) }
-    ensures { OfLoan id loans.now.loans (λ k. dues.new.items ≡ dues_since month k) }
+    ensures dues { OfLoan id loans.now.loans (λ k. dues.new.items ≡ dues_since month k) }
+    ensures capacity { vec_capacity dues.new ≡ vec_capacity dues.old }
 {
-    let loan = loan_there(loans, id);
     dues.clear();
-    match dues.extend_from_slice(loan.dues_from(month)) {
-        Ok(()) => {}
-        Err(_) => unreachable!(),
-    }
+    loan_there(loans, id).add_dues(month, dues);
 }
 
-/// Records what a command changed in what is due of a loan for its closed months from one on.
+/// Records what a command changed in what is due of a loan for its closed months from one on, where a list holds what
+/// was due before it.
 fn record_dues<B: LoanBooks>(
     number: u32,
     id: u32,
     month: Month,
-    before: &[MonthDue],
+    dues: &mut Vec<MonthDue>,
     loans: &Loans<B>,
     seals: &mut Seals,
 )
     requires since { OfLoan id loans.now.loans (λ k. held.boarded_month k.held ≤ month) }
+    requires dues { OfLoan id loans.now.loans
+        (λ k. length dues.old.items + length (dues_since month k) ≤ vec_capacity dues.old) }
     requires change { OfLoan id loans.now.loans
-        (λ k. MayChange seals.old.reporting number id before.now (dues_since month k)) }
-    requires room { OfLoan id loans.now.loans
-        (λ k. length (adjustments_of number id before.now (dues_since month k)) ≤ seals.old.adjustment_room) }
+        (λ k. MayChange seals.old.reporting number id dues.old.items (dues_since month k)) }
+    requires room { OfLoan id loans.now.loans (λ k. length (adjustments_of number id dues.old.items
+        (dues_since month k)) ≤ seals.old.adjustment_room) }
     ensures done { OfLoan id loans.now.loans (λ k. seals.new.reporting
-        ≡ totals.after seals.old.reporting (Change number id before.now (dues_since month k))) }
+        ≡ totals.after seals.old.reporting (Change number id dues.old.items (dues_since month k))) }
     ensures remitted { seals.new.remitted ≡ seals.old.remitted }
 {
-    let loan = loan_there(loans, id);
-    match seals.record_change(number, id, before, loan.dues_from(month)) {
+    let former = dues.len();
+    loan_there(loans, id).add_dues(month, dues);
+    let (before, later) = dues.split_at(former);
+    match seals.record_change(number, id, before, later) {
         Ok(()) => {}
         Err(_) => unreachable!(),
     }

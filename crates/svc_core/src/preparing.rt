@@ -93,7 +93,8 @@ fn room_for_one<B: LoanBooks>(
     state.loans.reserve_for(id, today)?;
     state.seals.reserve(0, closed as u32)?;
     cash.book.reserve(11)?;
-    clear_for(&mut scratch.dues, closed)
+    // what is due before the command and after it
+    clear_for(&mut scratch.dues, 2 * closed)
 }
 
 /// A place, rows and a position for a loan that is taken on.

@@ -1,9 +1,8 @@
--- The dues and carries of a loan's closed months: one month more, fewer months, and what a change leaves.
-use Rattle.std.proofs.Common.{◌≡◌, ℕ, zero, suc, ◌+◌, ◌-◌, ◌≤◌, ◌<◌, true, false, List, [], ◌∷◌, ◌++◌, map, take, drop, min, length, get_or, w64, to_z, of_z, arith, refl, sym, ap, ◌∙◌}
+-- What is carried from a loan's closed months: one month more, fewer months, what a change leaves, and the dues.
+use Rattle.std.proofs.Common.{◌≡◌, ℕ, zero, suc, ◌+◌, ◌-◌, ◌≤◌, ◌<◌, List, [], ◌∷◌, ◌++◌, map, take, length, get_or, w64, to_z, of_z, arith, refl, sym, ap, ◌∙◌, append_assoc}
 use Rattle.svc_base.proofs.CentsRules.{cents}
-use Rattle.std.specs.Prelude.{ℤ, pos, neg_ℤ, ◌≤ℤ◌, ◌+ℤ◌, ◌-ℤ◌, sum_by, nat_le}
+use Rattle.std.specs.Prelude.{ℤ, pos, neg_ℤ, ◌≤ℤ◌, ◌+ℤ◌, ◌-ℤ◌, sum_by}
 use Rattle.std.specs.List.{range_with_len}
-use Rattle.std.proofs.lemmas.Bool.Decides.{nat_tests}
 use Rattle.std.proofs.lemmas.Int.{ints}
 use Rattle.std.proofs.lemmas.List.Sums.{sum_by-append}
 use Rattle.std.proofs.lemmas.List.FromFn.{take-map-range_with_len, length-map-range_with_len, get_or-map-range_with_len, map-range_with_len_more}
@@ -16,36 +15,24 @@ use Rattle.svc_types.specs.declared.books.MonthFacts.{MonthFacts}
 use Rattle.svc_spec.specs.Accounts.{Account, IsAccount}
 use Rattle.svc_spec.specs.Months.{month_facts}
 use Rattle.svc_spec.proofs.MonthLemmas.{boarded_some}
-use Rattle.svc_loan.specs.Closed.{dues_to, carries_to, months_cost, AreClosed, MayClose}
+use Rattle.svc_loan.specs.Closed.{carries_to, months_cost, IsSmall, MayClose}
 use Rattle.remit_types.specs.declared.dues.MonthDue.{MonthDue}
 use Rattle.remit_types.specs.declared.dues.Carry.{Carry}
 use Rattle.remit_types.specs.Dues.{loan_month, carried_first, carried_after, due_between}
 use Rattle.svc_world.specs.Held.{Held, boarded_month}
 use Rattle.svc_world.specs.LoanDues.{kind_in, carried_to, carried_at, due_in, carry_of, due_of}
 use Rattle.svc_world.specs.Custody.{due_sum}
-use Rattle.svc_world.proofs.AgreeLemmas.{AgreeTo, same_due, same_carried}
-use Rattle.svc_world.proofs.CarryLemmas.{passed_sum, carried_none, carried_more, dues_telescope}
+use Rattle.svc_world.proofs.AgreeLemmas.{AgreeTo, same_carried}
+use Rattle.svc_world.proofs.CarryLemmas.{passed_sum, carried_none, carried_more, account_carry, dues_telescope}
 use Rattle.svc_world.proofs.ChangesLemmas.{range_split}
-
-pub dues_length : (a : Account) (types : List TypeChange) (n : ℕ) → length (dues_to a types n) ≡ n
-unfolding dues_to
-dues_length a types n = length-map-range_with_len (due_in a types) (month_of a.terms.boarded) n
 
 pub carries_length : (a : Account) (types : List TypeChange) (n : ℕ) → length (carries_to a types n) ≡ n
 unfolding carries_to
 carries_length a types n = length-map-range_with_len (carried_at a types) (month_of a.terms.boarded) n
 
-pub dues_more : (a : Account) (types : List TypeChange) (n : ℕ) → dues_to a types (n + 1) ≡ dues_to a types n ++ due_in a types (month_of a.terms.boarded + n) ∷ []
-unfolding dues_to
-dues_more a types n = map-range_with_len_more (due_in a types) (month_of a.terms.boarded) n (month_of a.terms.boarded + n) refl
-
 pub carries_more : (a : Account) (types : List TypeChange) (n : ℕ) → carries_to a types (n + 1) ≡ carries_to a types n ++ carried_at a types (month_of a.terms.boarded + n) ∷ []
 unfolding carries_to
 carries_more a types n = map-range_with_len_more (carried_at a types) (month_of a.terms.boarded) n (month_of a.terms.boarded + n) refl
-
-pub dues_fewer : (a : Account) (types : List TypeChange) (k n : ℕ) → k ≤ n → take k (dues_to a types n) ≡ dues_to a types k
-unfolding dues_to
-dues_fewer a types k n le = take-map-range_with_len (due_in a types) (month_of a.terms.boarded) n k le
 
 pub carries_fewer : (a : Account) (types : List TypeChange) (k n : ℕ) → k ≤ n → take k (carries_to a types n) ≡ carries_to a types k
 unfolding carries_to
@@ -54,10 +41,6 @@ carries_fewer a types k n le = take-map-range_with_len (carried_at a types) (mon
 pub carry_place : (a : Account) (types : List TypeChange) (n i : ℕ) (d : Carry) → i < n → get_or (carries_to a types n) i d ≡ carried_at a types (month_of a.terms.boarded + i)
 unfolding carries_to
 carry_place a types n i d lt = get_or-map-range_with_len (carried_at a types) (month_of a.terms.boarded) n i (month_of a.terms.boarded + i) d lt refl
-
-pub due_place : (a : Account) (types : List TypeChange) (n i : ℕ) (d : MonthDue) → i < n → get_or (dues_to a types n) i d ≡ due_in a types (month_of a.terms.boarded + i)
-unfolding dues_to
-due_place a types n i d lt = get_or-map-range_with_len (due_in a types) (month_of a.terms.boarded) n i (month_of a.terms.boarded + i) d lt refl
 
 -- ---- what a change leaves
 
@@ -68,13 +51,6 @@ map_same f g m (suc n) h =
     ∙ ap (λ xs. g m ∷ xs) (map_same f g (m + 1) n (λ p low high. h p (omega arith) (omega arith)))
 
 -- of two states of a loan that agree on the months before m the first n months are the same
-pub dues_agree : (m : ℕ) (l k : Held) (n : ℕ) → AgreeTo m l k → boarded_month l + n ≤ m → dues_to k.account k.types n ≡ dues_to l.account l.types n
-unfolding dues_to
-dues_agree m l k n h le =
-    let start : boarded_month k ≡ boarded_month l = ap (λ t. month_of t.boarded) h.account.terms in
-    ap (λ b. map (due_of k) (range_with_len b n)) start
-    ∙ map_same (due_of k) (due_of l) (boarded_month l) n (λ p low high. same_due m l k p h (omega arith) (omega arith))
-
 pub carries_agree : (m : ℕ) (l k : Held) (n : ℕ) → AgreeTo m l k → boarded_month l + n ≤ m → carries_to k.account k.types n ≡ carries_to l.account l.types n
 unfolding carries_to
 carries_agree m l k n h le =
@@ -96,12 +72,12 @@ pub cost_none : (cost : Account → ℕ → ℕ) (a : Account) (m : ℕ) → mon
 unfolding months_cost
 cost_none cost a m = refl
 
--- the last of the carries, and what is carried where there is none
-pub last_carried : (a : Account) (types : List TypeChange) (cs : List Carry) (i : ℕ) (d : Carry) → cs ≡ carries_to a types (length cs) → i + 1 ≡ length cs → get_or cs i d ≡ carried_to a types (length cs)
-last_carried a types cs i d kept last =
+-- what is carried from the first k of n months, which are some
+pub carried_there : (a : Account) (types : List TypeChange) (cs : List Carry) (k : ℕ) (d : Carry) → cs ≡ carries_to a types (length cs) → 1 ≤ k → k ≤ length cs → get_or cs (k - 1) d ≡ carried_to a types k
+carried_there a types cs k d kept some le =
     let b = month_of a.terms.boarded in
-    let place : b + i + 1 - b ≡ length cs = omega arith in
-    ap (λ xs. get_or xs i d) kept ∙ carry_place a types (length cs) i d (omega arith) ∙ ap (carried_to a types) place
+    let place : b + (k - 1) + 1 - b ≡ k = omega arith in
+    ap (λ xs. get_or xs (k - 1) d) kept ∙ carry_place a types (length cs) (k - 1) d (omega arith) ∙ ap (carried_to a types) place
 
 -- ---- one month more
 
@@ -119,36 +95,27 @@ carry_before a types n h =
     ap (carried_to a types) place
 
 -- what closing the next month adds
-pub record IsNext (a : Account) (types : List TypeChange) (n : ℕ) (owed : MonthDue) (carry : Carry) : Type 0 where
+pub record IsNext (a : Account) (types : List TypeChange) (n : ℕ) (carry : Carry) : Type 0 where
   pub facts : MonthFacts
   pub kind : RemitType
   pub is_facts : facts ≡ month_facts a (month_of a.terms.boarded + n)
   pub is_kind : kind ≡ kind_in a.terms types (month_of a.terms.boarded + n)
   pub is_carry : carry ≡ carried_after a.terms (carried_to a types n) (loan_month kind facts)
-  pub is_due : owed ≡ due_between facts.month (carried_to a types n) carry
 
-next_is : (a : Account) (types : List TypeChange) (n : ℕ) (owed : MonthDue) (carry : Carry) → IsNext a types n owed carry → carry ≡ carried_to a types (suc n)
-next_is a types n owed carry h =
+next_is : (a : Account) (types : List TypeChange) (n : ℕ) (carry : Carry) → IsNext a types n carry → carry ≡ carried_to a types (suc n)
+next_is a types n carry h =
     let m = month_of a.terms.boarded + n in
     h.is_carry
     ∙ ap (λ k. carried_after a.terms (carried_to a types n) (loan_month k h.facts)) h.is_kind
     ∙ ap (λ f. carried_after a.terms (carried_to a types n) (loan_month (kind_in a.terms types m) f)) h.is_facts
     ∙ sym (carried_more a types n)
 
-pub closed_more : (a : Account) (types : List TypeChange) (n : ℕ) (ds ds' : List MonthDue) (cs cs' : List Carry) (owed : MonthDue) (carry : Carry) → IsAccount a → AreClosed a types n ds cs → IsNext a types n owed carry → ds' ≡ ds ++ owed ∷ [] → cs' ≡ cs ++ carry ∷ [] → AreClosed a types (n + 1) ds' cs'
-closed_more a types n ds ds' cs cs' owed carry h kept next dues carries =
-    let b = month_of a.terms.boarded in
-    let is = next_is a types n owed carry next in
-    let month : next.facts.month ≡ b + n = ap (λ (f : MonthFacts). f.month) next.is_facts in
-    let due' : owed ≡ due_in a types (b + n) =
-    next.is_due
-    ∙ ap (λ p. due_between p (carried_to a types n) carry) month
-    ∙ ap (λ c. due_between (b + n) (carried_to a types n) c) (is ∙ sym (next_carry a types n))
-    ∙ ap (λ c. due_between (b + n) c (carried_at a types (b + n))) (sym (carry_before a types n h)) in
-    record {
-      dues = dues ∙ ap (λ xs. xs ++ owed ∷ []) kept.dues ∙ ap (λ x. dues_to a types n ++ x ∷ []) due' ∙ sym (dues_more a types n);
-      carries = carries ∙ ap (λ xs. xs ++ carry ∷ []) kept.carries ∙ ap (λ x. carries_to a types n ++ x ∷ []) (is ∙ sym (next_carry a types n)) ∙ sym (carries_more a types n);
-    }
+pub closed_more : (a : Account) (types : List TypeChange) (n : ℕ) (cs cs' : List Carry) (carry : Carry) → cs ≡ carries_to a types n → IsNext a types n carry → cs' ≡ cs ++ carry ∷ [] → cs' ≡ carries_to a types (n + 1)
+closed_more a types n cs cs' carry kept next pushed =
+    pushed
+    ∙ ap (λ xs. xs ++ carry ∷ []) kept
+    ∙ ap (λ x. carries_to a types n ++ x ∷ []) (next_is a types n carry next ∙ sym (next_carry a types n))
+    ∙ sym (carries_more a types n)
 
 -- how many months can be closed
 pub closings_few : (a : Account) (n : ℕ) → MayClose a n → n ≤ 2_000
@@ -160,45 +127,34 @@ closings_few a n h =
 
 -- ---- what is read off
 
-drop_mapped : {A : Type 0} (f : ℕ → A) (b k n : ℕ) → drop k (map f (range_with_len b n)) ≡ map f (range_with_len (b + k) (n - k))
-drop_mapped f b zero n =
-    let e : b + 0 ≡ b = omega arith in
-    let e' : n - 0 ≡ n = omega arith in
-    sym (ap (λ x. map f (range_with_len x (n - 0))) e ∙ ap (λ x. map f (range_with_len b x)) e')
-drop_mapped f b (suc k) zero =
-    let e : 0 - suc k ≡ 0 = omega arith in
-    sym (ap (λ x. map f (range_with_len (b + suc k) x)) e)
-drop_mapped f b (suc k) (suc n) =
-    let e : b + 1 + k ≡ b + suc k = omega arith in
-    let e' : n - k ≡ suc n - suc k = omega arith in
-    drop_mapped f (b + 1) k n ∙ ap (λ x. map f (range_with_len x (n - k))) e ∙ ap (λ x. map f (range_with_len (b + suc k) x)) e'
-
--- the dues from a month on, which is k months after the boarded one
-pub dues_later : (a : Account) (types : List TypeChange) (ds : List MonthDue) (k n m : ℕ) → ds ≡ dues_to a types n → k ≡ min (m - month_of a.terms.boarded) n → month_of a.terms.boarded ≤ m → drop k ds ≡ map (due_in a types) (range_with_len m (month_of a.terms.boarded + n - m))
-unfolding dues_to
-dues_later a types ds k n m is place from =
+-- what is due for the month that is n months after the boarded one
+pub due_is : (a : Account) (types : List TypeChange) (n m : ℕ) → IsAccount a → m ≡ month_of a.terms.boarded + n → due_between m (carried_to a types n) (carried_to a types (n + 1)) ≡ due_in a types m
+due_is a types n m h is =
     let b = month_of a.terms.boarded in
-    let count : n - k ≡ b + n - m = omega arith in
-    ap (drop k) is ∙ drop_mapped (due_in a types) b k n ∙ ap (λ x. map (due_in a types) (range_with_len (b + k) x)) count ∙ same b k n m place from
-  where
-    same : (b k n m : ℕ) → k ≡ min (m - b) n → b ≤ m → map (due_in a types) (range_with_len (b + k) (b + n - m)) ≡ map (due_in a types) (range_with_len m (b + n - m))
-    same b k n m place from =
-        elim (nat_le (b + n) m) as (λ v. nat_le (b + n) m ≡ v → map (due_in a types) (range_with_len (b + k) (b + n - m)) ≡ map (due_in a types) (range_with_len m (b + n - m))) [
-          | true ↦ λ e.
-              let le : b + n ≤ m = grind (arith, nat_tests) in
-              let none : b + n - m ≡ 0 = omega arith in
-              ap (λ x. map (due_in a types) (range_with_len (b + k) x)) none ∙ sym (ap (λ x. map (due_in a types) (range_with_len m x)) none)
-          | false ↦ λ e.
-              let lt : m < b + n = grind (arith, nat_tests) in
-              let at : b + k ≡ m = omega arith in
-              ap (λ x. map (due_in a types) (range_with_len x (b + n - m))) at
-        ] refl
+    let one : suc n ≡ n + 1 = omega arith in
+    let before : carried_at a types (m - 1) ≡ carried_to a types n = ap (λ p. carried_at a types (p - 1)) is ∙ carry_before a types n h in
+    let later : carried_at a types m ≡ carried_to a types (n + 1) = ap (carried_at a types) is ∙ next_carry a types n ∙ ap (carried_to a types) one in
+    ap (λ c. due_between m c (carried_to a types (n + 1))) (sym before) ∙ ap (λ c. due_between m (carried_at a types (m - 1)) c) (sym later)
 
-pub due_there : (a : Account) (types : List TypeChange) (ds : List MonthDue) (n m : ℕ) (d : MonthDue) → ds ≡ dues_to a types n → month_of a.terms.boarded ≤ m → m < month_of a.terms.boarded + n → get_or ds (m - month_of a.terms.boarded) d ≡ due_in a types m
-due_there a types ds n m d is from lt =
-    let b = month_of a.terms.boarded in
-    let at : b + (m - b) ≡ m = omega arith in
-    ap (λ xs. get_or xs (m - b) d) is ∙ due_place a types n (m - b) d (omega arith) ∙ ap (due_in a types) at
+-- what is carried from closed months is within limits
+pub carried_small : (a : Account) (types : List TypeChange) (k n : ℕ) → MayClose a n → k ≤ n → IsSmall (carried_to a types k)
+carried_small a types k n may le =
+    let few = closings_few a n may in
+    let h = account_carry a types k (omega (arith, few)) may.account in
+    let most = may.account.terms.principal_high in
+    let high = h.within.balance_high in
+    record {
+      balance_low = h.within.balance_low;
+      balance_high = omega (arith, ints, most, high);
+      passed_low = h.sums.passed_low;
+      passed_high = h.sums.passed_high;
+    }
+
+-- the dues of some months and of the one after them
+pub dues_more : (a : Account) (types : List TypeChange) (m n p : ℕ) (ds : List MonthDue) → p ≡ m + n → (ds ++ map (due_in a types) (range_with_len m n)) ++ due_in a types p ∷ [] ≡ ds ++ map (due_in a types) (range_with_len m (n + 1))
+dues_more a types m n p ds is =
+    append_assoc ds (map (due_in a types) (range_with_len m n)) (due_in a types p ∷ [])
+    ∙ ap (λ xs. ds ++ xs) (sym (map-range_with_len_more (due_in a types) m n p (sym is)))
 
 pub carry_there : (a : Account) (types : List TypeChange) (cs : List Carry) (n m : ℕ) (d : Carry) → cs ≡ carries_to a types n → month_of a.terms.boarded ≤ m → m < month_of a.terms.boarded + n → get_or cs (m - month_of a.terms.boarded) d ≡ carried_at a types m
 carry_there a types cs n m d is from lt =

@@ -1,29 +1,22 @@
 -- What is kept of a loan's closed months, which follow one another from the boarded month on.
-use Rattle.std.specs.Prelude.{◌≡◌, ℕ, ◌+◌, ◌-◌, ◌≤◌, ◌<◌, List, map, sum_by}
+use Rattle.std.specs.Prelude.{ℕ, ◌+◌, ◌-◌, ◌≤◌, ◌<◌, ◌^◌, List, map, sum_by, pos, neg_ℤ, ◌≤ℤ◌}
 use Rattle.std.specs.List.{range_with_len}
 use Rattle.svc_base.specs.Calendar.{month_of, months_end}
 use Rattle.svc_types.specs.declared.requests.TypeChange.{TypeChange}
 use Rattle.svc_spec.specs.Accounts.{Account, IsAccount}
-use Rattle.remit_types.specs.declared.dues.MonthDue.{MonthDue}
 use Rattle.remit_types.specs.declared.dues.Carry.{Carry}
-use Rattle.svc_world.specs.LoanDues.{carried_at, due_in}
+use Rattle.svc_world.specs.LoanDues.{carried_at}
 
--- the first n months from the boarded one on
-abbrev pub months_to : Account → ℕ → List ℕ
-months_to a n = range_with_len (month_of a.terms.boarded) n
-
--- what is due for each of them
-unfoldable pub dues_to : Account → List TypeChange → ℕ → List MonthDue
-dues_to a types n = map (due_in a types) (months_to a n)
-
--- the remittance at the end of each of them
+-- the remittance at the end of each of the first n months from the boarded one on
 unfoldable pub carries_to : Account → List TypeChange → ℕ → List Carry
-carries_to a types n = map (carried_at a types) (months_to a n)
+carries_to a types n = map (carried_at a types) (range_with_len (month_of a.terms.boarded) n)
 
--- what is kept of the first n months
-pub record AreClosed (a : Account) (types : List TypeChange) (n : ℕ) (ds : List MonthDue) (cs : List Carry) : Type 0 where
-  pub dues : ds ≡ dues_to a types n
-  pub carries : cs ≡ carries_to a types n
+-- of two such remittances one can be taken from the other
+pub record IsSmall (c : Carry) : Type 0 where
+  pub balance_low : pos 0 ≤ℤ c.balance
+  pub balance_high : c.balance ≤ℤ pos (10 ^ 18)
+  pub passed_low : neg_ℤ (pos (10 ^ 18)) ≤ℤ c.passed
+  pub passed_high : c.passed ≤ℤ pos (10 ^ 18)
 
 -- an account of which n months can be closed: these have ended
 pub record MayClose (a : Account) (n : ℕ) : Type 0 where

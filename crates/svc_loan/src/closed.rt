@@ -1,36 +1,107 @@
-//! What is kept of a loan's closed months: the due of each, and what is carried from it to the next.
+//! What is kept of a loan's closed months: what is carried from each of them to the next.
 
-ghost use Rattle.std.specs.Prelude.{◌≡◌, ◌+◌, ◌-◌, ◌≤◌, ◌<◌, min, take, vec_len, vec_capacity, length, pos, neg_ℤ, ◌+ℤ◌, ◌-ℤ◌, ◌≤ℤ◌};
+ghost use Rattle.std.specs.Prelude.{◌≡◌, ◌+◌, ◌-◌, ◌≤◌, ◌<◌, ◌++◌, map, min, take, vec_len, vec_capacity, length, pos, neg_ℤ, ◌+ℤ◌, ◌-ℤ◌, ◌≤ℤ◌};
+ghost use Rattle.std.specs.List.{range_with_len};
 ghost use Rattle.svc_base.specs.Calendar.{month_of as month_number};
 ghost use Rattle.svc_types.specs.Terms.{IsSound};
+ghost use Rattle.remit_types.specs.Dues as dues;
 ghost use Rattle.remit_types.specs.Limits.{HasSums, IsWithin};
-ghost use Rattle.svc_world.specs.LoanDues.{carried_to};
+ghost use Rattle.svc_world.specs.LoanDues.{carried_to, due_in};
 ghost use Rattle.svc_loan.specs.Closed as rule;
 
 use crate::types::Types;
 use remit_types::{Carry, MonthDue, due, first};
 use std::sync::ledger::Ledger;
-use svc_base::{Cents, Steps, add_months, month_of};
+use svc_base::{Cents, Month, Steps, add_months, month_of};
 use svc_replay::LoanBooks;
 use svc_types::Terms;
 
-/// The dues of the closed months, and the carry at the end of each, from the boarded month on.
-#[derive(Drop)]
-pub(crate) struct ClosedMonths {
-    pub(crate) dues: Vec<MonthDue>,
-    pub(crate) carries: Vec<Carry>,
+/// How many months a month is after an earlier one.
+pub(crate) fn months_between(earlier: Month, month: Month) -> usize
+    ensures { result ≡ month - earlier }
+{
+    month.number().saturating_sub(earlier.number()) as usize
 }
 
-/// The remittance at the end of the last closed month; where none is closed that of boarding.
-pub(crate) fn last_carry<B: LoanBooks>(carries: &[Carry], books: &B, types: &Types) -> Carry
+/// The remittance at the end of the first of the closed months, so many of them; after none that of boarding.
+pub(crate) fn carry_after<B: LoanBooks>(
+    carries: &[Carry],
+    books: &B,
+    types: &Types,
+    months: usize,
+) -> Carry
     requires carries { carries.now ≡ rule.carries_to (B.account books.now) types.now.changes
         (length carries.now) }
-    ensures { result ≡ carried_to (B.account books.now) types.now.changes (length carries.now) }
+    requires closed { months ≤ length carries.now }
+    ensures { result ≡ carried_to (B.account books.now) types.now.changes months }
 {
-    if carries.is_empty() {
+    if months == 0 {
         return first(books.terms());
     }
-    carries[carries.len() - 1]
+    carries[months - 1]
+}
+
+/// What is due for a closed month, which is so many months after the boarded one.
+pub(crate) fn due_after<B: LoanBooks>(
+    carries: &[Carry],
+    books: &B,
+    types: &Types,
+    month: Month,
+    months: usize,
+) -> MonthDue
+    requires may { rule.MayClose (B.account books.now) (length carries.now) }
+    requires carries { carries.now ≡ rule.carries_to (B.account books.now) types.now.changes
+        (length carries.now) }
+    requires closed { months < length carries.now }
+    requires month { month ≡ month_number (B.account books.now).terms.boarded + months }
+    ensures { result ≡ due_in (B.account books.now) types.now.changes month }
+{
+    let before = carry_after(carries, books, types, months);
+    let later = carry_after(carries, books, types, months + 1);
+    due_between(month, &before, &later)
+}
+
+/// What is due for a month, from the remittance at the end of the month before it and at its own.
+#[tactic(auto, using(svc_base::proofs::CentsRules::cents))]
+fn due_between(month: Month, before: &Carry, later: &Carry) -> MonthDue
+    requires before { rule.IsSmall before.now }
+    requires later { rule.IsSmall later.now }
+    ensures { result ≡ dues.due_between month before.now later.now }
+{
+    MonthDue {
+        month,
+        interest: later.passed - before.passed,
+        principal: before.balance - later.balance,
+        balance: later.balance,
+    }
+}
+
+/// Appends what is due for each closed month from one on, for which there is room.
+pub(crate) fn add_dues<B: LoanBooks>(
+    carries: &[Carry],
+    books: &B,
+    types: &Types,
+    month: Month,
+    dues: &mut Vec<MonthDue>,
+)
+    requires may { rule.MayClose (B.account books.now) (length carries.now) }
+    requires carries { carries.now ≡ rule.carries_to (B.account books.now) types.now.changes
+        (length carries.now) }
+    requires from { month_number (B.account books.now).terms.boarded ≤ month }
+    requires room { vec_len dues.old
+        + (month_number (B.account books.now).terms.boarded + length carries.now - month) ≤ vec_capacity dues.old }
+    ensures dues { dues.new.items ≡ dues.old.items ++ map (due_in (B.account books.now) types.now.changes)
+        (range_with_len month
+        (month_number (B.account books.now).terms.boarded + length carries.now - month)) }
+    ensures capacity { vec_capacity dues.new ≡ vec_capacity dues.old }
+{
+    let boarded = month_of(books.terms().boarded);
+    let mut months = months_between(boarded, month);
+    while months < carries.len() {
+        let next = add_months(boarded, months as u32);
+        dues.push_reserved(due_after(carries, books, types, next, months));
+        months += 1;
+    }
 }
 
 /// What is due for all closed months, in cents, from the remittance at the end of the last one.
@@ -46,62 +117,55 @@ pub(crate) fn total_due(carry: &Carry, terms: &Terms) -> Cents
     carry.passed - carry.balance + terms.principal
 }
 
-/// Closes the month after the last closed one: the due of the month and the carry at its end.
+/// Closes the month after the last closed one: keeps what is carried from it.
 pub(crate) fn close_next<B: LoanBooks, L: Ledger>(
-    months: &mut ClosedMonths,
+    carries: &mut Vec<Carry>,
     books: &B,
     types: &Types,
     steps: &mut Steps<L>,
 )
-    requires may { rule.MayClose (B.account books.now) (vec_len months.old.dues + 1) }
-    requires kept { rule.AreClosed (B.account books.now) types.now.changes (vec_len months.old.dues)
-        months.old.dues.items months.old.carries.items }
-    requires dues_room { vec_len months.old.dues < vec_capacity months.old.dues }
-    requires carries_room { vec_len months.old.carries < vec_capacity months.old.carries }
-    ensures kept { rule.AreClosed (B.account books.now) types.now.changes (vec_len months.old.dues + 1)
-        months.new.dues.items months.new.carries.items }
-    ensures dues_count { vec_len months.new.dues ≡ vec_len months.old.dues + 1 }
-    ensures carries_count { vec_len months.new.carries ≡ vec_len months.old.carries + 1 }
-    ensures dues_capacity { vec_capacity months.new.dues ≡ vec_capacity months.old.dues }
-    ensures carries_capacity { vec_capacity months.new.carries ≡ vec_capacity months.old.carries }
+    requires may { rule.MayClose (B.account books.now) (vec_len carries.old + 1) }
+    requires kept { carries.old.items ≡ rule.carries_to (B.account books.now) types.now.changes
+        (vec_len carries.old) }
+    requires room { vec_len carries.old < vec_capacity carries.old }
+    ensures kept { carries.new.items ≡ rule.carries_to (B.account books.now) types.now.changes
+        (vec_len carries.old + 1) }
+    ensures count { vec_len carries.new ≡ vec_len carries.old + 1 }
+    ensures capacity { vec_capacity carries.new ≡ vec_capacity carries.old }
     ensures steps { steps.new ≤ steps.old + B.month_cost (B.account books.now)
-        (month_number (B.account books.now).terms.boarded + vec_len months.old.dues) }
+        (month_number (B.account books.now).terms.boarded + vec_len carries.old) }
 {
     books.is_account();
     let terms = books.terms();
-    let month = add_months(month_of(terms.boarded), months.dues.len() as u32);
-    let mut carry = last_carry(&months.carries, books, types);
+    let closed = carries.len();
+    let month = add_months(month_of(terms.boarded), closed as u32);
+    let mut carry = carry_after(carries, books, types, closed);
     let facts = books.month(month, steps);
-    let owed = due(&mut carry, terms, types.kind_in(terms, month), &facts);
-    months.dues.push_reserved(owed);
-    months.carries.push_reserved(carry);
+    let _ = due(&mut carry, terms, types.kind_in(terms, month), &facts);
+    carries.push_reserved(carry);
 }
 
 /// Makes the closed months anew after a change of the loan, all but the first ones, which stay.
 pub(crate) fn redo<B: LoanBooks, L: Ledger>(
-    months: &mut ClosedMonths,
+    carries: &mut Vec<Carry>,
     books: &B,
     types: &Types,
     stay: usize,
     steps: &mut Steps<L>,
 )
-    requires may { rule.MayClose (B.account books.now) (vec_len months.old.dues) }
-    requires count { vec_len months.old.carries ≡ vec_len months.old.dues }
-    requires stays { rule.AreClosed (B.account books.now) types.now.changes (min stay (vec_len months.old.dues))
-        (take stay months.old.dues.items) (take stay months.old.carries.items) }
-    ensures kept { rule.AreClosed (B.account books.now) types.now.changes (vec_len months.old.dues)
-        months.new.dues.items months.new.carries.items }
-    ensures dues_count { vec_len months.new.dues ≡ vec_len months.old.dues }
-    ensures carries_count { vec_len months.new.carries ≡ vec_len months.old.carries }
-    ensures dues_capacity { vec_capacity months.new.dues ≡ vec_capacity months.old.dues }
-    ensures carries_capacity { vec_capacity months.new.carries ≡ vec_capacity months.old.carries }
+    requires may { rule.MayClose (B.account books.now) (vec_len carries.old) }
+    requires stays { take stay carries.old.items ≡ rule.carries_to (B.account books.now) types.now.changes
+        (min stay (vec_len carries.old)) }
+    ensures kept { carries.new.items ≡ rule.carries_to (B.account books.now) types.now.changes
+        (vec_len carries.old) }
+    ensures count { vec_len carries.new ≡ vec_len carries.old }
+    ensures capacity { vec_capacity carries.new ≡ vec_capacity carries.old }
     ensures steps { steps.new ≤ steps.old + rule.months_cost B.month_cost (B.account books.now)
-        (month_number (B.account books.now).terms.boarded + stay) (vec_len months.old.dues - stay) }
+        (month_number (B.account books.now).terms.boarded + stay) (vec_len carries.old - stay) }
 {
-    let closed = months.dues.len();
-    months.dues.truncate(stay);
-    months.carries.truncate(stay);
-    while months.dues.len() < closed {
-        close_next(months, books, types, steps);
+    let closed = carries.len();
+    carries.truncate(stay);
+    while carries.len() < closed {
+        close_next(carries, books, types, steps);
     }
 }

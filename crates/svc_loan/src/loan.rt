@@ -1,7 +1,7 @@
 //! One loan: its books, escrow lines and remittance types, and what is due for its closed months.
 
-ghost use Rattle.std.specs.Prelude.{◌≡◌, ◌+◌, ◌-◌, ◌≤◌, ◌<◌, [], ◌∷◌, length, map, true, Some, None};
-ghost use Rattle.std.specs.Prelude.{OnOk, OnErr, IfOk, IsOk, is_some, pos, neg_ℤ, ◌+ℤ◌, ◌-ℤ◌, ◌≤ℤ◌};
+ghost use Rattle.std.specs.Prelude.{◌≡◌, ◌+◌, ◌-◌, ◌≤◌, ◌<◌, [], ◌∷◌, ◌++◌, length, map, true, Some, None};
+ghost use Rattle.std.specs.Prelude.{OnOk, OnErr, IfOk, IsOk, is_some, vec_len, vec_capacity, pos, neg_ℤ, ◌+ℤ◌, ◌-ℤ◌, ◌≤ℤ◌};
 ghost use Rattle.std.specs.List.{list_any, range_with_len};
 ghost use Rattle.svc_base.specs.Calendar.{month_of as month_number};
 ghost use Rattle.svc_base.specs.Sums.{total_by};
@@ -18,7 +18,9 @@ ghost use Rattle.svc_loan.specs.Closed as closed;
 ghost use Rattle.svc_loan.specs.Kept.{IsReady, IsAhead, KeepsMonths};
 ghost use Rattle.svc_loan.specs.Moved.{moved_of};
 
-use crate::closed::{ClosedMonths, close_next, last_carry, redo, total_due};
+use crate::closed::{
+    add_dues, carry_after, close_next, due_after, months_between, redo, total_due,
+};
 use crate::moved::Moved;
 use crate::reserved::{advance_reserved, post_reserved, reverse_reserved};
 use crate::types::Types;
@@ -31,25 +33,25 @@ use svc_base::{Cents, Day, Month, OutOfMemory, Steps, make_room, month_of};
 use svc_replay::{LoanAccount, LoanBooks};
 use svc_types::{Books, Entry, RemitType, Terms, TypeChange};
 
-/// By how many months at least the lists of closed ones grow: by twice those for which `Loans` makes room at once, so
-/// that they grow every second time.
+/// By how many months at least the list of closed ones grows: by twice those for which `Loans` makes room at once, so
+/// that it grows every second time.
 const STEP: usize = 8;
 
 /// A loan: its number, its books however they are kept, its escrow lines and changes of remittance type,
-/// the dues of its closed months, and what was remitted to the investor for it.
+/// what is carried from each closed month to the next, and what was remitted to the investor for it.
 #[derive(Drop)]
 pub struct Loan<B: LoanBooks> {
     id: u32,
     books: B,
     lines: Lines,
     types: Types,
-    months: ClosedMonths,
+    carries: Vec<Carry>,
     moved: Moved,
     remitted: Cents,
 }
 
 impl<B: LoanBooks> Model for Loan<B> {
-    ghost use Rattle.std.specs.Prelude.{◌-◌, min, vec_len, vec_capacity};
+    ghost use Rattle.std.specs.Prelude.{◌-◌, vec_len, vec_capacity};
     ghost use Rattle.svc_loan.specs.Kept.{KeptLoan, held_of};
     ghost use Rattle.svc_loan.specs.Loan.{IsLoan};
 
@@ -57,18 +59,17 @@ impl<B: LoanBooks> Model for Loan<B> {
 
     ghost view = { λ l. record {
       held = held_of l.id (B.account l.books) l.lines l.types.changes;
-      closed = vec_len l.months.dues;
+      closed = vec_len l.carries;
       remitted = l.remitted;
       room = record {
         books = B.room l.books;
-        closings = min (vec_capacity l.months.dues - vec_len l.months.dues)
-            (vec_capacity l.months.carries - vec_len l.months.carries);
+        closings = vec_capacity l.carries - vec_len l.carries;
         types = l.types.room;
       };
     } };
 
     ghost invariant = { λ l. IsLoan (B.account l.books) l.types.changes l.moved
-        (vec_len l.months.dues) (vec_len l.months.carries) l.months.dues.items l.months.carries.items };
+        (vec_len l.carries) l.carries.items };
 }
 
 impl<B: LoanBooks> Loan<B> {
@@ -96,10 +97,7 @@ impl<B: LoanBooks> Loan<B> {
             books,
             lines: Lines::new(),
             types: Types::new(alloc),
-            months: ClosedMonths {
-                dues: Vec::new(alloc),
-                carries: Vec::new(alloc),
-            },
+            carries: Vec::new(alloc),
             moved: Moved::new(),
             remitted: 0,
         })
@@ -124,7 +122,7 @@ impl<B: LoanBooks> Loan<B> {
         post_reserved(&mut self.books, entry, steps);
         self.books.is_account();
         let stay = months_since(&self.books, month_of(entry.day));
-        redo(&mut self.months, &self.books, &self.types, stay, steps);
+        redo(&mut self.carries, &self.books, &self.types, stay, steps);
     }
 
     /// Reverses an entry of the loan that is not reversed, and makes the dues of its month and of later
@@ -147,7 +145,7 @@ impl<B: LoanBooks> Loan<B> {
         self.moved = self.moved.with_reversal(&entry.act);
         self.books.is_account();
         let stay = months_since(&self.books, month_of(entry.day));
-        redo(&mut self.months, &self.books, &self.types, stay, steps);
+        redo(&mut self.carries, &self.books, &self.types, stay, steps);
     }
 
     /// Moves the business day on. Closed months had ended before it, so their dues stay.
@@ -182,7 +180,7 @@ impl<B: LoanBooks> Loan<B> {
     {
         self.types.add(TypeChange { from, kind });
         let stay = months_since(&self.books, from);
-        redo(&mut self.months, &self.books, &self.types, stay, steps);
+        redo(&mut self.carries, &self.books, &self.types, stay, steps);
     }
 
     /// Sets an escrow line, of which nothing is wrong and for which there is a place.
@@ -225,7 +223,7 @@ impl<B: LoanBooks> Loan<B> {
         ensures steps { steps.new ≤ steps.old + B.month_cost self.old.held.account
             (held.boarded_month self.old.held + self.old.closed) }
     {
-        close_next(&mut self.months, &self.books, &self.types, steps);
+        close_next(&mut self.carries, &self.books, &self.types, steps);
     }
 
     /// Adds what a report sends for the loan, in cents, to what was remitted for it.
@@ -254,8 +252,7 @@ impl<B: LoanBooks> Loan<B> {
     {
         self.books.reserve(today)?;
         self.types.reserve()?;
-        make_room(&mut self.months.dues, 1, STEP)?;
-        make_room(&mut self.months.carries, 1, STEP)?;
+        make_room(&mut self.carries, 1, STEP)?;
         Ok(())
     }
 
@@ -270,8 +267,7 @@ impl<B: LoanBooks> Loan<B> {
             → IsAhead (month_number today) closings self.old → IsOk result }
     {
         self.books.reserve(today)?;
-        make_room(&mut self.months.dues, closings, STEP)?;
-        make_room(&mut self.months.carries, closings, STEP)?;
+        make_room(&mut self.carries, closings, STEP)?;
         Ok(())
     }
 
@@ -380,7 +376,7 @@ impl<B: LoanBooks> Loan<B> {
     pub fn closed(&self) -> usize
         ensures { result ≡ self.now.closed }
     {
-        self.months.dues.len()
+        self.carries.len()
     }
 
     /// What the entries brought in and paid out, in cents, and how many there are.
@@ -397,14 +393,16 @@ impl<B: LoanBooks> Loan<B> {
         self.remitted
     }
 
-    /// What is due for each closed month from one on.
-    pub fn dues_from(&self, month: Month) -> &[MonthDue]
-        requires { held.boarded_month self.now.held ≤ month }
-        ensures { result.now ≡ map (due_of self.now.held) (range_with_len month
-            (held.boarded_month self.now.held + self.now.closed - month)) }
+    /// Appends what is due for each closed month from one on, for which there is room.
+    pub fn add_dues(&self, month: Month, dues: &mut Vec<MonthDue>)
+        requires from { held.boarded_month self.now.held ≤ month }
+        requires room { vec_len dues.old + (held.boarded_month self.now.held + self.now.closed - month)
+            ≤ vec_capacity dues.old }
+        ensures dues { dues.new.items ≡ dues.old.items ++ map (due_of self.now.held)
+            (range_with_len month (held.boarded_month self.now.held + self.now.closed - month)) }
+        ensures capacity { vec_capacity dues.new ≡ vec_capacity dues.old }
     {
-        let place = months_since(&self.books, month).min(self.months.dues.len());
-        &self.months.dues[place..]
+        add_dues(&self.carries, &self.books, &self.types, month, dues);
     }
 
     /// What is due for a closed month.
@@ -413,7 +411,8 @@ impl<B: LoanBooks> Loan<B> {
         requires closed { month < held.boarded_month self.now.held + self.now.closed }
         ensures { result ≡ due_of self.now.held month }
     {
-        self.months.dues[months_since(&self.books, month)]
+        let months = months_since(&self.books, month);
+        due_after(&self.carries, &self.books, &self.types, month, months)
     }
 
     /// The remittance at the end of a closed month; before the boarded month that of boarding.
@@ -426,7 +425,7 @@ impl<B: LoanBooks> Loan<B> {
         if month.number() < boarded {
             return first(terms);
         }
-        self.months.carries[months_since(&self.books, month)]
+        self.carries[months_since(&self.books, month)]
     }
 
     /// What is due for all closed months, interest and principal, in cents.
@@ -435,7 +434,7 @@ impl<B: LoanBooks> Loan<B> {
             (range_with_len (held.boarded_month self.now.held) self.now.closed)) }
     {
         self.books.is_account();
-        let carry = last_carry(&self.months.carries, &self.books, &self.types);
+        let carry = carry_after(&self.carries, &self.books, &self.types, self.carries.len());
         total_due(&carry, self.books.terms())
     }
 }
@@ -445,11 +444,4 @@ fn months_since<B: LoanBooks>(books: &B, month: Month) -> usize
     ensures { result ≡ month - month_number (B.account books.now).terms.boarded }
 {
     months_between(month_of(books.terms().boarded), month)
-}
-
-/// How many months a month is after an earlier one.
-fn months_between(earlier: Month, month: Month) -> usize
-    ensures { result ≡ month - earlier }
-{
-    month.number().saturating_sub(earlier.number()) as usize
 }

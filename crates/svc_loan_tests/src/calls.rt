@@ -94,13 +94,17 @@ struct Owed {
     march: Option<Carry>,
 }
 
-fn owed_of<B: LoanBooks, L: Ledger>(loan: &Followed<B>, steps: &mut Steps<L>) -> Owed {
+fn owed_of<B: LoanBooks, L: Ledger>(
+    alloc: Global,
+    loan: &Followed<B>,
+    steps: &mut Steps<L>,
+) -> Owed {
     let march = Month::new(2024, 3);
     Owed {
         earlier: balance_on(loan, b"2024-01-28", steps),
         february: loan.due_at(Month::new(2024, 2)),
-        from_march: loan.closed_from(march),
-        from_april: loan.closed_from(Month::new(2024, 4)),
+        from_march: loan.closed_from(alloc, march),
+        from_april: loan.closed_from(alloc, Month::new(2024, 4)),
         before: loan.carry_at(Month::new(2023, 11)),
         march: loan.carry_at(march),
     }
@@ -157,7 +161,11 @@ struct Asked {
     ninth: bool,
 }
 
-fn ask<B: LoanBooks, L: Ledger>(loan: &mut Followed<B>, steps: &mut Steps<L>) -> Asked {
+fn ask<B: LoanBooks, L: Ledger>(
+    alloc: Global,
+    loan: &mut Followed<B>,
+    steps: &mut Steps<L>,
+) -> Asked {
     let happened = [
         loan.follow_all(LINES, steps),
         loan.remit(115_743),
@@ -166,7 +174,7 @@ fn ask<B: LoanBooks, L: Ledger>(loan: &mut Followed<B>, steps: &mut Steps<L>) ->
     Asked {
         happened,
         answers: answers_of(loan.loan()),
-        owed: owed_of(loan, steps),
+        owed: owed_of(alloc, loan, steps),
         third: is_installment(loan.loan().entry(3), 3, b"2024-02-01"),
         ninth: loan.loan().entry(9).is_some(),
     }
@@ -179,7 +187,7 @@ fn ask_of_new<B: LoanBooks, L: Ledger>(alloc: Global, blank: Blank) -> Option<As
 {
     let mut steps = Steps::<L>::new(blank);
     let mut loan: Followed<B> = board(alloc, DAY, BOARD, &mut steps)?;
-    Some(ask(&mut loan, &mut steps))
+    Some(ask(alloc, &mut loan, &mut steps))
 }
 
 const ASKED: Asked = Asked {

@@ -24,8 +24,15 @@ fn push_due(out: &mut Vec<u8>, due: &MonthDue) -> Result<(), OutOfMemory> {
 }
 
 /// Appends what is due for each closed month from 2023-12 on.
-fn push_dues<B: LoanBooks>(out: &mut Vec<u8>, loan: &Loan<B>) -> Result<(), OutOfMemory> {
-    for due in loan.dues_from(month_of(loan.terms().boarded)) {
+fn push_dues<B: LoanBooks>(
+    out: &mut Vec<u8>,
+    alloc: Global,
+    loan: &Loan<B>,
+) -> Result<(), OutOfMemory> {
+    let mut dues = Vec::new(alloc);
+    dues.reserve(loan.closed())?;
+    loan.add_dues(month_of(loan.terms().boarded), &mut dues);
+    for due in &dues {
         push_due(out, due)?;
     }
     Ok(())
@@ -34,7 +41,7 @@ fn push_dues<B: LoanBooks>(out: &mut Vec<u8>, loan: &Loan<B>) -> Result<(), OutO
 /// Whether those are the dues of a loan.
 fn has_dues<B: LoanBooks>(alloc: Global, loan: &Loan<B>, dues: &str) -> bool {
     let mut out = Vec::new(alloc);
-    push_dues(&mut out, loan).is_ok() && out.as_slice() == dues.as_bytes()
+    push_dues(&mut out, alloc, loan).is_ok() && out.as_slice() == dues.as_bytes()
 }
 
 /// What happens to a loan, the dues of its closed months then, what happens last, and the dues after it.

@@ -325,11 +325,14 @@ impl<B: LoanBooks> Followed<B> {
     }
 
     /// How many closed months there are from one on.
-    pub(crate) fn closed_from(&self, month: Month) -> Option<usize> {
+    pub(crate) fn closed_from(&self, alloc: Global, month: Month) -> Option<usize> {
         if month < month_of(self.loan.terms().boarded) {
             return None;
         }
-        Some(self.loan.dues_from(month).len())
+        let mut dues = Vec::new(alloc);
+        dues.reserve(self.loan.closed()).ok()?;
+        self.loan.add_dues(month, &mut dues);
+        Some(dues.len())
     }
 
     /// The remittance at the end of a month that is closed, or before boarding.

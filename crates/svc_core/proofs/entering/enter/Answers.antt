@@ -1,13 +1,11 @@
-use Rattle.std.proofs.Common.{◌≡◌, ◌+◌, ◌≤◌, List, subst, sym}
-use Rattle.remit_types.specs.declared.dues.MonthDue.{MonthDue}
+use Rattle.std.proofs.Common.{◌+◌, ◌≤◌, vec_capacity, subst, sym}
 use Rattle.svc_world.specs.Held.{with_entry}
 use Rattle.svc_loan.specs.Kept.{KeptLoan}
 use Rattle.svc_loan.specs.Loans.{OfLoan}
 use Rattle.svc_loan.specs.Closed.{closed_cost}
 use Rattle.svc_core.specs.State.{world_of}
 use Rattle.svc_core.specs.Costs.{entering_cost}
-use Rattle.svc_core.specs.Changing.{dues_since}
-use Rattle.svc_core.proofs.ChangingLemmas.{AreChanged, IsRecorded, asks_since, asks_room, later_since, later_change, later_room, world_after, kept_after, steps_after}
+use Rattle.svc_core.proofs.ChangingLemmas.{AreChanged, IsRecorded, asks_since, asks_room, later_since, later_fits, later_change, later_room, world_after, kept_after, steps_after}
 use Rattle.svc_core.proofs.EnteringLemmas.{entering, may_post, few_entries}
 use Rattle.svc_core.proofs.entering.enter.Goals as goal
 
@@ -29,28 +27,34 @@ record_dues-requires-clause-since g c =
     let are : AreChanged c.args.id (with_entry c.args.entry.now) c.args.state.now.loans c.post.new.self = record { held = c.post.ensures.held; closed = c.post.ensures.closed; remitted = c.post.ensures.remitted } in
     later_since c.post.new.self h are
 
+pub record_dues-requires-clause-dues : goal.record_dues-requires-clause-dues
+record_dues-requires-clause-dues g c =
+    let h = entering c.args.count c.args.state.now.today c.args.state.now.loans c.args.state.now.seals c.args.id c.month_of-month.result c.args.entry.now c.requires.state c.requires.entry c.month_of-month.ensures in
+    let are : AreChanged c.args.id (with_entry c.args.entry.now) c.args.state.now.loans c.post.new.self = record { held = c.post.ensures.held; closed = c.post.ensures.closed; remitted = c.post.ensures.remitted } in
+    rw c.copy_dues.ensures.capacity (later_fits c.post.new.self c.copy_dues.new.dues.items (vec_capacity c.args.dues.now) h are c.copy_dues.ensures.dues c.requires.dues)
+
 pub record_dues-requires-clause-change : goal.record_dues-requires-clause-change
 record_dues-requires-clause-change g c =
     let h = entering c.args.count c.args.state.now.today c.args.state.now.loans c.args.state.now.seals c.args.id c.month_of-month.result c.args.entry.now c.requires.state c.requires.entry c.month_of-month.ensures in
     let are : AreChanged c.args.id (with_entry c.args.entry.now) c.args.state.now.loans c.post.new.self = record { held = c.post.ensures.held; closed = c.post.ensures.closed; remitted = c.post.ensures.remitted } in
-    let before = c.deref.result.now in
-    let copied = subst (λ (ds : List MonthDue). OfLoan c.args.id c.args.state.now.loans.loans (λ (k : KeptLoan). ds ≡ dues_since c.month_of-month.result k)) (sym c.deref.ensures.value) c.copy_dues.ensures in
+    let before = c.copy_dues.new.dues.items in
+    let copied = c.copy_dues.ensures.dues in
     later_change c.post.new.self before h are copied
 
 pub record_dues-requires-clause-room : goal.record_dues-requires-clause-room
 record_dues-requires-clause-room g c =
     let h = entering c.args.count c.args.state.now.today c.args.state.now.loans c.args.state.now.seals c.args.id c.month_of-month.result c.args.entry.now c.requires.state c.requires.entry c.month_of-month.ensures in
     let are : AreChanged c.args.id (with_entry c.args.entry.now) c.args.state.now.loans c.post.new.self = record { held = c.post.ensures.held; closed = c.post.ensures.closed; remitted = c.post.ensures.remitted } in
-    let before = c.deref.result.now in
-    let copied = subst (λ (ds : List MonthDue). OfLoan c.args.id c.args.state.now.loans.loans (λ (k : KeptLoan). ds ≡ dues_since c.month_of-month.result k)) (sym c.deref.ensures.value) c.copy_dues.ensures in
+    let before = c.copy_dues.new.dues.items in
+    let copied = c.copy_dues.ensures.dues in
     later_room c.post.new.self before c.args.state.now.seals.adjustment_room h are copied c.requires.adjustments
 
 pub returns-clause-world : goal.returns-clause-world
 returns-clause-world g c =
     let h = entering c.args.count c.args.state.now.today c.args.state.now.loans c.args.state.now.seals c.args.id c.month_of-month.result c.args.entry.now c.requires.state c.requires.entry c.month_of-month.ensures in
     let are : AreChanged c.args.id (with_entry c.args.entry.now) c.args.state.now.loans c.post.new.self = record { held = c.post.ensures.held; closed = c.post.ensures.closed; remitted = c.post.ensures.remitted } in
-    let before = c.deref.result.now in
-    let copied = subst (λ (ds : List MonthDue). OfLoan c.args.id c.args.state.now.loans.loans (λ (k : KeptLoan). ds ≡ dues_since c.month_of-month.result k)) (sym c.deref.ensures.value) c.copy_dues.ensures in
+    let before = c.copy_dues.new.dues.items in
+    let copied = c.copy_dues.ensures.dues in
     let seals = c.record_dues.new.seals in
     let done : IsRecorded c.args.count c.args.id c.month_of-month.result before c.post.new.self c.args.state.now.seals seals = record { done = c.record_dues.ensures.done; remitted = c.record_dues.ensures.remitted } in
     world_after c.post.new.self before seals h are copied done
@@ -59,7 +63,7 @@ pub returns-clause-kept : goal.returns-clause-kept
 returns-clause-kept g c =
     let h = entering c.args.count c.args.state.now.today c.args.state.now.loans c.args.state.now.seals c.args.id c.month_of-month.result c.args.entry.now c.requires.state c.requires.entry c.month_of-month.ensures in
     let are : AreChanged c.args.id (with_entry c.args.entry.now) c.args.state.now.loans c.post.new.self = record { held = c.post.ensures.held; closed = c.post.ensures.closed; remitted = c.post.ensures.remitted } in
-    let before = c.deref.result.now in
+    let before = c.copy_dues.new.dues.items in
     let seals = c.record_dues.new.seals in
     let done : IsRecorded c.args.count c.args.id c.month_of-month.result before c.post.new.self c.args.state.now.seals seals = record { done = c.record_dues.ensures.done; remitted = c.record_dues.ensures.remitted } in
     kept_after c.post.new.self before seals h are done
@@ -68,7 +72,7 @@ pub returns-clause-steps : goal.returns-clause-steps
 returns-clause-steps g c =
     let h = entering c.args.count c.args.state.now.today c.args.state.now.loans c.args.state.now.seals c.args.id c.month_of-month.result c.args.entry.now c.requires.state c.requires.entry c.month_of-month.ensures in
     let are : AreChanged c.args.id (with_entry c.args.entry.now) c.args.state.now.loans c.post.new.self = record { held = c.post.ensures.held; closed = c.post.ensures.closed; remitted = c.post.ensures.remitted } in
-    let before = c.deref.result.now in
+    let before = c.copy_dues.new.dues.items in
     let seals = c.record_dues.new.seals in
     let done : IsRecorded c.args.count c.args.id c.month_of-month.result before c.post.new.self c.args.state.now.seals seals = record { done = c.record_dues.ensures.done; remitted = c.record_dues.ensures.remitted } in
     let day = c.month_of-month.ensures in

@@ -3,17 +3,15 @@ use Rattle.svc_base.specs.Calendar.{month_of as month_number}
 use Rattle.svc_loan.specs.Closed as rule
 use Rattle.svc_loan.proofs.closed.redo.Given as goal
 
-abbrev pub invariant-loop-months : goal.invariant-loop-months
-invariant-loop-months g l = record {
-  kept : rule.AreClosed (g.B.LoanBooks.account l.books) l.types.changes (vec_len l.months.dues) l.months.dues.items l.months.carries.items;
-  whole : l.closed ≡ vec_len l.fn.months.dues;
-  least : min l.stay l.closed ≤ vec_len l.months.dues;
-  most : vec_len l.months.dues ≤ l.closed;
-  count : vec_len l.months.carries ≡ vec_len l.months.dues;
-  dues_capacity : vec_capacity l.months.dues ≡ vec_capacity l.fn.months.dues;
-  carries_capacity : vec_capacity l.months.carries ≡ vec_capacity l.fn.months.carries;
-  steps : l.steps ≤ l.initial.steps + rule.months_cost g.B.LoanBooks.month_cost (g.B.LoanBooks.account l.books) (month_number (g.B.LoanBooks.account l.books).terms.boarded + l.stay) (vec_len l.months.dues - l.stay);
+abbrev pub invariant-loop-carries : goal.invariant-loop-carries
+invariant-loop-carries g l = record {
+  kept : l.carries.items ≡ rule.carries_to (g.B.LoanBooks.account l.books) l.types.changes (vec_len l.carries);
+  whole : l.closed ≡ vec_len l.fn.carries;
+  least : min l.stay l.closed ≤ vec_len l.carries;
+  most : vec_len l.carries ≤ l.closed;
+  capacity : vec_capacity l.carries ≡ vec_capacity l.fn.carries;
+  steps : l.steps ≤ l.initial.steps + rule.months_cost g.B.LoanBooks.month_cost (g.B.LoanBooks.account l.books) (month_number (g.B.LoanBooks.account l.books).terms.boarded + l.stay) (vec_len l.carries - l.stay);
 }
 
-abbrev pub decreases-loop-months : goal.decreases-loop-months
-decreases-loop-months g l = l.closed - vec_len l.months.dues
+abbrev pub decreases-loop-carries : goal.decreases-loop-carries
+decreases-loop-carries g l = l.closed - vec_len l.carries

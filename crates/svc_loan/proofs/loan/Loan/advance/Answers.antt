@@ -12,10 +12,10 @@ invariant_of-self g c =
     let a = g.B.LoanBooks.account c.self.inside.books in
     let is = c.advance_reserved.ensures.account in
     let may = c.self.invariant.may in
-    let n = vec_len c.self.inside.months.dues in
+    let n = vec_len c.self.inside.carries in
     let later : a.today ≤ c.args.today = subst (λ (v : KeptLoan). v.held.account.today ≤ c.args.today) (sym c.self.view_is) c.requires.later in
     let calendar : month_number c.args.today < months_end = (let last = c.number-month.ensures.end in let m = c.month_of.ensures in omega arith) in
     let ended = may.ended in
     let close = subst (λ (x : Account). MayClose x n) (sym is) (record { account = subst IsAccount is c.is_account.ensures; calendar = calendar; ended = omega arith }) in
-    let kept = advanced_stays a (g.B.LoanBooks.account c.advance_reserved.new.books) c.self.inside.types.changes c.args.today n c.self.inside.months.dues.items c.self.inside.months.carries.items later is ended c.self.invariant.kept in
-    remade (g.B.LoanBooks.account c.advance_reserved.new.books) c.self.inside.types.changes c.self.inside.moved n n (vec_len c.self.inside.months.carries) c.self.inside.months.dues.items c.self.inside.months.carries.items close kept refl c.self.invariant.count (c.self.invariant.moved ∙ ap moved_of (sym is))
+    let kept = advanced_stays a (g.B.LoanBooks.account c.advance_reserved.new.books) c.self.inside.types.changes c.args.today n c.self.inside.carries.items later is ended c.self.invariant.kept in
+    remade (g.B.LoanBooks.account c.advance_reserved.new.books) c.self.inside.types.changes c.self.inside.moved n n c.self.inside.carries.items close kept refl (c.self.invariant.moved ∙ ap moved_of (sym is))

@@ -6,4 +6,4 @@ use Rattle.svc_loan.proofs.loan.Loan.begin.Goals as goal
 pub invariant_of-result : goal.invariant_of-result
 invariant_of-result g c =
     let calendar : month_number c.args.today < months_end = (let last = c.number-month.ensures.end in let m = c.month_of.ensures in omega arith) in
-    begun_loan c.args.terms c.args.today (g.B.LoanBooks.account c.in_ok-books.books) c.new-2.result.changes c.new-5.result _ _ c.new-3.result.items c.new-4.result.items c.requires calendar c.in_ok-books.ensures.ok (c.new-5.ensures c.args.terms c.args.today) c.new-3.ensures.len c.new-4.ensures.len c.new-3.ensures.items c.new-4.ensures.items
+    begun_loan c.args.terms c.args.today (g.B.LoanBooks.account c.in_ok-books.books) c.new-2.result.changes c.new-4.result _ c.new-3.result.items c.requires calendar c.in_ok-books.ensures.ok (c.new-4.ensures c.args.terms c.args.today) c.new-3.ensures.len c.new-3.ensures.items

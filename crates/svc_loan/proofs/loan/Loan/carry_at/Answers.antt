@@ -20,12 +20,12 @@ returns-then-number-boarded g c =
 pub returns : goal.returns
 returns g c =
     let a = g.B.LoanBooks.account c.self.inside.books in
-    let cs = c.self.inside.months.carries.items in
-    let n = vec_len c.self.inside.months.dues in
+    let cs = c.self.inside.carries.items in
+    let n = vec_len c.self.inside.carries in
     let m = c.args.month in
     let x = c.index.result.now in
     let start = ap (λ (t : Terms). month_number t.boarded) c.terms-terms.ensures in
     let from : month_number a.terms.boarded ≤ m = (let t = c.if-number-boarded.false in let o = c.month_of.ensures in let i = c.number.ensures.value in let b = c.number-boarded.ensures.value in omega arith) in
     let closed : m < month_number a.terms.boarded + n = subst (λ (v : KeptLoan). m < boarded_month v.held + v.closed) (sym c.self.view_is) c.requires in
-    let there = carry_there a c.self.inside.types.changes cs n m x c.self.invariant.kept.carries from closed in
+    let there = carry_there a c.self.inside.types.changes cs n m x c.self.invariant.kept from closed in
     subst (λ (v : KeptLoan). x ≡ carry_of v.held m) c.self.view_is (c.index.ensures ∙ ap (λ i. get_or cs i x) c.months_since.ensures ∙ there)

@@ -1,4 +1,4 @@
-use Rattle.std.proofs.Common.{map, to_z, of_z, ◌≡◌, vec_len, length, w64, arith, ap, subst, ◌∙◌}
+use Rattle.std.proofs.Common.{map, to_z, of_z, ◌≡◌, vec_len, w64, arith, ap, subst, ◌∙◌}
 use Rattle.std.proofs.lemmas.Int.{ints}
 use Rattle.std.specs.List.{range_with_len}
 use Rattle.svc_base.specs.Sums.{total_by}
@@ -9,37 +9,34 @@ use Rattle.svc_world.specs.Custody.{due_sum}
 use Rattle.svc_world.specs.LoanDues.{carried_to, due_of}
 use Rattle.svc_world.proofs.CarryLemmas.{account_carry}
 use Rattle.svc_loan.specs.Kept.{KeptLoan, held_of}
-use Rattle.svc_loan.proofs.ClosedLemmas.{carries_length, closings_few, cents_same, dues_add_up}
+use Rattle.svc_loan.proofs.ClosedLemmas.{closings_few, cents_same, dues_add_up}
 use Rattle.svc_loan.proofs.loan.Loan.dues_total.Goals as goal
 
 pub total_due-requires-clause-sums : goal.total_due-requires-clause-sums
 total_due-requires-clause-sums g c =
     let a = g.B.LoanBooks.account c.self.inside.books in
     let types = c.self.inside.types.changes in
-    let n = vec_len c.self.inside.months.dues in
-    let count : length c.deref.result.now ≡ n = ap length (c.deref.ensures.value ∙ c.self.invariant.kept.carries) ∙ carries_length a types n in
+    let n = vec_len c.self.inside.carries in
     let few = closings_few a n c.self.invariant.may in
-    let fact = (account_carry a types (length c.deref.result.now) (omega arith) c.is_account.ensures).sums in
-    rw c.last_carry-carry.ensures fact
+    let fact = (account_carry a types c.len.result (omega (arith, c.len.ensures)) c.is_account.ensures).sums in
+    rw c.carry_after-carry.ensures fact
 
 pub total_due-requires-clause-within : goal.total_due-requires-clause-within
 total_due-requires-clause-within g c =
     let a = g.B.LoanBooks.account c.self.inside.books in
     let types = c.self.inside.types.changes in
-    let n = vec_len c.self.inside.months.dues in
-    let count : length c.deref.result.now ≡ n = ap length (c.deref.ensures.value ∙ c.self.invariant.kept.carries) ∙ carries_length a types n in
+    let n = vec_len c.self.inside.carries in
     let few = closings_few a n c.self.invariant.may in
-    let fact = (account_carry a types (length c.deref.result.now) (omega arith) c.is_account.ensures).within in
-    rw (c.terms.ensures, c.last_carry-carry.ensures) fact
+    let fact = (account_carry a types c.len.result (omega (arith, c.len.ensures)) c.is_account.ensures).within in
+    rw (c.terms.ensures, c.carry_after-carry.ensures) fact
 
 pub returns : goal.returns
 returns g c =
     let a = g.B.LoanBooks.account c.self.inside.books in
     let types = c.self.inside.types.changes in
-    let n = vec_len c.self.inside.months.dues in
+    let n = vec_len c.self.inside.carries in
     let l = held_of c.self.inside.id a c.self.inside.lines types in
-    let count : length c.deref.result.now ≡ n = ap length (c.deref.ensures.value ∙ c.self.invariant.kept.carries) ∙ carries_length a types n in
-    let carry = c.last_carry-carry.ensures ∙ ap (carried_to a types) count in
+    let carry = c.carry_after-carry.ensures ∙ ap (carried_to a types) c.len.ensures in
     let whole = c.total_due.ensures.value in
     let terms = ap (λ (t : Terms). t.principal) c.terms.ensures in
     let passed = ap (λ (x : Carry). x.passed) carry in

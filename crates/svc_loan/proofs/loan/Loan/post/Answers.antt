@@ -16,7 +16,7 @@ pub redo-requires-clause-may : goal.redo-requires-clause-may
 redo-requires-clause-may g c =
     let is = c.post_reserved.ensures.account in
     let may = c.self.invariant.may in
-    subst (λ (x : Account). MayClose x (vec_len c.self.inside.months.dues)) (sym is) (record { account = subst IsAccount is c.is_account-2.ensures; calendar = may.calendar; ended = may.ended })
+    subst (λ (x : Account). MayClose x (vec_len c.self.inside.carries)) (sym is) (record { account = subst IsAccount is c.is_account-2.ensures; calendar = may.calendar; ended = may.ended })
 
 pub redo-requires-clause-stays : goal.redo-requires-clause-stays
 redo-requires-clause-stays g c =
@@ -28,7 +28,7 @@ redo-requires-clause-stays g c =
     let since = may.since in
     let stay : month_number a.terms.boarded + c.months_since-stay.result ≤ month_number e.day =
     (let m = c.months_since-stay.ensures in let d = c.month_of.ensures in let same = ap (λ (x : Account). month_number x.terms.boarded) is in omega arith) in
-    posted_stays a (g.B.LoanBooks.account c.post_reserved.new.books) types e (vec_len c.self.inside.months.dues) c.months_since-stay.result c.self.inside.months.dues.items c.self.inside.months.carries.items c.is_account.ensures may is stay c.self.invariant.kept
+    posted_stays a (g.B.LoanBooks.account c.post_reserved.new.books) types e (vec_len c.self.inside.carries) c.months_since-stay.result c.self.inside.carries.items c.is_account.ensures may is stay c.self.invariant.kept
 
 pub invariant_of-self : goal.invariant_of-self
 invariant_of-self g c =
@@ -37,7 +37,7 @@ invariant_of-self g c =
     let e = c.args.entry.now in
     let may = c.self.invariant.may in
     let may_post : MayPost a e = subst (λ (v : KeptLoan). MayPost v.held.account e) (sym c.self.view_is) c.requires.entry in
-    let n = vec_len c.self.inside.months.dues in
+    let n = vec_len c.self.inside.carries in
     let close = subst (λ (x : Account). MayClose x n) (sym is) (record { account = subst IsAccount is c.is_account-2.ensures; calendar = may.calendar; ended = may.ended }) in
     let moved = c.with_entry-self-inside.ensures ∙ ap (with_act e.act) c.self.invariant.moved ∙ sym (moved_posted a e c.is_account.ensures may_post) ∙ ap moved_of (sym is) in
-    remade (g.B.LoanBooks.account c.post_reserved.new.books) c.self.inside.types.changes c.with_entry-self-inside.result n (vec_len c.redo.new.months.dues) (vec_len c.redo.new.months.carries) c.redo.new.months.dues.items c.redo.new.months.carries.items close c.redo.ensures.kept c.redo.ensures.dues_count (c.redo.ensures.carries_count ∙ c.self.invariant.count) moved
+    remade (g.B.LoanBooks.account c.post_reserved.new.books) c.self.inside.types.changes c.with_entry-self-inside.result n (vec_len c.redo.new.carries) c.redo.new.carries.items close c.redo.ensures.kept c.redo.ensures.count moved

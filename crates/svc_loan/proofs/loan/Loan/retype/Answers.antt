@@ -10,7 +10,6 @@ redo-requires-clause-stays g c =
     let a = g.B.LoanBooks.account c.self.inside.books in
     let from : month_number a.terms.boarded ≤ c.args.from = subst (λ (v : KeptLoan). month_number v.held.account.terms.boarded ≤ c.args.from) (sym c.self.view_is) c.requires.from in
     let stay : month_number a.terms.boarded + c.months_since-stay.result ≤ c.args.from = (let m = c.months_since-stay.ensures in omega arith) in
-    let ds = c.self.inside.months.dues.items in
-    let cs = c.self.inside.months.carries.items in
-    let n = vec_len c.self.inside.months.dues in
-    rw c.add.ensures.changes (retyped_stays a c.self.inside.types.changes (type_change c.args.from c.args.kind) n c.months_since-stay.result ds cs stay c.self.invariant.kept)
+    let cs = c.self.inside.carries.items in
+    let n = vec_len c.self.inside.carries in
+    rw c.add.ensures.changes (retyped_stays a c.self.inside.types.changes (type_change c.args.from c.args.kind) n c.months_since-stay.result cs stay c.self.invariant.kept)

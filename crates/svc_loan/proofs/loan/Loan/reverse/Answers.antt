@@ -23,7 +23,7 @@ redo-requires-clause-stays g c =
     let since = c.reverse_reserved.ensures.since in
     let stay : month_number a.terms.boarded + c.months_since-stay.result ≤ month_number e.day =
     (let m = c.months_since-stay.ensures in let d = c.month_of.ensures in let same = ap (λ (x : Account). month_number x.terms.boarded) is in omega arith) in
-    reversed_stays a (g.B.LoanBooks.account c.reverse_reserved.new.books) types e.number c.args.by e (vec_len c.self.inside.months.dues) c.months_since-stay.result c.self.inside.months.dues.items c.self.inside.months.carries.items c.is_account.ensures found is stay c.self.invariant.kept
+    reversed_stays a (g.B.LoanBooks.account c.reverse_reserved.new.books) types e.number c.args.by e (vec_len c.self.inside.carries) c.months_since-stay.result c.self.inside.carries.items c.is_account.ensures found is stay c.self.invariant.kept
 
 pub invariant_of-self : goal.invariant_of-self
 invariant_of-self g c =
@@ -33,7 +33,7 @@ invariant_of-self g c =
     let may = c.self.invariant.may in
     let found : entry_of a e.number ≡ Some e = subst (λ (v : KeptLoan). entry_of v.held.account e.number ≡ Some e) (sym c.self.view_is) c.requires.entry in
     let none : reverser_of a e.number ≡ None = subst (λ (v : KeptLoan). reverser_of v.held.account e.number ≡ None) (sym c.self.view_is) c.requires.live in
-    let n = vec_len c.self.inside.months.dues in
+    let n = vec_len c.self.inside.carries in
     let close = subst (λ (x : Account). MayClose x n) (sym is) (record { account = subst IsAccount is c.is_account-2.ensures; calendar = may.calendar; ended = may.ended }) in
     let moved = c.with_reversal-self-inside.ensures ∙ ap (with_reversed e.act) c.self.invariant.moved ∙ sym (moved_reversed a e.number c.args.by e c.is_account.ensures found none) ∙ ap moved_of (sym is) in
-    remade (g.B.LoanBooks.account c.reverse_reserved.new.books) c.self.inside.types.changes c.with_reversal-self-inside.result n (vec_len c.redo.new.months.dues) (vec_len c.redo.new.months.carries) c.redo.new.months.dues.items c.redo.new.months.carries.items close c.redo.ensures.kept c.redo.ensures.dues_count (c.redo.ensures.carries_count ∙ c.self.invariant.count) moved
+    remade (g.B.LoanBooks.account c.reverse_reserved.new.books) c.self.inside.types.changes c.with_reversal-self-inside.result n (vec_len c.redo.new.carries) c.redo.new.carries.items close c.redo.ensures.kept c.redo.ensures.count moved
