@@ -5,9 +5,9 @@ use Rattle.pmi_track.proofs.TermsLemmas.{terms_are}
 use Rattle.pmi_track.proofs.OutcomeLemmas.{not_there, no_terms, first_steps}
 use Rattle.pmi_track.proofs.deciding.outcome_with.Goals as goal
 
-pub denial_of-requires-clause-terms : goal.denial_of-requires-clause-terms
-denial_of-requires-clause-terms g c =
-    terms_are c.args.insured.now.loan c.args.core.now.history c.history_holds.ensures.history ∙ sym c.requires.terms ∙ c.in-Some.is
+pub denial_of-requires : goal.denial_of-requires
+denial_of-requires g c =
+    record { terms = terms_are c.args.insured.now.loan c.args.core.now.history c.history_holds.ensures.history ∙ sym c.requires.terms ∙ c.in-Some.is }
 
 pub returns-in_err-denial-in-Some-clause-steps : goal.returns-in_err-denial-in-Some-clause-steps
 returns-in_err-denial-in-Some-clause-steps g c =
