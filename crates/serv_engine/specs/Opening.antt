@@ -214,11 +214,15 @@ pub record AreLinesWithin (lines : List (List ℕ)) (old new : ℕ) : Type 0 whe
   pub are : lines ≡ lines_of_history history ++ more
   pub rest : IsRestWithin history more (old + history_bound [] history) new
 
--- the same of the lines of a file
-pub record IsFileWithin (file : List ℕ) (old new : ℕ) : Type 0 where
+-- these are the lines of a file
+pub record AreLinesOf (file : List ℕ) (lines : List (List ℕ)) : Type 0 where
   pub form : Form
-  pub lines : List (List ℕ)
   pub commit : ℕ
   pub rest : List ℕ
   pub read : IsRead form lines commit rest file
+
+-- the same of lines that were found on a disk: where it tells a file, they are the file's
+pub record IsFoundWithin (told : Option (List ℕ)) (old new : ℕ) : Type 0 where
+  pub lines : List (List ℕ)
   pub within : AreLinesWithin lines old new
+  pub of_file : (s : List ℕ) → told ≡ Some s → AreLinesOf s lines

@@ -17,7 +17,7 @@ ghost use Rattle.serv_journal.specs.Reading.{IsNoJournal};
 ghost use Rattle.serv_engine.specs.Histories.{lengths_of, IsGoodFor, IsGoodFound};
 ghost use Rattle.serv_engine.specs.Engines.{IsDurableIn, IsDurable};
 ghost use Rattle.serv_engine.specs.Submitting.{HasRoom, IsSubmitFault, IsAskFault};
-ghost use Rattle.serv_engine.specs.Opening.{IsDamagedAt, IsTooLong, IsFound, IsClosed, IsOnlyFault, IsOpenFault, IsOpenCause, IsFileWithin, history_bound};
+ghost use Rattle.serv_engine.specs.Opening.{IsDamagedAt, IsTooLong, IsFound, IsClosed, IsOnlyFault, IsOpenFault, IsOpenCause, IsFoundWithin, history_bound};
 
 use crate::adding::append_command;
 use crate::fault::{EngineFault, of_core, of_journal};
@@ -99,8 +99,7 @@ impl<B: LoanBooks> Engine<B> {
         // At a fault there was no step, or those of the commands before it and of the one that it comes with.
         ensures bound_err { ((a : Account) (m : ℕ) → B.cost a m ≤ cost_of_month a m)
             → ((a : Account) (m : ℕ) → B.month_cost a m ≡ 0)
-            → OnErr result ((steps.new ≡ steps.old)
-            ⊎ ((s : List ℕ) → D.seen disk.old ≡ Some s → IsFileWithin s steps.old steps.new)) }
+            → OnErr result ((steps.new ≡ steps.old) ⊎ IsFoundWithin (D.seen disk.old) steps.old steps.new) }
     {
         match Journal::open(alloc, disk, limit) {
             Ok((mut journal, frames)) => match take_over(

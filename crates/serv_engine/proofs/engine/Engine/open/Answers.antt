@@ -125,7 +125,11 @@ returns-in-Ok-clause-faults g c =
 pub returns-in-Ok-clause-bound_err : goal.returns-in-Ok-clause-bound_err
 returns-in-Ok-clause-bound_err g c =
     λ is free.
-    inr (λ s told. let o = c.in-Ok.ensures.opened s told in record { form = o.form; lines = lines_in c.in-Ok.frames; commit = o.commit; rest = o.rest; read = o.read; within = c.in-Err-take_over.ensures.bound_err is free })
+    inr (record {
+      lines = lines_in c.in-Ok.frames;
+      within = c.in-Err-take_over.ensures.bound_err is free;
+      of_file = λ s told. let o = c.in-Ok.ensures.opened s told in record { form = o.form; commit = o.commit; rest = o.rest; read = o.read };
+    })
 
 pub returns-clause-fault : goal.returns-clause-fault
 returns-clause-fault g c =
