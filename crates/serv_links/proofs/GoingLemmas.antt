@@ -18,7 +18,7 @@ use Rattle.serv_links.specs.declared.outcome.Outcome.{Outcome}
 use Rattle.serv_links.specs.declared.outcome.Outcome.TheVariants as outcome
 use Rattle.serv_links.specs.Responses.{Stand, response_503}
 use Rattle.serv_links.specs.Outcomes.{IsAnswered, IsCutOff, IsUnread, IsPiece, AppendsFront, Writes}
-use Rattle.serv_links.specs.Links.{IsAll, IsStarved, Serves, link_limit}
+use Rattle.serv_links.specs.Links.{IsAll, IsReadOn, IsStarved, Serves, link_limit, read_limit}
 use Rattle.serv_links.proofs.RoundLemmas.{answered_none, answered_more, stopped_more, piece_weaker, writes_more, writes_as}
 
 -- all requests of the bytes taken are answered, and the connection stands for what is left of them
@@ -43,6 +43,7 @@ pub record Passed (left left' : Option (List ℕ)) (c : Conn) (n taken : ℕ) (s
   pub over : Option (List ℕ)
   pub asked : AsksTo bytes asks over
   pub stands : StandsForLeft c over
+  pub read_on : IsReadOn bytes
   pub answered : IsAnswered n asks s s' added
 
 -- ---- sides of a link
@@ -67,7 +68,11 @@ took_more left left' left'' left''' bytes piece first second same = subst (λ l.
 -- ---- what the next piece makes of it
 
 module _ (left left' : Option (List ℕ)) (c : Conn) (n taken : ℕ) (s t : Stand) (pending : List Accepted) (added : List ℕ) (going : Going left left' c n taken s t pending added)
-    (left'' left''' : Option (List ℕ)) (piece : List ℕ) (count : ℕ) (long : length piece ≡ count) (took : Consumes left' left'' piece) (same : left''' ≡ left'') (cut : Type 0) where
+    (left'' left''' : Option (List ℕ)) (piece : List ℕ) (count : ℕ) (long : length piece ≡ count) (few : count ≤ read_limit) (took : Consumes left' left'' piece) (same : left''' ≡ left'') (cut : Type 0) where
+  -- it went on before the piece
+  last_read : IsReadOn (going.bytes ++ piece)
+  last_read = record { before = going.bytes; piece = piece; parted = refl; few = omega (arith, few, long); asks = going.asks; going = going.rest; asked = going.asked }
+
   passed_more : (m : ℕ) (c' : Conn) (t' : Stand) (pending' : List Accepted) (w : List ℕ) → IsPiece cut outcome.Answered m (going.rest ++ piece) c' t t' pending' w
       → Passed left left''' c' (n + m) (taken + count) s t' pending' (added ++ w)
   passed_more m c' t' pending' w more = record {
@@ -79,6 +84,7 @@ module _ (left left' : Option (List ℕ)) (c : Conn) (n taken : ℕ) (s t : Stan
     over = more.fed.0;
     asked = asks-grow going.asks more.asks going.bytes going.rest piece more.fed.0 going.asked more.fed.1;
     stands = more.fed.2;
+    read_on = last_read;
     answered = answered_more n m going.asks more.asks s t t' added w going.answered more.answered;
   }
 
@@ -110,14 +116,14 @@ module _ (left left' : Option (List ℕ)) (c : Conn) (n taken : ℕ) (s t : Stan
     small = let all = bytes_more going.bytes piece taken count going.count long in omega arith
 
     broken_more : cut → IsPiece cut outcome.Broken m (going.rest ++ piece) c' t t' pending' w → Serves (link_end.Broken (n + m)) reads cut left left''' s t' pending' (added ++ w)
-    broken_more risen more = record { taken = going.bytes ++ piece; took = took_more left left' left'' left''' going.bytes piece going.took took same; within = small; says = inr (risen, cut_off_more outcome.Broken m t' pending' w more) }
+    broken_more risen more = record { taken = going.bytes ++ piece; took = took_more left left' left'' left''' going.bytes piece going.took took same; within = small; read_on = last_read; says = inr (risen, cut_off_more outcome.Broken m t' pending' w more) }
 
     disk_more_end : IsPiece cut outcome.Disk m (going.rest ++ piece) c' t t' pending' w → Serves (link_end.Disk (n + m)) reads cut left left''' s t' pending' (added ++ w)
-    disk_more_end more = record { taken = going.bytes ++ piece; took = took_more left left' left'' left''' going.bytes piece going.took took same; within = small; says = cut_off_more outcome.Disk m t' pending' w more }
+    disk_more_end more = record { taken = going.bytes ++ piece; took = took_more left left' left'' left''' going.bytes piece going.took took same; within = small; read_on = last_read; says = cut_off_more outcome.Disk m t' pending' w more }
 
     memory_more : IsPiece cut outcome.NoMemory m (going.rest ++ piece) c' t t' pending' w → Serves (link_end.NoMemory (n + m)) reads cut left left''' s t' pending' (added ++ w)
-    memory_more (inl more) = record { taken = going.bytes ++ piece; took = took_more left left' left'' left''' going.bytes piece going.took took same; within = small; says = inl (cut_off_more outcome.NoMemory m t' pending' w more) }
-    memory_more (inr unread) = record { taken = going.bytes ++ piece; took = took_more left left' left'' left''' going.bytes piece going.took took same; within = small; says = inr (unread.nothing, starved_more m t' pending' w unread) }
+    memory_more (inl more) = record { taken = going.bytes ++ piece; took = took_more left left' left'' left''' going.bytes piece going.took took same; within = small; read_on = last_read; says = inl (cut_off_more outcome.NoMemory m t' pending' w more) }
+    memory_more (inr unread) = record { taken = going.bytes ++ piece; took = took_more left left' left'' left''' going.bytes piece going.took took same; within = small; read_on = last_read; says = inr (unread.nothing, starved_more m t' pending' w unread) }
 
 -- ---- where it ends without a further piece
 
@@ -125,12 +131,16 @@ module _ (left left' : Option (List ℕ)) (c : Conn) (n taken : ℕ) (s t : Stan
   going_all : (g : Going left left' c n taken s t pending added) → IsAll n g.bytes added s t (Some g.rest)
   going_all g = record { asks = g.asks; asked = g.asked; answered = g.answered }
 
+  going_read : (g : Going left left' c n taken s t pending added) → IsReadOn g.bytes
+  going_read g = record { before = g.bytes; piece = []; parted = sym (append-nil g.bytes); few = omega arith; asks = g.asks; going = g.rest; asked = g.asked }
+
   ended_at_end : Going left left' c n taken s t pending added → (left'' : Option (List ℕ)) → taken < link_limit → Consumes left' left'' [] → IsAtEnd left''
       → Serves (link_end.Ended n) reads writes left left'' s t pending added
   ended_at_end g left'' below took end = record {
     taken = g.bytes;
     took = subst (Consumes left left'') (append-nil g.bytes) (Consumes-trans left left' left'' g.bytes [] g.took took);
     within = (let is = g.count in omega arith);
+    read_on = going_read g;
     says = (g.nothing, (let is = g.count in omega arith), (Some g.rest, going_all g, inl end));
   }
 
@@ -139,6 +149,7 @@ module _ (left left' : Option (List ℕ)) (c : Conn) (n taken : ℕ) (s t : Stan
     taken = g.bytes;
     took = subst (λ l. Consumes left l g.bytes) (sym same) g.took;
     within = (let is = g.count in omega arith);
+    read_on = going_read g;
     says = inl (risen, g.nothing, (let is = g.count in omega arith), (g.rest, going_all g));
   }
 
@@ -147,6 +158,7 @@ module _ (left left' : Option (List ℕ)) (c : Conn) (n taken : ℕ) (s t : Stan
     taken = p.bytes;
     took = p.took;
     within = (let is = p.count in omega arith);
+    read_on = p.read_on;
     says = (p.nothing, (let is = p.count in omega arith), (p.over, record { asks = p.asks; asked = p.asked; answered = p.answered }));
   }
 
@@ -160,6 +172,7 @@ module _ (left left' : Option (List ℕ)) (c : Conn) (n taken : ℕ) (s t : Stan
     taken = p.bytes;
     took = p.took;
     within = (let is = p.count in omega arith);
+    read_on = p.read_on;
     says = (p.nothing, (let is = p.count in omega arith), (p.over, record { asks = p.asks; asked = p.asked; answered = p.answered }, inr (over_is p.over p.stands none)));
   }
 
@@ -197,6 +210,7 @@ module _ {D : Type 0} (images : D → List ℕ → Type 0) (moment : D → ℕ) 
       taken = [];
       took = subst (λ l. Consumes left l []) (sym same) (Consumes-nil left);
       within = omega arith;
+      read_on = record { before = []; piece = []; parted = refl; few = omega arith; asks = []; going = []; asked = asks_none };
       says = inr (
         refl,
         record {
@@ -255,7 +269,7 @@ module _ {D : Type 0} (images : D → List ℕ → Type 0) (moment : D → ℕ) 
   -- a piece of a link was read, and then served
   module _ (old mid new : D) (left left' left'' left''' held held' held'' held''' : Option (List ℕ)) (c c' : Conn) (n taken : ℕ) (s t t' : Stand)
       (run : Run old mid (Going left left' c n taken s t) s t held held') (same : held'' ≡ held')
-      (piece : List ℕ) (count : ℕ) (long : length piece ≡ count) (took : Consumes left' left'' piece) (stays : left''' ≡ left'')
+      (piece : List ℕ) (count : ℕ) (long : length piece ≡ count) (few : count ≤ read_limit) (took : Consumes left' left'' piece) (stays : left''' ≡ left'')
       (cut : Type 0) (o : Outcome) (m : ℕ) (served : (r : List ℕ) → StandsFor c r → Run mid new (IsPiece cut o m (r ++ piece) c' t t') t t' held'' held''') where
     joined : (R : List Accepted → List ℕ → Type 0)
         → ((p : List Accepted) (w : List ℕ) → IsPiece cut o m (run.says_so.rest ++ piece) c' t t' p w → R p (run.wrote ++ w)) → Run old new R s t' held held'''
@@ -266,20 +280,20 @@ module _ {D : Type 0} (images : D → List ℕ → Type 0) (moment : D → ℕ) 
         (then second.pending second.wrote second.says_so)
 
     pub run_passes : o ≡ outcome.Answered → Run old new (Passed left left''' c' (n + m) (taken + count) s t') s t' held held'''
-    run_passes is = joined _ (λ p w x. passed_more left left' c n taken s t run.pending run.wrote run.says_so left'' left''' piece count long took stays cut m c' t' p w
+    run_passes is = joined _ (λ p w x. passed_more left left' c n taken s t run.pending run.wrote run.says_so left'' left''' piece count long few took stays cut m c' t' p w
         (subst (λ q. IsPiece cut q m (run.says_so.rest ++ piece) c' t t' p w) is x))
 
     module _ (within : taken + count ≤ link_limit) (reads writes : Type 0) (then : cut → writes) where
       pub run_broken : o ≡ outcome.Broken → writes → Run old new (Serves (link_end.Broken (n + m)) reads writes left left''' s t') s t' held held'''
-      run_broken is risen = joined _ (λ p w x. broken_more left left' c n taken s t run.pending run.wrote run.says_so left'' left''' piece count long took stays writes within reads m c' t' p w risen
+      run_broken is risen = joined _ (λ p w x. broken_more left left' c n taken s t run.pending run.wrote run.says_so left'' left''' piece count long few took stays writes within reads m c' t' p w risen
           (piece_weaker cut writes outcome.Broken m (run.says_so.rest ++ piece) c' t t' p w then (subst (λ q. IsPiece cut q m (run.says_so.rest ++ piece) c' t t' p w) is x)))
 
       pub run_disk : o ≡ outcome.Disk → Run old new (Serves (link_end.Disk (n + m)) reads writes left left''' s t') s t' held held'''
-      run_disk is = joined _ (λ p w x. disk_more_end left left' c n taken s t run.pending run.wrote run.says_so left'' left''' piece count long took stays writes within reads m c' t' p w
+      run_disk is = joined _ (λ p w x. disk_more_end left left' c n taken s t run.pending run.wrote run.says_so left'' left''' piece count long few took stays writes within reads m c' t' p w
           (piece_weaker cut writes outcome.Disk m (run.says_so.rest ++ piece) c' t t' p w then (subst (λ q. IsPiece cut q m (run.says_so.rest ++ piece) c' t t' p w) is x)))
 
       pub run_memory : o ≡ outcome.NoMemory → Run old new (Serves (link_end.NoMemory (n + m)) reads writes left left''' s t') s t' held held'''
-      run_memory is = joined _ (λ p w x. memory_more left left' c n taken s t run.pending run.wrote run.says_so left'' left''' piece count long took stays writes within reads m c' t' p w
+      run_memory is = joined _ (λ p w x. memory_more left left' c n taken s t run.pending run.wrote run.says_so left'' left''' piece count long few took stays writes within reads m c' t' p w
           (piece_weaker cut writes outcome.NoMemory m (run.says_so.rest ++ piece) c' t t' p w then (subst (λ q. IsPiece cut q m (run.says_so.rest ++ piece) c' t t' p w) is x)))
 
   -- after a piece that was answered

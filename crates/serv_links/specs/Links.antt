@@ -14,6 +14,10 @@ use Rattle.serv_links.specs.Outcomes.{IsAnswered, IsCutOff, IsFront}
 abbrev pub link_limit : ℕ
 link_limit = 2 ^ 24
 
+-- the most bytes that one read takes: 16,384
+abbrev pub read_limit : ℕ
+read_limit = 2 ^ 14
+
 -- how many responses were written whole
 abbrev pub number_in : LinkEnd → ℕ
 number_in (link_end.Ended n) = n
@@ -77,9 +81,20 @@ IsServed (link_end.NoMemory n) reads writes at_end taken s s' pending added =
     IsCutOff writes outcome.NoMemory n taken s s' pending added
     ⊎ ((pending ≡ []) × IsStarved writes n taken added s s')
 
+-- nothing was read after a response that ends the connection: before the last read it went on
+pub record IsReadOn (taken : List ℕ) : Type 0 where
+  pub before : List ℕ
+  pub piece : List ℕ
+  pub parted : taken ≡ before ++ piece
+  pub few : length piece ≤ read_limit
+  pub asks : List Ask
+  pub going : List ℕ
+  pub asked : AsksTo before asks (Some going)
+
 -- with what is taken, where the link tells what is left
 pub record Serves (end : LinkEnd) (reads writes : Type 0) (left left' : Option (List ℕ)) (s s' : Stand) (pending : List Accepted) (added : List ℕ) : Type 0 where
   pub taken : List ℕ
   pub took : Consumes left left' taken
   pub within : length taken ≤ link_limit
+  pub read_on : IsReadOn taken
   pub says : IsServed end reads writes (IsAtEnd left') taken s s' pending added

@@ -54,7 +54,7 @@ returns-in-Broken-clause-served g c =
     let within : c.pieces.taken + c.in-Ok-read_some.count ≤ link_limit = omega (arith, c.in-Ok-read_some.ensures.bound, c.min-most.ensures, c.pieces.invariant.below) in
     run_broken g.D.Disk.images g.D.Disk.moment g.D.Disk.images_since c.args.disk.now c.pieces.disk c.serve_piece-round.new.disk _ _ _ _ _ _ _ _ c.pieces.conn c.serve_piece-round.new.conn c.pieces.answered c.pieces.taken
     (stand (g.M.Machine.history c.args.machine.now) c.args.steps.now) (stand (g.M.Machine.history c.pieces.machine) c.pieces.steps) (stand (g.M.Machine.history c.serve_piece-round.new.machine) c.serve_piece-round.new.steps)
-    c.pieces.invariant.run kept (take c.in-Ok-read_some.count c.read_some.new.room) c.in-Ok-read_some.count c.in-Ok-read_some.ensures.count c.in-Ok-read_some.ensures.taken stays
+    c.pieces.invariant.run kept (take c.in-Ok-read_some.count c.read_some.new.room) c.in-Ok-read_some.count c.in-Ok-read_some.ensures.count (omega (arith, c.in-Ok-read_some.ensures.bound, c.min-most.ensures)) c.in-Ok-read_some.ensures.taken stays
     _ c.serve_piece-round.result.outcome c.serve_piece-round.result.answered c.serve_piece-round.ensures.piece within _ _
     (risen_last (g.C.Sink.faults c.args.link.now) (g.C.Sink.faults c.read_some.new.src) (g.C.Sink.faults c.serve_piece-round.new.link) (omega (arith, c.pieces.invariant.write_later, same)) c.serve_piece-round.ensures.later) c.in-Broken.is
     (risen_last (g.C.Sink.faults c.args.link.now) (g.C.Sink.faults c.read_some.new.src) (g.C.Sink.faults c.serve_piece-round.new.link) (omega (arith, c.pieces.invariant.write_later, same)) c.serve_piece-round.ensures.later
@@ -71,7 +71,7 @@ returns-in-Disk-clause-served g c =
     let within : c.pieces.taken + c.in-Ok-read_some.count ≤ link_limit = omega (arith, c.in-Ok-read_some.ensures.bound, c.min-most.ensures, c.pieces.invariant.below) in
     run_disk g.D.Disk.images g.D.Disk.moment g.D.Disk.images_since c.args.disk.now c.pieces.disk c.serve_piece-round.new.disk _ _ _ _ _ _ _ _ c.pieces.conn c.serve_piece-round.new.conn c.pieces.answered c.pieces.taken
     (stand (g.M.Machine.history c.args.machine.now) c.args.steps.now) (stand (g.M.Machine.history c.pieces.machine) c.pieces.steps) (stand (g.M.Machine.history c.serve_piece-round.new.machine) c.serve_piece-round.new.steps)
-    c.pieces.invariant.run kept (take c.in-Ok-read_some.count c.read_some.new.room) c.in-Ok-read_some.count c.in-Ok-read_some.ensures.count c.in-Ok-read_some.ensures.taken stays
+    c.pieces.invariant.run kept (take c.in-Ok-read_some.count c.read_some.new.room) c.in-Ok-read_some.count c.in-Ok-read_some.ensures.count (omega (arith, c.in-Ok-read_some.ensures.bound, c.min-most.ensures)) c.in-Ok-read_some.ensures.taken stays
     _ c.serve_piece-round.result.outcome c.serve_piece-round.result.answered c.serve_piece-round.ensures.piece within _ _
     (risen_last (g.C.Sink.faults c.args.link.now) (g.C.Sink.faults c.read_some.new.src) (g.C.Sink.faults c.serve_piece-round.new.link) (omega (arith, c.pieces.invariant.write_later, same)) c.serve_piece-round.ensures.later) c.in-Disk.is
 
@@ -86,7 +86,7 @@ returns-in-NoMemory-clause-served g c =
     let within : c.pieces.taken + c.in-Ok-read_some.count ≤ link_limit = omega (arith, c.in-Ok-read_some.ensures.bound, c.min-most.ensures, c.pieces.invariant.below) in
     run_memory g.D.Disk.images g.D.Disk.moment g.D.Disk.images_since c.args.disk.now c.pieces.disk c.serve_piece-round.new.disk _ _ _ _ _ _ _ _ c.pieces.conn c.serve_piece-round.new.conn c.pieces.answered c.pieces.taken
     (stand (g.M.Machine.history c.args.machine.now) c.args.steps.now) (stand (g.M.Machine.history c.pieces.machine) c.pieces.steps) (stand (g.M.Machine.history c.serve_piece-round.new.machine) c.serve_piece-round.new.steps)
-    c.pieces.invariant.run kept (take c.in-Ok-read_some.count c.read_some.new.room) c.in-Ok-read_some.count c.in-Ok-read_some.ensures.count c.in-Ok-read_some.ensures.taken stays
+    c.pieces.invariant.run kept (take c.in-Ok-read_some.count c.read_some.new.room) c.in-Ok-read_some.count c.in-Ok-read_some.ensures.count (omega (arith, c.in-Ok-read_some.ensures.bound, c.min-most.ensures)) c.in-Ok-read_some.ensures.taken stays
     _ c.serve_piece-round.result.outcome c.serve_piece-round.result.answered c.serve_piece-round.ensures.piece within _ _
     (risen_last (g.C.Sink.faults c.args.link.now) (g.C.Sink.faults c.read_some.new.src) (g.C.Sink.faults c.serve_piece-round.new.link) (omega (arith, c.pieces.invariant.write_later, same)) c.serve_piece-round.ensures.later) c.in-NoMemory.is
 
@@ -99,7 +99,7 @@ returns-then-taken-eq-LINK_LIMIT-clause-served g c =
     let passed =
     run_passes g.D.Disk.images g.D.Disk.moment g.D.Disk.images_since c.args.disk.now c.pieces.disk c.serve_piece-round.new.disk _ _ _ _ _ _ _ _ c.pieces.conn c.serve_piece-round.new.conn c.pieces.answered c.pieces.taken
     (stand (g.M.Machine.history c.args.machine.now) c.args.steps.now) (stand (g.M.Machine.history c.pieces.machine) c.pieces.steps) (stand (g.M.Machine.history c.serve_piece-round.new.machine) c.serve_piece-round.new.steps)
-    c.pieces.invariant.run kept (take c.in-Ok-read_some.count c.read_some.new.room) c.in-Ok-read_some.count c.in-Ok-read_some.ensures.count c.in-Ok-read_some.ensures.taken stays
+    c.pieces.invariant.run kept (take c.in-Ok-read_some.count c.read_some.new.room) c.in-Ok-read_some.count c.in-Ok-read_some.ensures.count (omega (arith, c.in-Ok-read_some.ensures.bound, c.min-most.ensures)) c.in-Ok-read_some.ensures.taken stays
     _ c.serve_piece-round.result.outcome c.serve_piece-round.result.answered c.serve_piece-round.ensures.piece c.in-Answered.is in
     run_cut g.D.Disk.images g.D.Disk.moment g.D.Disk.images_since c.args.disk.now c.serve_piece-round.new.disk _ _ _ _ _ _ _ _ _ passed _ _ (omega (arith, c.if-taken-eq-LINK_LIMIT.true))
 
@@ -113,7 +113,7 @@ returns-then-is_over-clause-served g c =
     let passed =
     run_passes g.D.Disk.images g.D.Disk.moment g.D.Disk.images_since c.args.disk.now c.pieces.disk c.serve_piece-round.new.disk _ _ _ _ _ _ _ _ c.pieces.conn c.serve_piece-round.new.conn c.pieces.answered c.pieces.taken
     (stand (g.M.Machine.history c.args.machine.now) c.args.steps.now) (stand (g.M.Machine.history c.pieces.machine) c.pieces.steps) (stand (g.M.Machine.history c.serve_piece-round.new.machine) c.serve_piece-round.new.steps)
-    c.pieces.invariant.run kept (take c.in-Ok-read_some.count c.read_some.new.room) c.in-Ok-read_some.count c.in-Ok-read_some.ensures.count c.in-Ok-read_some.ensures.taken stays
+    c.pieces.invariant.run kept (take c.in-Ok-read_some.count c.read_some.new.room) c.in-Ok-read_some.count c.in-Ok-read_some.ensures.count (omega (arith, c.in-Ok-read_some.ensures.bound, c.min-most.ensures)) c.in-Ok-read_some.ensures.taken stays
     _ c.serve_piece-round.result.outcome c.serve_piece-round.result.answered c.serve_piece-round.ensures.piece c.in-Answered.is in
     run_over g.D.Disk.images g.D.Disk.moment g.D.Disk.images_since c.args.disk.now c.serve_piece-round.new.disk _ _ _ _ _ _ _ _ _ passed _ _ (omega (arith, within, c.if-taken-eq-LINK_LIMIT.false))
     (λ r stands. both_ways c.is_over.result (c.is_over.ensures.stands r stands) c.if-is_over.true)
@@ -132,7 +132,7 @@ pieces-preserved g c =
     let passed =
     run_passes g.D.Disk.images g.D.Disk.moment g.D.Disk.images_since c.args.disk.now c.pieces.disk c.serve_piece-round.new.disk _ _ _ _ _ _ _ _ c.pieces.conn c.serve_piece-round.new.conn c.pieces.answered c.pieces.taken
     (stand (g.M.Machine.history c.args.machine.now) c.args.steps.now) (stand (g.M.Machine.history c.pieces.machine) c.pieces.steps) (stand (g.M.Machine.history c.serve_piece-round.new.machine) c.serve_piece-round.new.steps)
-    c.pieces.invariant.run kept (take c.in-Ok-read_some.count c.read_some.new.room) c.in-Ok-read_some.count c.in-Ok-read_some.ensures.count c.in-Ok-read_some.ensures.taken stays
+    c.pieces.invariant.run kept (take c.in-Ok-read_some.count c.read_some.new.room) c.in-Ok-read_some.count c.in-Ok-read_some.ensures.count (omega (arith, c.in-Ok-read_some.ensures.bound, c.min-most.ensures)) c.in-Ok-read_some.ensures.taken stays
     _ c.serve_piece-round.result.outcome c.serve_piece-round.result.answered c.serve_piece-round.ensures.piece c.in-Answered.is in
     record {
       run = run_goes g.D.Disk.images g.D.Disk.moment g.D.Disk.images_since c.args.disk.now c.serve_piece-round.new.disk _ _ _ _ _ _ _ _ _ passed (sym c.is_over.ensures.value ∙ c.if-is_over.false);
