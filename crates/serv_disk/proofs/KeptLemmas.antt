@@ -19,6 +19,16 @@ calls_push (first ∷ later) pool older step bytes all own =
     ∙ ap (λ t. calls_of (later ++ step ∷ []) (drop n pool ++ bytes) (call_of first t ∷ older)) (take-append-le n pool bytes within)
     ∙ calls_push later (drop n pool) (call_of first (take n pool) ∷ older) step bytes rest own
 
+-- there are as many calls as steps
+calls_count : (steps : List Step) (pool : List ℕ) (older : List DiskCall) → length (calls_of steps pool older) ≡ length steps + length older
+calls_count [] pool older = omega arith
+calls_count (step ∷ later) pool older =
+    let rest = calls_count later (drop (bytes_of step) pool) (call_of step (take (bytes_of step) pool) ∷ older) in
+    omega (arith, rest)
+
+pub calls_long : (steps : List Step) (pool : List ℕ) → length steps ≡ length (calls_of steps pool [])
+calls_long steps pool = let all = calls_count steps pool [] in omega (arith, all)
+
 bytes_push : (steps : List Step) (step : Step) → bytes_in (steps ++ step ∷ []) ≡ bytes_in steps + bytes_of step
 bytes_push [] step = omega arith
 bytes_push (first ∷ later) step = let rest = bytes_push later step in omega arith

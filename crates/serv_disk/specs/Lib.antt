@@ -1,6 +1,7 @@
 pub mod Faults
 pub mod Objects
 pub mod Sides
+pub mod Stamps
 pub mod Listening
 pub mod Disks
 pub mod DiskCalls

@@ -25,6 +25,10 @@ pub trait Disk {
     /// How many of its calls have failed.
     ghost faults: { Self → ℕ };
 
+    /// The moment.
+    fn clock(&self) -> u64
+        ensures { result ≡ moment self.now };
+
     /// The length.
     fn len(&mut self) -> Result<u64, Failed>
         ensures number { IfOk result (λ n. (s : List ℕ) → seen self.old ≡ Some s → n ≡ length s) }

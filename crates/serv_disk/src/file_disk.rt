@@ -151,6 +151,10 @@ where
 
     ghost faults = { λ d. d.faults };
 
+    fn clock(&self) -> u64 {
+        0
+    }
+
     fn len(&mut self) -> Result<u64, Failed> {
         let done = match opened(&self.runtime, self.path.as_str(), &mut self.file) {
             Ok(file) => file.metadata().map(|about| about.len()),

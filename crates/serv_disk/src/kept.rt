@@ -166,6 +166,13 @@ impl Kept {
         Ok(file)
     }
 
+    /// How many calls were made.
+    pub(crate) fn count(&self) -> usize
+        ensures { result ≡ length self.now.made }
+    {
+        self.steps.len()
+    }
+
     /// The content.
     pub(crate) fn content(&self) -> &[u8]
         ensures { result.now ≡ now_of self.now.first self.now.made }

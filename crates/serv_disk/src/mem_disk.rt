@@ -172,6 +172,12 @@ impl Disk for MemDisk {
 
     ghost faults = { λ d. d.faults };
 
+    fn clock(&self) -> u64
+        ensures { result ≡ length self.now.made }
+    {
+        self.kept.count() as u64
+    }
+
     fn len(&mut self) -> Result<u64, Failed>
         ensures number { IfOk result (λ n. (s : List ℕ) → told self.old ≡ Some s → n ≡ length s) }
         ensures kept { told self.new ≡ told self.old }

@@ -5,6 +5,7 @@ ghost use Rattle.std.specs.Io.KnownBytes.{Appends, Consumes, IsAtEnd};
 ghost use Rattle.serv_disk.specs.Faults.{HasCause};
 ghost use Rattle.serv_disk.specs.Sides.{Side};
 
+use crate::disk::Disk;
 use crate::failed::Failed;
 use crate::link::Link;
 use crate::sink::{MemSink, Sink};
@@ -98,6 +99,14 @@ impl Sink for MemLink {
 
     ghost beside = { λ x. reading_side x };
 
+    ghost log = { λ _. None };
+
+    ghost mark = { λ _. 0 };
+
+    fn show<D: Disk>(&mut self, _: &D)
+        ensures same { self.new ≡ self.old }
+    {}
+
     fn write(&mut self, piece: &[u8]) -> Result<usize, Failed>
         ensures bound { IfOk result (λ n. n ≤ length piece.now) }
         ensures some { IfOk result (λ n. 0 < length piece.now → 0 < n) }
@@ -172,6 +181,12 @@ impl Sink for CalmLink {
     ghost faults = { λ _. 0 };
 
     ghost beside = { λ x. record { bytes = Some x; faults = 0 } };
+
+    ghost log = { λ _. None };
+
+    ghost mark = { λ _. 0 };
+
+    fn show<D: Disk>(&mut self, _: &D) {}
 
     fn write(&mut self, piece: &[u8]) -> Result<usize, Failed> {
         Ok(piece.len())

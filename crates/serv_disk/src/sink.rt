@@ -1,10 +1,12 @@
 //! Where output goes.
 
-ghost use Rattle.std.specs.Prelude.{◌≡◌, ℕ, ◌+◌, ◌-◌, ◌<◌, ◌≤◌, ◌↔◌, ◌++◌, List, [], None, Some, IsOk, IsErr, is_ok, if◌then◌else◌, IfOk, OnErr, OnOk, length, take, Contains, Option, vec_len, vec_capacity};
+ghost use Rattle.std.specs.Prelude.{◌≡◌, ℕ, ◌+◌, ◌-◌, ◌<◌, ◌≤◌, ◌↔◌, ◌++◌, List, [], ◌∷◌, None, Some, IsOk, IsErr, is_ok, if◌then◌else◌, IfOk, OnErr, OnOk, length, take, Contains, Option, vec_len, vec_capacity};
 ghost use Rattle.std.specs.Io.KnownBytes.{Appends};
 ghost use Rattle.serv_disk.specs.Faults.{HasCause, AppendsPart};
 ghost use Rattle.serv_disk.specs.Sides.{Side, no_side};
+ghost use Rattle.serv_disk.specs.Stamps.{Adds, Notes, Stamp, stamp};
 
+use crate::disk::Disk;
 use crate::failed::{Failed, is_among};
 use std::io::{self, ErrorKind, Write};
 use std::marker::Model;
@@ -21,6 +23,20 @@ pub trait Sink {
     /// The other side of a link, which a write leaves as it was.
     ghost beside: { Self → Side };
 
+    /// Its writes beside a disk, in order, where the object notes them.
+    ghost log: { Self → Option (List Stamp) };
+
+    /// The moment of the disk from which its next write counts.
+    ghost mark: { Self → ℕ };
+
+    /// Sees the disk as it is now: what is written from here on counts from this moment. Writes nothing.
+    fn show<D: Disk>(&mut self, disk: &D)
+        ensures marked { (stamps : List Stamp) → log self.old ≡ Some stamps → mark self.new ≡ D.moment disk.now }
+        ensures log { log self.new ≡ log self.old }
+        ensures held { held self.new ≡ held self.old }
+        ensures beside { beside self.new ≡ beside self.old }
+        ensures faults { faults self.new ≡ faults self.old };
+
     /// Takes a front part of the piece, of at least one byte where there is one, and says how long
     /// the part is.
     fn write(&mut self, piece: &[u8]) -> Result<usize, Failed>
@@ -29,6 +45,10 @@ pub trait Sink {
         ensures appended { IfOk result (λ n. Appends (held self.old) (held self.new) (take n piece.now)) }
         ensures kept { OnErr result (held self.new ≡ held self.old) }
         ensures beside { beside self.new ≡ beside self.old }
+        ensures noted { IfOk result (λ n. (s : List ℕ) → held self.old ≡ Some s
+            → Adds (log self.old) (log self.new) (stamp (mark self.old) (length s + n) ∷ [])) }
+        ensures unnoted { OnErr result (log self.new ≡ log self.old) }
+        ensures marked { mark self.new ≡ mark self.old }
         ensures cause { HasCause (faults self.old) (faults self.new) result };
 }
 
@@ -101,6 +121,14 @@ impl Sink for MemSink {
 
     ghost beside = { λ _. no_side };
 
+    ghost log = { λ _. None };
+
+    ghost mark = { λ _. 0 };
+
+    fn show<D: Disk>(&mut self, _: &D)
+        ensures same { self.new ≡ self.old }
+    {}
+
     fn write(&mut self, piece: &[u8]) -> Result<usize, Failed>
         ensures bound { IfOk result (λ n. n ≤ length piece.now) }
         ensures some { IfOk result (λ n. 0 < length piece.now → 0 < n) }
@@ -156,6 +184,12 @@ impl Sink for CalmSink {
 
     ghost beside = { λ _. no_side };
 
+    ghost log = { λ _. None };
+
+    ghost mark = { λ _. 0 };
+
+    fn show<D: Disk>(&mut self, _: &D) {}
+
     fn write(&mut self, piece: &[u8]) -> Result<usize, Failed> {
         Ok(piece.len())
     }
@@ -194,6 +228,12 @@ impl<W: Write + Drop> Sink for WriteSink<W> {
 
     ghost beside = { λ _. no_side };
 
+    ghost log = { λ _. None };
+
+    ghost mark = { λ _. 0 };
+
+    fn show<D: Disk>(&mut self, _: &D) {}
+
     fn write(&mut self, piece: &[u8]) -> Result<usize, Failed> {
         let cause = match self.writer.write(piece) {
             Ok(n) if n > 0 || piece.is_empty() => return Ok(n),
@@ -214,6 +254,8 @@ pub fn write_whole<K: Sink>(snk: &mut K, text: &[u8]) -> Result<(), Failed>
     ensures part { OnErr result (AppendsPart (K.held snk.old) (K.held snk.new) text.now) }
     ensures cause { HasCause (K.faults snk.old) (K.faults snk.new) result }
     ensures beside { K.beside snk.new ≡ K.beside snk.old }
+    ensures noted { (s : List ℕ) → K.held snk.old ≡ Some s
+        → Notes (K.mark snk.old) (length s + length text.now) (K.log snk.old) (K.log snk.new) }
 {
     let mut at = 0;
     while at < text.len() {

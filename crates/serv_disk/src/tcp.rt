@@ -3,6 +3,7 @@
 ghost use Rattle.std.specs.Prelude.{◌≡◌, ℕ, ◌<◌, ◌≤◌, List, Option, None, Some, IfOk, OnErr, length, take};
 ghost use Rattle.serv_disk.specs.Faults.{HasCause};
 
+use crate::disk::Disk;
 use crate::doors::Doors;
 use crate::ended::noted;
 use crate::failed::Failed;
@@ -59,6 +60,12 @@ impl<R: Net> Sink for TcpLink<R> {
     ghost faults = { λ x. x.write_faults };
 
     ghost beside = { λ x. record { bytes = None; faults = x.read_faults } };
+
+    ghost log = { λ _. None };
+
+    ghost mark = { λ _. 0 };
+
+    fn show<D: Disk>(&mut self, _: &D) {}
 
     fn write(&mut self, piece: &[u8]) -> Result<usize, Failed> {
         match self.stream.write(piece) {

@@ -2,7 +2,7 @@
 
 ghost use Rattle.std.specs.Prelude.{None};
 
-use serv_disk::{Failed, Link, MemLink, Sink, Source};
+use serv_disk::{Disk, Failed, Link, MemLink, Sink, Source};
 
 /// A link that gives one byte at a time.
 #[derive(Drop)]
@@ -40,6 +40,12 @@ impl Sink for Pieces {
     ghost faults = { λ x. x.link.writing.faults };
 
     ghost beside = { λ x. record { bytes = None; faults = x.link.reading.faults } };
+
+    ghost log = { λ _. None };
+
+    ghost mark = { λ _. 0 };
+
+    fn show<D: Disk>(&mut self, _: &D) {}
 
     fn write(&mut self, piece: &[u8]) -> Result<usize, Failed> {
         self.link.write(piece)
@@ -97,6 +103,12 @@ impl Sink for Waiting {
     ghost faults = { λ _. 0 };
 
     ghost beside = { λ _. record { bytes = None; faults = 0 } };
+
+    ghost log = { λ _. None };
+
+    ghost mark = { λ _. 0 };
+
+    fn show<D: Disk>(&mut self, _: &D) {}
 
     fn write(&mut self, piece: &[u8]) -> Result<usize, Failed> {
         self.written = self.written.saturating_add(piece.len());

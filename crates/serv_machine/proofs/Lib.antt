@@ -1,3 +1,4 @@
 pub mod OnDiskLemmas
 pub mod MemoryLemmas
 pub mod EngineLemmas
+pub mod UpheldLemmas

@@ -3,3 +3,4 @@ pub mod Replies
 pub mod OnDisk
 pub mod Engines
 pub mod EngineLaws
+pub mod Upheld

@@ -20,6 +20,10 @@ impl Disk for Nowhere {
 
     ghost faults = { λ _. 0 };
 
+    fn clock(&self) -> u64 {
+        0
+    }
+
     fn len(&mut self) -> Result<u64, Failed> {
         Ok(0)
     }

@@ -8,6 +8,7 @@ use Rattle.svc_world.specs.World.{Accepted, accepted}
 use Rattle.svc_world.specs.Judging.{IsHistory}
 use Rattle.serv_disk.specs.Disks.{Each}
 use Rattle.serv_disk.specs.Faults.{HasRisen}
+use Rattle.serv_disk.specs.Stamps.{Stamp}
 use Rattle.serv_journal.specs.declared.format.Version.TheVariants.{Two}
 use Rattle.serv_engine.specs.declared.fault.EngineFault.{EngineFault}
 use Rattle.serv_engine.specs.declared.fault.EngineFault.TheVariants as fault
@@ -29,6 +30,8 @@ use Rattle.serv_top.specs.Replies.{MovesAll, IsTriedNext, history_after_all}
 use Rattle.serv_top.specs.Outcome.{Ended, Ends, IsOutput, input_limit}
 use Rattle.serv_top.specs.Stop.{status_of_fault}
 use Rattle.serv_top.specs.Journal.{KeepsGood, IsCause, IsOnly, IsUnopened, IsOpened, IsRunOver, IsApplied, journal_limit}
+use Rattle.serv_top.specs.Lines.{lines_of}
+use Rattle.serv_top.specs.Upheld.{AreSaidFirst, IsAcknowledged}
 use Rattle.serv_top.proofs.SoundLemmas.{stay_sound}
 
 -- ---- where commands are kept stays the same
@@ -136,13 +139,15 @@ run_over {D} E seen images moment images_since old mid new e e' steps begun step
     }
 
 pub applied : {D : Type 0} (seen : D → Option (List ℕ)) (images : D → List ℕ → Type 0) (moment : D → ℕ) (images_since : D → ℕ → List ℕ → Type 0) (old mid new : D) (st : Status) (e e' : EngineState)
-    (steps begun steps' : ℕ) (left left' held held' : Option (List ℕ))
+    (steps begun steps' : ℕ) (left left' held held' : Option (List ℕ)) (log log' : Option (List Stamp))
     → IsOpened seen images moment images_since old mid steps begun (e.journal.size - lengths_of e.history) e.history → e.journal.limit ≡ journal_limit
     → Ends images moment images_since mid new 0 st (stand (history_of e) begun) (stand (history_of e') steps') left left' held held'
-    → IsApplied seen images moment images_since old new st steps steps' left left' held held'
-applied {D} seen images moment images_since old mid new st e e' steps begun steps' left left' held held' opening limit ends =
-    run_over (λ s s' pending. Ended 0 st s s' pending left left' held held') seen images moment images_since old mid new e e' steps begun steps' ends.pending opening limit
-    (store_ended 0 st (stand (history_of e) begun) (stand (history_of e') steps') ends.pending ends.ended.taken left' ends.ended.written ends.ended.says) ends.ended ends.disk
+    → IsAcknowledged (λ taken. AreSaidFirst (lines_of taken)) (moment new) (images_since new) e'.history (history_of e) left left' held log log'
+    → IsApplied seen images moment images_since old new st steps steps' left left' held held' log log'
+applied {D} seen images moment images_since old mid new st e e' steps begun steps' left left' held held' log log' opening limit ends acked =
+    run_over (λ s s' pending. Ended 0 st s s' pending left left' held held'
+    × IsAcknowledged (λ taken. AreSaidFirst (lines_of taken)) (moment new) (images_since new) s'.history.commands s.history left left' held log log') seen images moment images_since old mid new e e' steps begun steps' ends.pending opening limit
+    (store_ended 0 st (stand (history_of e) begun) (stand (history_of e') steps') ends.pending ends.ended.taken left' ends.ended.written ends.ended.says) (ends.ended, acked) ends.disk
 
 -- ---- none was opened
 
@@ -203,11 +208,11 @@ applied_ends waiting (status.NoReport last) s s' pending left left' held held' i
 applied_ends waiting (status.JournalFull bytes) s s' pending left left' held held' input is short reads writes disks e = absurd e.says
 
 pub complete_run : {D A B : Type 0} (seen : D → Option (List ℕ)) (images : D → List ℕ → Type 0) (moment : D → ℕ) (images_since : D → ℕ → List ℕ → Type 0) (faults : D → ℕ) (old new : D) (st : Status) (steps steps' : ℕ)
-    (left left' held held' : Option (List ℕ)) (input s : List ℕ) (h : List Accepted) (a : Accepted) → left ≡ Some input → length input < input_limit → seen old ≡ Some s → IsHistory (h ++ a ∷ [])
+    (left left' held held' : Option (List ℕ)) (log log' : Option (List Stamp)) (input s : List ℕ) (h : List Accepted) (a : Accepted) → left ≡ Some input → length input < input_limit → seen old ≡ Some s → IsHistory (h ++ a ∷ [])
     → IsGoodFound h a s → (st ≡ status.ReadFault → ⊥) → (st ≡ status.WriteFault → ⊥) → (st ≡ status.DiskFault → ⊥) → (HasRisen (faults old) (faults new) → ⊥)
-    → (IsUnopened seen images moment images_since faults old new st steps steps' × A × B) ⊎ IsApplied seen images moment images_since old new st steps steps' left left' held held' → Completes st
-complete_run {D} seen images moment images_since faults old new st steps steps' left left' held held' input s h a is short told is_history good reads writes disks calm which =
+    → (IsUnopened seen images moment images_since faults old new st steps steps' × A × B) ⊎ IsApplied seen images moment images_since old new st steps steps' left left' held held' log log' → Completes st
+complete_run {D} seen images moment images_since faults old new st steps steps' left left' held held' log log' input s h a is short told is_history good reads writes disks calm which =
     ⊎_elim
     (λ closed. unopened_ends st s h a (faults old) (faults new) (seen old) told is_history good closed.0.cause calm)
-    (λ open_. applied_ends 0 st _ _ open_.pending left left' held held' input is short reads writes disks open_.ended)
+    (λ open_. applied_ends 0 st _ _ open_.pending left left' held held' input is short reads writes disks open_.ended.0)
     which

@@ -8,6 +8,7 @@ use Rattle.svc_types.specs.declared.requests.Request.TheVariants as request
 use Rattle.svc_world.specs.World.{Accepted, accepted}
 use Rattle.svc_world.specs.Judging.{IsHistory}
 use Rattle.serv_disk.specs.Faults.{HasRisen, IsProperPrefix}
+use Rattle.serv_disk.specs.Stamps.{Stamp}
 use Rattle.serv_engine.specs.Histories.{IsGoodFound, lengths_of}
 use Rattle.serv_engine.specs.Engines.{EngineState}
 use Rattle.serv_machine.specs.Engines.{history_of}
@@ -29,7 +30,8 @@ use Rattle.serv_top.specs.Machine.{Said, Asks, Unfit, reply_to, Stand, stand, St
 use Rattle.serv_top.specs.Replies.{MovesAll, replies_to}
 use Rattle.serv_top.specs.Outcome.{input_limit}
 use Rattle.serv_top.specs.Stop.{status_of, stop_of}
-use Rattle.serv_top.specs.Imported.{FileSays, said_of, IsRow, AreRows, HaltsOn, IsStoppedOn, StopsOn, IsAnswered, IsTriedFirst, IsRowsOutput, RowsEnd, IsUnread, rows, headless, FileEnds, Imports, ImportEnds, IsImported}
+use Rattle.serv_top.specs.Upheld.{IsAcknowledged}
+use Rattle.serv_top.specs.Imported.{AreFirstIn, FileSays, said_of, IsRow, AreRows, HaltsOn, IsStoppedOn, StopsOn, IsAnswered, IsTriedFirst, IsRowsOutput, RowsEnd, IsUnread, rows, headless, FileEnds, Imports, ImportEnds, IsImported}
 use Rattle.serv_top.specs.Journal.{IsOpened, IsUnopened, journal_limit}
 use Rattle.serv_top.proofs.Applied.{Completes, run_over, unopened_ends, few_taken, store_of, store_after, store_moves}
 use Rattle.serv_top.proofs.Cutting.{replies_to-push, moves_more}
@@ -267,13 +269,15 @@ store_import st s s' pending left left' held held' is =
     ⊎_elim (λ unread. ap store_of unread.1.stays.0) (λ file. store_rows st file.2.saids s s' pending is.written file.2.rows) is.says
 
 pub imported : {D : Type 0} (seen : D → Option (List ℕ)) (images : D → List ℕ → Type 0) (moment : D → ℕ) (images_since : D → ℕ → List ℕ → Type 0) (old mid new : D) (st : Status) (e e' : EngineState)
-    (steps begun steps' : ℕ) (left left' held held' : Option (List ℕ))
+    (steps begun steps' : ℕ) (left left' held held' : Option (List ℕ)) (log log' : Option (List Stamp))
     → IsOpened seen images moment images_since old mid steps begun (e.journal.size - lengths_of e.history) e.history → e.journal.limit ≡ journal_limit
     → ImportEnds images moment images_since mid new st (stand (history_of e) begun) (stand (history_of e') steps') left left' held held'
-    → IsImported seen images moment images_since old new st steps steps' left left' held held'
-imported {D} seen images moment images_since old mid new st e e' steps begun steps' left left' held held' opening limit ends =
-    run_over (λ s s' pending. Imports st s s' pending left left' held held') seen images moment images_since old mid new e e' steps begun steps' ends.pending opening limit
-    (store_import st (stand (history_of e) begun) (stand (history_of e') steps') ends.pending left left' held held' ends.imported) ends.imported ends.disk
+    → IsAcknowledged AreFirstIn (moment new) (images_since new) e'.history (history_of e) left left' held log log'
+    → IsImported seen images moment images_since old new st steps steps' left left' held held' log log'
+imported {D} seen images moment images_since old mid new st e e' steps begun steps' left left' held held' log log' opening limit ends acked =
+    run_over (λ s s' pending. Imports st s s' pending left left' held held'
+    × IsAcknowledged AreFirstIn (moment new) (images_since new) s'.history.commands s.history left left' held log log') seen images moment images_since old mid new e e' steps begun steps' ends.pending opening limit
+    (store_import st (stand (history_of e) begun) (stand (history_of e') steps') ends.pending left left' held held' ends.imported) (ends.imported, acked) ends.disk
 
 -- ---- completeness
 
@@ -308,16 +312,16 @@ unread_ends (status.NoReport last) taken input few short reads is = absurd is
 unread_ends (status.JournalFull bytes) taken input few short reads is = absurd is
 
 pub complete_import : {D A B : Type 0} (seen : D → Option (List ℕ)) (images : D → List ℕ → Type 0) (moment : D → ℕ) (images_since : D → ℕ → List ℕ → Type 0) (faults : D → ℕ) (old new : D) (st : Status) (steps steps' : ℕ)
-    (left left' held held' : Option (List ℕ)) (input s : List ℕ) (h : List Accepted) (a : Accepted) → left ≡ Some input → length input < input_limit → seen old ≡ Some s → IsHistory (h ++ a ∷ [])
+    (left left' held held' : Option (List ℕ)) (log log' : Option (List Stamp)) (input s : List ℕ) (h : List Accepted) (a : Accepted) → left ≡ Some input → length input < input_limit → seen old ≡ Some s → IsHistory (h ++ a ∷ [])
     → IsGoodFound h a s → (st ≡ status.ReadFault → ⊥) → (st ≡ status.WriteFault → ⊥) → (st ≡ status.DiskFault → ⊥) → (HasRisen (faults old) (faults new) → ⊥)
-    → (IsUnopened seen images moment images_since faults old new st steps steps' × A × B) ⊎ IsImported seen images moment images_since old new st steps steps' left left' held held' → Completes st
-complete_import {D} seen images moment images_since faults old new st steps steps' left left' held held' input s h a is short told is_history good reads writes disks calm which =
+    → (IsUnopened seen images moment images_since faults old new st steps steps' × A × B) ⊎ IsImported seen images moment images_since old new st steps steps' left left' held held' log log' → Completes st
+complete_import {D} seen images moment images_since faults old new st steps steps' left left' held held' log log' input s h a is short told is_history good reads writes disks calm which =
     ⊎_elim
     (λ closed. unopened_ends st s h a (faults old) (faults new) (seen old) told is_history good closed.0.cause calm)
     (λ over. ⊎_elim
-    (λ unread. unread_ends st over.ended.taken input (few_taken left left' input over.ended.taken is over.ended.took) short reads unread.0)
-    (λ file. rows_end st file.2.saids _ _ over.pending over.ended.written writes disks file.2.rows)
-    over.ended.says)
+    (λ unread. unread_ends st over.ended.0.taken input (few_taken left left' input over.ended.0.taken is over.ended.0.took) short reads unread.0)
+    (λ file. rows_end st file.2.saids _ _ over.pending over.ended.0.written writes disks file.2.rows)
+    over.ended.0.says)
     which
 
 -- ---- a file says one thing

@@ -19,3 +19,5 @@ pub mod LinksLemmas
 pub mod FeedLemmas
 pub mod ExtractLemmas
 pub mod AskLemmas
+pub mod AnsweredLemmas
+pub mod GoingLemmas

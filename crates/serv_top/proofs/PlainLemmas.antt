@@ -1,15 +1,11 @@
 -- Bytes without a line feed, taken at once.
-use Rattle.std.proofs.Common.{◌≡◌, ℕ, suc, ◌+◌, ◌<◌, ◌≤◌, Bool, true, false, List, [], ◌∷◌, ◌++◌, length, take, drop, get_or, Some, None, refl, sym, ap, subst, take-add, arith, ◌∙◌, append-nil, append_assoc, take-append-drop}
-use Rattle.std.specs.Prelude.{Option, ◌==◌, if◌then◌else◌, cond, nat_lt}
+use Rattle.std.proofs.Common.{◌≡◌, ℕ, suc, ◌+◌, ◌<◌, Bool, true, false, List, [], ◌∷◌, ◌++◌, length, take, drop, get_or, Some, None, refl, sym, ap, subst, take-add, arith, ◌∙◌, append-nil, append_assoc, take-append-drop}
+use Rattle.std.specs.Prelude.{◌==◌, if◌then◌else◌, cond, nat_lt}
 use Rattle.std.specs.List.{position, position_or_len}
 use Rattle.std.proofs.lemmas.List.{take_all, take_more}
 use Rattle.std.proofs.lemmas.List.Sums.{passes_at_first}
 use Rattle.std.proofs.lemmas.Bool.{eqb-true}
-use Rattle.serv_machine.specs.History.{History}
 use Rattle.serv_top.specs.Lines.{IsPlain, ended_lines, open_from, open_line}
-use Rattle.serv_top.specs.Machine.{Stand}
-use Rattle.serv_top.specs.Replies.{Say}
-use Rattle.serv_top.specs.Serving.{Served}
 use Rattle.serv_top.proofs.Cutting.{ended_from, ended_lines-append}
 
 -- whether a byte is a line feed

@@ -1,6 +1,5 @@
 -- A journal of version 1 that is not long has room for its commands in version 2.
-use Rattle.std.proofs.Common.{◌≡◌, ℕ, ◌+◌, ◌*◌, ◌^◌, ◌<◌, ◌≤◌, List, [], ◌∷◌, ◌++◌, length, refl, sym, ap, subst, ◌∙◌, arith, length-append}
-use Rattle.serv_journal.specs.declared.format.Version.{Version}
+use Rattle.std.proofs.Common.{◌≡◌, ℕ, ◌+◌, ◌*◌, ◌^◌, ◌≤◌, List, [], ◌∷◌, length, refl, ap, ◌∙◌, arith, length-append}
 use Rattle.serv_journal.specs.declared.format.Version.TheVariants.{One, Two}
 use Rattle.serv_journal.specs.Format.{Form, AreLines, base, body, records}
 use Rattle.serv_journal.proofs.FormatLemmas.{length_of_body}

@@ -43,7 +43,7 @@ running_more {left} {left'} run bytes n s'' left'' held'' line' text' long took 
     record { taken = run.taken ++ bytes; took = Consumes-trans left left' left'' run.taken bytes run.took took; served = served; count_is = omega arith }
 
 -- the end of the input
-end_took : {waiting : ℕ} {s s' : Stand} {left left' held held' : Option (List ℕ)} {line text : List ℕ} {count : ℕ} (run : Running waiting s s' left left' held held' line text count)
+pub end_took : {waiting : ℕ} {s s' : Stand} {left left' held held' : Option (List ℕ)} {line text : List ℕ} {count : ℕ} (run : Running waiting s s' left left' held held' line text count)
     (left'' : Option (List ℕ)) → Consumes left' left'' [] → Consumes left left'' run.taken
 end_took {left} {left'} run left'' took = subst (Consumes left left'') (append-nil run.taken) (Consumes-trans left left' left'' run.taken [] run.took took)
 

@@ -1,6 +1,6 @@
 -- Bytes that are fed one after the other, the text that they make, and what of it is in the sink.
-use Rattle.std.proofs.Common.{◌≡◌, ℕ, ◌+◌, ◌<◌, ◌≤◌, ◌⊎◌, List, [], ◌∷◌, ◌++◌, length, take, refl, sym, ap, subst, ◌∙◌, arith, inl, inr, append-nil, append_assoc, length-append, take-append-drop, get_or}
-use Rattle.std.specs.Prelude.{Option, Result, Ok, Err, OnOk, OnErr, ◌==◌, Bool, true, false, if◌then◌else◌, MatchBool}
+use Rattle.std.proofs.Common.{◌≡◌, ℕ, ◌+◌, ◌≤◌, ◌⊎◌, List, [], ◌∷◌, ◌++◌, length, take, refl, sym, ap, subst, ◌∙◌, arith, inl, inr, append-nil, append_assoc, length-append}
+use Rattle.std.specs.Prelude.{Option, Result, Ok, Err, OnOk, OnErr}
 use Rattle.std.proofs.lemmas.List.{length-take-le, take_at, take_all, take-append-le}
 use Rattle.std.proofs.lemmas.Bool.{cases_lt}
 use Rattle.std.specs.Io.KnownBytes.{Appends}
@@ -311,6 +311,10 @@ module _ (waiting : ℕ) (bytes : List ℕ) {s s' : Stand} {held held' : Option 
     | inl empty ↦ absurd (some (no_line empty))
     | inr last ↦ lines_of-from bytes ∙ ap (λ p. ended ++ p) last.0
   ]
+
+  -- it is as if a line feed had ended it
+  pub last_ended : (line ≡ [] → ⊥) → lines_of bytes ≡ ended_lines (bytes ++ 10 ∷ [])
+  last_ended some = last_line some ∙ sym ended_more
 
   -- at the end of the input the replies to all lines are written
   pub served_no_more : text ≡ [] → line ≡ [] → AllServed (lines_of bytes) s s' held held'

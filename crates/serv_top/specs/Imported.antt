@@ -22,6 +22,8 @@ use Rattle.serv_top.specs.Machine.{Said, Asks, Unfit, reply_to, history_after, b
 use Rattle.serv_top.specs.Replies.{MovesAll, replies_to, before_last}
 use Rattle.serv_top.specs.Outcome.{input_limit}
 use Rattle.serv_top.specs.Journal.{IsRunOver}
+use Rattle.serv_top.specs.Upheld.{IsAcknowledged}
+use Rattle.serv_disk.specs.Stamps.{Stamp}
 
 -- ---- what a file says
 
@@ -212,8 +214,21 @@ pub record ImportEnds {D : Type 0} (images : D → List ℕ → Type 0) (moment 
   pub imported : Imports status s s' pending left left' held held'
   pub disk : OnDisk images moment images_since old new s.history.commands s'.history.commands pending
 
--- a journal was opened, and then a file was imported over it
+-- what some first ones of these say
+pub record AreFirst (saids : List Said) (said : List Said) : Type 0 where
+  pub others : List Said
+  pub saids_are : saids ≡ said ++ others
+
+-- what some first rows of a file say
+pub record AreFirstIn (bytes : List ℕ) (said : List Said) : Type 0 where
+  pub saids : List Said
+  pub file : FileSays bytes saids
+  pub first : AreFirst saids said
+
+-- a journal was opened, and then a file was imported over it; from the moment of each write on, and at exit, each image has
+-- every command that is answered by what was written by then
 abbrev pub IsImported : {D : Type 0} → (D → Option (List ℕ)) → (D → List ℕ → Type 0) → (D → ℕ) → (D → ℕ → List ℕ → Type 0) → D → D → Status → ℕ → ℕ
-    → Option (List ℕ) → Option (List ℕ) → Option (List ℕ) → Option (List ℕ) → Type 0
-IsImported seen images moment images_since old new status steps steps' left left' held held' =
-    IsRunOver (λ s s' pending. Imports status s s' pending left left' held held') seen images moment images_since old new steps steps'
+    → Option (List ℕ) → Option (List ℕ) → Option (List ℕ) → Option (List ℕ) → Option (List Stamp) → Option (List Stamp) → Type 0
+IsImported seen images moment images_since old new status steps steps' left left' held held' log log' =
+    IsRunOver (λ s s' pending. Imports status s s' pending left left' held held'
+    × IsAcknowledged AreFirstIn (moment new) (images_since new) s'.history.commands s.history left left' held log log') seen images moment images_since old new steps steps'

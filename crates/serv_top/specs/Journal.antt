@@ -4,9 +4,10 @@ use Rattle.svc_world.specs.World.{Accepted}
 use Rattle.svc_world.specs.Judging.{IsHistory}
 use Rattle.serv_disk.specs.Disks.{Each, LeavesOnly}
 use Rattle.serv_disk.specs.Faults.{HasRisen}
+use Rattle.serv_disk.specs.Stamps.{Stamp}
 use Rattle.serv_journal.specs.Reading.{IsNoJournal}
 use Rattle.serv_engine.specs.Histories.{IsGoodFound, lengths_of}
-use Rattle.serv_engine.specs.Opening.{IsDamagedAt, IsTooLong, IsFound, IsClosed, IsFileWithin, history_bound}
+use Rattle.serv_engine.specs.Opening.{IsDamagedAt, IsTooLong, IsFound, IsClosed, IsFoundWithin, history_bound}
 use Rattle.serv_machine.specs.History.{in_journal}
 use Rattle.serv_machine.specs.OnDisk.{HasHistory, OnDisk}
 use Rattle.serv_top.specs.declared.status.Status.{Status}
@@ -14,6 +15,8 @@ use Rattle.serv_top.specs.declared.status.Status.TheVariants.{Done, Usage, ReadF
 use Rattle.serv_top.specs.Machine.{Stand, stand}
 use Rattle.serv_top.specs.Outcome.{Ended}
 use Rattle.serv_top.specs.Sound.{StaySound}
+use Rattle.serv_top.specs.Lines.{lines_of}
+use Rattle.serv_top.specs.Upheld.{AreSaidFirst, IsAcknowledged}
 
 -- the limit on a journal that is opened
 abbrev pub journal_limit : ℕ
@@ -77,7 +80,7 @@ pub record IsUnopened {D : Type 0} (seen : D → Option (List ℕ)) (images : D 
   pub good : KeepsGood seen images moment images_since old new
   pub kept : (status ≡ DiskFault) ⊎ ((seen new ≡ seen old) ⊎ ((s : List ℕ) → seen old ≡ Some s → IsClosed s (seen new)))
   -- no step was taken, or those of the commands that were found and of the one that is the fault
-  pub cost : (steps' ≡ steps) ⊎ ((s : List ℕ) → seen old ≡ Some s → IsFileWithin s steps steps')
+  pub cost : (steps' ≡ steps) ⊎ IsFoundWithin (seen old) steps steps'
 
 -- one was opened, with these commands and this length without a command, by steps up to this number
 pub record IsOpened {D : Type 0} (seen : D → Option (List ℕ)) (images : D → List ℕ → Type 0) (moment : D → ℕ) (images_since : D → ℕ → List ℕ → Type 0)
@@ -106,8 +109,10 @@ pub record IsRunOver {D : Type 0} (Ends : Stand → Stand → List Accepted → 
   -- at each moment each image has some first ones of these commands, or is torn with the next one
   pub disk : OnDisk images moment images_since opened new commands after pending
 
--- one was opened, and then lines were answered over it
+-- one was opened, and then lines were answered over it; from the moment of each write on, and at exit, each image has every
+-- command that is answered by what was written by then
 abbrev pub IsApplied : {D : Type 0} → (D → Option (List ℕ)) → (D → List ℕ → Type 0) → (D → ℕ) → (D → ℕ → List ℕ → Type 0) → D → D → Status → ℕ → ℕ
-    → Option (List ℕ) → Option (List ℕ) → Option (List ℕ) → Option (List ℕ) → Type 0
-IsApplied seen images moment images_since old new status steps steps' left left' held held' =
-    IsRunOver (λ s s' pending. Ended 0 status s s' pending left left' held held') seen images moment images_since old new steps steps'
+    → Option (List ℕ) → Option (List ℕ) → Option (List ℕ) → Option (List ℕ) → Option (List Stamp) → Option (List Stamp) → Type 0
+IsApplied seen images moment images_since old new status steps steps' left left' held held' log log' =
+    IsRunOver (λ s s' pending. Ended 0 status s s' pending left left' held held'
+    × IsAcknowledged (λ taken. AreSaidFirst (lines_of taken)) (moment new) (images_since new) s'.history.commands s.history left left' held log log') seen images moment images_since old new steps steps'

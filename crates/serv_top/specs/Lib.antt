@@ -17,3 +17,4 @@ pub mod Reviews
 pub mod Imported
 pub mod Drilled
 pub mod Served
+pub mod Upheld

@@ -1,5 +1,5 @@
 -- What lines do to the machine and to the sink, and what of the line after them has come.
-use Rattle.std.specs.Prelude.{◌≡◌, ℕ, ◌+◌, ◌≤◌, ◌==◌, List, [], ◌∷◌, ◌++◌, length, take, MatchBool, Option}
+use Rattle.std.specs.Prelude.{◌≡◌, ℕ, ◌+◌, ◌≤◌, List, [], ◌++◌, length, take, Option}
 use Rattle.std.specs.Io.KnownBytes.{Appends}
 use Rattle.svc_world.specs.World.{Accepted}
 use Rattle.serv_machine.specs.declared.faults.Halt.{Halt}
@@ -8,7 +8,7 @@ use Rattle.serv_machine.specs.OnDisk.{OnDisk}
 use Rattle.serv_top.specs.declared.serving.Stop.{Stop}
 use Rattle.serv_top.specs.declared.serving.Stop.TheVariants.{WriteFault, DiskFault, OutOfMemory}
 use Rattle.serv_top.specs.Lines.{ended_lines, open_line}
-use Rattle.serv_top.specs.Machine.{Said, Says, reply_to, Stand, Stays, Moves, IsTried, IsStuck}
+use Rattle.serv_top.specs.Machine.{Said, Says, reply_to, Stand, Moves, IsTried, IsStuck}
 use Rattle.serv_top.specs.Replies.{Say, Answers, IsBegun, IsCutIn, IsHeldUp, before_last, replies_to, MovesAll}
 
 -- a line was acted on, and the reply to it is at the end of a text

@@ -1,5 +1,5 @@
 -- What a run writes that answers one query over a journal.
-use Rattle.std.specs.Prelude.{◌≡◌, ℕ, ◌+◌, ◌≤◌, List, [], length, Option, Some, None}
+use Rattle.std.specs.Prelude.{◌≡◌, ℕ, ◌+◌, ◌≤◌, List, [], Option, Some, None}
 use Rattle.std.specs.Io.KnownBytes.{Appends}
 use Rattle.svc_types.specs.declared.requests.Query.{Query}
 use Rattle.svc_types.specs.declared.replies.Refusal.{Refusal}
@@ -8,7 +8,6 @@ use Rattle.svc_core.specs.Bound.{query_bound}
 use Rattle.svc_world.specs.declared.answer.Answer.{Answer}
 use Rattle.svc_world.specs.World.{Accepted, world}
 use Rattle.svc_world.specs.Answers.{answer_to, query_refusal}
-use Rattle.svc_world.specs.Custody.{rows_in}
 use Rattle.serv_disk.specs.Faults.{IsProperPrefix}
 use Rattle.serv_report.specs.AnswerTexts.{text_of_answer}
 use Rattle.serv_top.specs.declared.status.Status.{Status}

@@ -1,13 +1,18 @@
 //! The rows of a file, answered over a journal.
 
-ghost use Rattle.std.specs.Prelude.{◌≡◌, ◌≢◌, ℕ, ◌<◌, ◌≤◌, ◌^◌, ◌⊎◌, ◌++◌, [], List, map, length, Err, IfOk, IfErr, OnErr, OnOk};
+ghost use Rattle.std.specs.Prelude.{◌≡◌, ◌≢◌, ℕ, ◌<◌, ◌≤◌, ◌^◌, ◌⊎◌, ◌++◌, ◌∷◌, [], List, Option, map, length, Err, IfOk, IfErr, OnErr, OnOk};
 ghost use Rattle.std.specs.Io.KnownBytes.{Appends, Consumes, IsAtEnd};
 ghost use Rattle.serv_disk.specs.Faults.{HasRisen};
 ghost use Rattle.serv_machine.specs.OnDisk.{OnDisk};
 ghost use Rattle.serv_top.specs.Journal.{HasFileFaults, IsUnopened};
-ghost use Rattle.serv_top.specs.Machine.{Moves, reply_to, stand};
+ghost use Rattle.serv_machine.specs.History.{History};
+ghost use Rattle.serv_top.specs.Machine.{Moves, Said, reply_to, stand};
+ghost use Rattle.serv_top.specs.Replies.{history_after_all, replies_to};
 ghost use Rattle.serv_top.specs.Outcome.{input_limit};
-ghost use Rattle.serv_top.specs.Imported.{AreRows, FileEnds, HaltsOn, ImportEnds, IsImported, IsRow, IsSaid, IsUnread, RowsEnd, StopsOn, said_of};
+ghost use Rattle.serv_disk.specs.Stamps.{Stamp};
+ghost use Rattle.serv_machine.specs.Upheld.{Upholds};
+ghost use Rattle.serv_top.specs.Upheld.{AreReplies, IsAcknowledged};
+ghost use Rattle.serv_top.specs.Imported.{AreFirst, AreFirstIn, AreRows, FileEnds, HaltsOn, ImportEnds, IsImported, IsRow, IsSaid, IsUnread, RowsEnd, StopsOn, said_of};
 
 use crate::over_journal::open_journal;
 use crate::serving::{Stop, stop_at};
@@ -37,7 +42,8 @@ pub(crate) fn import<S: Source, K: Sink, D: Disk, L: Ledger>(
     ensures imported { (IsUnopened D.seen D.images D.moment D.images_since D.faults disk.old disk.new result
         steps.old steps.new × (src.new ≡ src.old) × (snk.new ≡ snk.old))
         ⊎ IsImported D.seen D.images D.moment D.images_since disk.old disk.new result steps.old steps.new
-        (S.left src.old) (S.left src.new) (K.held snk.old) (K.held snk.new) }
+        (S.left src.old) (S.left src.new) (K.held snk.old) (K.held snk.new)
+        (K.log snk.old) (K.log snk.new) }
     ensures file { HasFileFaults (D.seen disk.old) result }
     ensures read { result ≡ Status.ReadFault → HasRisen (S.faults src.old) (S.faults src.new) }
     ensures write { result ≡ Status.WriteFault → HasRisen (K.faults snk.old) (K.faults snk.new) }
@@ -65,6 +71,9 @@ fn import_by<D: Disk, M: Machine<D>, S: Source, K: Sink, L: Ledger>(
     ensures ends { ImportEnds D.images D.moment D.images_since disk.old disk.new result
         (stand (M.history machine.old) steps.old) (stand (M.history machine.new) steps.new)
         (S.left src.old) (S.left src.new) (K.held snk.old) (K.held snk.new) }
+    ensures acknowledged { IsAcknowledged AreFirstIn (D.moment disk.new) (D.images_since disk.new)
+        (M.history machine.new).commands (M.history machine.old)
+        (S.left src.old) (S.left src.new) (K.held snk.old) (K.log snk.old) (K.log snk.new) }
     ensures read { result ≡ Status.ReadFault → HasRisen (S.faults src.old) (S.faults src.new) }
     ensures write { result ≡ Status.WriteFault → HasRisen (K.faults snk.old) (K.faults snk.new) }
     ensures disk { result ≡ Status.DiskFault → HasRisen (D.faults disk.old) (D.faults disk.new) }
@@ -119,6 +128,8 @@ fn answer_file<D: Disk, M: Machine<D>, K: Sink, L: Ledger>(
     ensures ends { FileEnds D.images D.moment D.images_since disk.old disk.new result bytes.now
         (stand (M.history machine.old) steps.old) (stand (M.history machine.new) steps.new)
         (K.held snk.old) (K.held snk.new) }
+    ensures upheld { Upholds (AreReplies (AreFirstIn bytes.now) (M.history machine.old)) (D.moment disk.new)
+        (D.images_since disk.new) (M.history machine.new).commands (K.held snk.old) (K.log snk.old) (K.log snk.new) }
     ensures write { result ≡ Status.WriteFault → HasRisen (K.faults snk.old) (K.faults snk.new) }
     ensures disk { result ≡ Status.DiskFault → HasRisen (D.faults disk.old) (D.faults disk.new) }
     ensures write_later { K.faults snk.old ≤ K.faults snk.new }
@@ -147,6 +158,8 @@ fn answer_rows<D: Disk, M: Machine<D>, K: Sink, L: Ledger>(
     ensures ends { RowsEnd D.images D.moment D.images_since disk.old disk.new result (map said_of rows.now)
         (stand (M.history machine.old) steps.old) (stand (M.history machine.new) steps.new)
         (K.held snk.old) (K.held snk.new) }
+    ensures upheld { Upholds (AreReplies (AreFirst (map said_of rows.now)) (M.history machine.old)) (D.moment disk.new)
+        (D.images_since disk.new) (M.history machine.new).commands (K.held snk.old) (K.log snk.old) (K.log snk.new) }
     ensures write { result ≡ Status.WriteFault → HasRisen (K.faults snk.old) (K.faults snk.new) }
     ensures disk { result ≡ Status.DiskFault → HasRisen (D.faults disk.old) (D.faults disk.new) }
     ensures write_later { K.faults snk.old ≤ K.faults snk.new }
@@ -180,6 +193,13 @@ fn answer_row<D: Disk, M: Machine<D>, K: Sink, L: Ledger>(
     ensures stopped { IfErr result (λ why. StopsOn D.images D.moment D.images_since disk.old disk.new why
         (said_of row.now) (stand (M.history machine.old) steps.old) (stand (M.history machine.new) steps.new)
         (K.held snk.old) (K.held snk.new)) }
+    ensures upheld { (h : History) (done others saids : List Said) (held : Option (List ℕ)) (log : Option (List Stamp))
+        → saids ≡ done ++ said_of row.now ∷ others → Appends held (K.held snk.old) (replies_to h done)
+        → M.history machine.old ≡ history_after_all h done
+        → Upholds (AreReplies (AreFirst saids) h) (D.moment disk.old) (D.images_since disk.old)
+        (M.history machine.old).commands held log (K.log snk.old)
+        → Upholds (AreReplies (AreFirst saids) h) (D.moment disk.new) (D.images_since disk.new)
+        (M.history machine.new).commands held log (K.log snk.new) }
     ensures disk { OnOk result (OnDisk D.images D.moment D.images_since disk.old disk.new
         (M.history machine.old).commands (M.history machine.new).commands []) }
     ensures ready { OnOk result (M.ready machine.new disk.new) }
@@ -190,10 +210,13 @@ fn answer_row<D: Disk, M: Machine<D>, K: Sink, L: Ledger>(
 {
     out.clear();
     match reply_to_row(row, out, machine, disk, steps) {
-        Ok(()) => match write_whole(snk, out) {
-            Ok(()) => Ok(()),
-            Err(_) => Err(Stop::WriteFault),
-        },
+        Ok(()) => {
+            snk.show(disk);
+            match write_whole(snk, out) {
+                Ok(()) => Ok(()),
+                Err(_) => Err(Stop::WriteFault),
+            }
+        }
         Err(halt) => Err(stop_at(halt)),
     }
 }

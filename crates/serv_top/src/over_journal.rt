@@ -93,7 +93,8 @@ pub(crate) fn apply<S: Source, K: Sink, D: Disk, L: Ledger>(
     ensures applied { (IsUnopened D.seen D.images D.moment D.images_since D.faults disk.old disk.new result
         steps.old steps.new × (src.new ≡ src.old) × (snk.new ≡ snk.old))
         ⊎ IsApplied D.seen D.images D.moment D.images_since disk.old disk.new result steps.old steps.new
-        (S.left src.old) (S.left src.new) (K.held snk.old) (K.held snk.new) }
+        (S.left src.old) (S.left src.new) (K.held snk.old) (K.held snk.new)
+        (K.log snk.old) (K.log snk.new) }
     // The faults of the file come exactly by their causes.
     ensures not_journal { (s : List ℕ) → D.seen disk.old ≡ Some s → IsNoJournal s
         → IsOnly Status.NotJournal result }

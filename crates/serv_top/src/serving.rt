@@ -1,15 +1,18 @@
 //! Lines that come byte by byte, and the replies to them.
 
-ghost use Rattle.std.specs.Prelude.{◌≡◌, ◌≢◌, ℕ, ◌<◌, ◌≤◌, ◌==◌, ◌++◌, List, [], ◌∷◌, Option, Err, OnErr, OnOk, IfErr, IfOk, length, take, vec_len};
+ghost use Rattle.std.specs.Prelude.{◌≡◌, ◌≢◌, ℕ, ◌+◌, ◌<◌, ◌≤◌, ◌==◌, ◌++◌, List, [], ◌∷◌, Option, Some, Err, OnErr, OnOk, IfErr, IfOk, length, take, vec_len};
 ghost use Rattle.std.specs.List.{position};
 ghost use Rattle.std.specs.Io.KnownBytes.{Appends};
 ghost use Rattle.serv_disk.specs.Faults.{AppendsPart, HasCause, HasRisen};
+ghost use Rattle.serv_disk.specs.Stamps.{Notes, Stamp};
 ghost use Rattle.serv_machine.specs.OnDisk.{OnDisk};
 ghost use Rattle.serv_top.specs.declared.serving.Stop.TheVariants as stop;
 ghost use Rattle.serv_top.specs.Machine.{Stand, stand};
 ghost use Rattle.serv_top.specs.Serving.{AllServed, AppendsFront, Halts, IsReplied, Served, Stopped, Stops};
 ghost use Rattle.serv_top.specs.Lines.{IsPlain, ended_lines, lines_of};
 ghost use Rattle.serv_top.specs.Stop.{status_of, stop_of};
+ghost use Rattle.serv_machine.specs.Upheld.{Upholds};
+ghost use Rattle.serv_top.specs.Upheld.{AreReplies, AreSaidFirst};
 
 use crate::answering::answer_line;
 use crate::status::Status;
@@ -109,6 +112,14 @@ impl Serving {
             → IfErr result (λ why. Stops D.images D.moment D.images_since disk.old disk.new why self.old.waiting
             (ended_lines (before ++ bytes.now)) s (stand (M.history machine.old) steps.old)
             (stand (M.history machine.new) steps.new) held (K.held snk.new)) }
+        ensures upheld { (before : List ℕ) (s : Stand) (held : Option (List ℕ)) (log : Option (List Stamp))
+            (lines others : List (List ℕ)) → lines ≡ ended_lines (before ++ bytes.now) ++ others
+            → Served self.old.waiting before s (stand (M.history machine.old) steps.old) held (K.held snk.old)
+            self.old.line.items self.old.replies.items
+            → Upholds (AreReplies (AreSaidFirst lines) s.history) (D.moment disk.old)
+            (D.images_since disk.old) (M.history machine.old).commands held log (K.log snk.old)
+            → Upholds (AreReplies (AreSaidFirst lines) s.history) (D.moment disk.new)
+            (D.images_since disk.new) (M.history machine.new).commands held log (K.log snk.new) }
         ensures empty { OnOk result (self.new.replies.items ≡ []) }
         ensures waiting { self.new.waiting ≡ self.old.waiting }
         ensures disk { OnOk result (OnDisk D.images D.moment D.images_since disk.old disk.new
@@ -126,7 +137,7 @@ impl Serving {
                 Err(stop) => return Err(stop),
             }
         }
-        match self.flush(snk) {
+        match self.flush(disk, snk) {
             Ok(()) => Ok(()),
             Err(_) => Err(Stop::WriteFault),
         }
@@ -155,6 +166,14 @@ impl Serving {
             → IfErr result (λ why. Stops D.images D.moment D.images_since disk.old disk.new why self.old.waiting
             (ended_lines (before ++ bytes.now)) s (stand (M.history machine.old) steps.old)
             (stand (M.history machine.new) steps.new) held (K.held snk.new)) }
+        ensures upheld { (before : List ℕ) (s : Stand) (held : Option (List ℕ)) (log : Option (List Stamp))
+            (lines others : List (List ℕ)) → lines ≡ ended_lines (before ++ bytes.now) ++ others
+            → Served self.old.waiting before s (stand (M.history machine.old) steps.old) held (K.held snk.old)
+            self.old.line.items self.old.replies.items
+            → Upholds (AreReplies (AreSaidFirst lines) s.history) (D.moment disk.old)
+            (D.images_since disk.old) (M.history machine.old).commands held log (K.log snk.old)
+            → Upholds (AreReplies (AreSaidFirst lines) s.history) (D.moment disk.new)
+            (D.images_since disk.new) (M.history machine.new).commands held log (K.log snk.new) }
         ensures few { OnOk result (vec_len self.new.replies ≤ self.new.waiting) }
         ensures waiting { self.new.waiting ≡ self.old.waiting }
         ensures disk { OnOk result (OnDisk D.images D.moment D.images_since disk.old disk.new
@@ -172,7 +191,7 @@ impl Serving {
                 Ok(()) => Ok(at + 1),
                 Err(stop) => Err(stop),
             },
-            None => match self.feed_piece(bytes, snk) {
+            None => match self.feed_piece(bytes, disk, snk) {
                 Ok(()) => Ok(bytes.len()),
                 Err(stop) => Err(stop),
             },
@@ -203,6 +222,14 @@ impl Serving {
             → IfErr result (λ why. Stops D.images D.moment D.images_since disk.old disk.new why self.old.waiting
             (ended_lines (before ++ (piece.now ++ 10 ∷ []))) s (stand (M.history machine.old) steps.old)
             (stand (M.history machine.new) steps.new) held (K.held snk.new)) }
+        ensures upheld { (before : List ℕ) (s : Stand) (held : Option (List ℕ)) (log : Option (List Stamp))
+            (lines others : List (List ℕ)) → lines ≡ ended_lines (before ++ (piece.now ++ 10 ∷ [])) ++ others
+            → Served self.old.waiting before s (stand (M.history machine.old) steps.old) held (K.held snk.old)
+            self.old.line.items self.old.replies.items
+            → Upholds (AreReplies (AreSaidFirst lines) s.history) (D.moment disk.old)
+            (D.images_since disk.old) (M.history machine.old).commands held log (K.log snk.old)
+            → Upholds (AreReplies (AreSaidFirst lines) s.history) (D.moment disk.new)
+            (D.images_since disk.new) (M.history machine.new).commands held log (K.log snk.new) }
         ensures few { OnOk result (vec_len self.new.replies ≤ self.new.waiting) }
         ensures waiting { self.new.waiting ≡ self.old.waiting }
         ensures disk { OnOk result (OnDisk D.images D.moment D.images_since disk.old disk.new
@@ -213,14 +240,19 @@ impl Serving {
         ensures disk_later { D.faults disk.old ≤ D.faults disk.new }
         ensures disk_cause { result ≡ Err Stop.DiskFault → HasRisen (D.faults disk.old) (D.faults disk.new) }
     {
-        match self.feed_piece(piece, snk) {
+        match self.feed_piece(piece, disk, snk) {
             Ok(()) => self.end_line(machine, disk, snk, steps),
             Err(stop) => Err(stop),
         }
     }
 
     /// Takes bytes without a line feed. Where memory is short, the replies that are not written yet are.
-    fn feed_piece<K: Sink>(&mut self, piece: &[u8], snk: &mut K) -> Result<(), Stop>
+    fn feed_piece<D: Disk, K: Sink>(
+        &mut self,
+        piece: &[u8],
+        disk: &D,
+        snk: &mut K,
+    ) -> Result<(), Stop>
         requires plain { IsPlain piece.now }
         ensures fed { (before : List ℕ) (s t : Stand) (held : Option (List ℕ))
             → Served self.old.waiting before s t held (K.held snk.old) self.old.line.items self.old.replies.items
@@ -233,13 +265,15 @@ impl Serving {
             held (K.held snk.new)) }
         ensures memory { IfErr result (λ why. why ≡ Stop.OutOfMemory) }
         ensures replies { OnOk result (self.new.replies.items ≡ self.old.replies.items) }
+        ensures noted { (s : List ℕ) → K.held snk.old ≡ Some s → Notes (D.moment disk.now)
+            (length s + length self.old.replies.items) (K.log snk.old) (K.log snk.new) }
         ensures waiting { self.new.waiting ≡ self.old.waiting }
         ensures later { K.faults snk.old ≤ K.faults snk.new }
     {
         match self.keep_all(piece) {
             Ok(()) => Ok(()),
             Err(_) => {
-                self.give_up(snk);
+                self.give_up(disk, snk);
                 Err(Stop::OutOfMemory)
             }
         }
@@ -267,6 +301,14 @@ impl Serving {
             → IfErr result (λ why. Stops D.images D.moment D.images_since disk.old disk.new why self.old.waiting
             (ended_lines (before ++ 10 ∷ [])) s (stand (M.history machine.old) steps.old)
             (stand (M.history machine.new) steps.new) held (K.held snk.new)) }
+        ensures upheld { (before : List ℕ) (s : Stand) (held : Option (List ℕ)) (log : Option (List Stamp))
+            (lines others : List (List ℕ)) → lines ≡ ended_lines (before ++ 10 ∷ []) ++ others
+            → Served self.old.waiting before s (stand (M.history machine.old) steps.old) held (K.held snk.old)
+            self.old.line.items self.old.replies.items
+            → Upholds (AreReplies (AreSaidFirst lines) s.history) (D.moment disk.old)
+            (D.images_since disk.old) (M.history machine.old).commands held log (K.log snk.old)
+            → Upholds (AreReplies (AreSaidFirst lines) s.history) (D.moment disk.new)
+            (D.images_since disk.new) (M.history machine.new).commands held log (K.log snk.new) }
         ensures few { OnOk result (vec_len self.new.replies ≤ self.new.waiting) }
         ensures waiting { self.new.waiting ≡ self.old.waiting }
         ensures disk { OnOk result (OnDisk D.images D.moment D.images_since disk.old disk.new
@@ -278,12 +320,12 @@ impl Serving {
         ensures disk_cause { result ≡ Err Stop.DiskFault → HasRisen (D.faults disk.old) (D.faults disk.new) }
     {
         match self.answer(machine, disk, steps) {
-            Ok(()) => match self.flush_many(snk) {
+            Ok(()) => match self.flush_many(disk, snk) {
                 Ok(()) => Ok(()),
                 Err(_) => Err(Stop::WriteFault),
             },
             Err(halt) => {
-                self.give_up(snk);
+                self.give_up(disk, snk);
                 Err(stop_at(halt))
             }
         }
@@ -310,6 +352,14 @@ impl Serving {
             → IfErr result (λ why. Stops D.images D.moment D.images_since disk.old disk.new why self.old.waiting
             (lines_of bytes) s (stand (M.history machine.old) steps.old)
             (stand (M.history machine.new) steps.new) held (K.held snk.new)) }
+        ensures upheld { (before : List ℕ) (s : Stand) (held : Option (List ℕ)) (log : Option (List Stamp))
+            (lines others : List (List ℕ)) → lines ≡ lines_of before ++ others
+            → Served self.old.waiting before s (stand (M.history machine.old) steps.old) held (K.held snk.old)
+            self.old.line.items self.old.replies.items
+            → Upholds (AreReplies (AreSaidFirst lines) s.history) (D.moment disk.old)
+            (D.images_since disk.old) (M.history machine.old).commands held log (K.log snk.old)
+            → Upholds (AreReplies (AreSaidFirst lines) s.history) (D.moment disk.new)
+            (D.images_since disk.new) (M.history machine.new).commands held log (K.log snk.new) }
         ensures disk { OnOk result (OnDisk D.images D.moment D.images_since disk.old disk.new
             (M.history machine.old).commands (M.history machine.new).commands []) }
         ensures later { K.faults snk.old ≤ K.faults snk.new }
@@ -321,7 +371,7 @@ impl Serving {
             return Ok(());
         }
         match self.answer(machine, disk, steps) {
-            Ok(()) => match self.flush(snk) {
+            Ok(()) => match self.flush(disk, snk) {
                 Ok(()) => Ok(()),
                 Err(_) => Err(Stop::WriteFault),
             },
@@ -361,22 +411,25 @@ impl Serving {
         }
     }
 
-    /// Writes what is not written yet.
-    fn flush<K: Sink>(&mut self, snk: &mut K) -> Result<(), Failed>
+    /// Writes what is not written yet. It counts from this moment of the disk on.
+    fn flush<D: Disk, K: Sink>(&mut self, disk: &D, snk: &mut K) -> Result<(), Failed>
         ensures line { self.new.line.items ≡ self.old.line.items }
         ensures waiting { self.new.waiting ≡ self.old.waiting }
         ensures written { OnOk result (Appends (K.held snk.old) (K.held snk.new) self.old.replies.items) }
         ensures empty { OnOk result (self.new.replies.items ≡ []) }
         ensures part { OnErr result (AppendsPart (K.held snk.old) (K.held snk.new) self.old.replies.items) }
+        ensures noted { (s : List ℕ) → K.held snk.old ≡ Some s → Notes (D.moment disk.now)
+            (length s + length self.old.replies.items) (K.log snk.old) (K.log snk.new) }
         ensures cause { HasCause (K.faults snk.old) (K.faults snk.new) result }
     {
+        snk.show(disk);
         write_whole(snk, &self.replies)?;
         self.replies.clear();
         Ok(())
     }
 
     /// Writes what is not written yet, where it is more than may wait.
-    fn flush_many<K: Sink>(&mut self, snk: &mut K) -> Result<(), Failed>
+    fn flush_many<D: Disk, K: Sink>(&mut self, disk: &D, snk: &mut K) -> Result<(), Failed>
         ensures fed { (bytes : List ℕ) (s t : Stand) (held : Option (List ℕ))
             → Served self.old.waiting bytes s t held (K.held snk.old) self.old.line.items self.old.replies.items
             → OnOk result (Served self.old.waiting bytes s t held (K.held snk.new)
@@ -386,22 +439,26 @@ impl Serving {
             → OnErr result (Stopped stop.WriteFault self.old.waiting (ended_lines bytes) s t []
             held (K.held snk.new)) }
         ensures few { OnOk result (vec_len self.new.replies ≤ self.new.waiting) }
+        ensures noted { (s : List ℕ) → K.held snk.old ≡ Some s → Notes (D.moment disk.now)
+            (length s + length self.old.replies.items) (K.log snk.old) (K.log snk.new) }
         ensures waiting { self.new.waiting ≡ self.old.waiting }
         ensures cause { HasCause (K.faults snk.old) (K.faults snk.new) result }
     {
         if self.replies.len() <= self.waiting {
             return Ok(());
         }
-        self.flush(snk)
+        self.flush(disk, snk)
     }
 
     /// Writes what is not written yet, as far as the sink takes it.
-    fn give_up<K: Sink>(&mut self, snk: &mut K)
+    fn give_up<D: Disk, K: Sink>(&mut self, disk: &D, snk: &mut K)
         ensures front { AppendsFront (K.held snk.old) (K.held snk.new) self.old.replies.items }
+        ensures noted { (s : List ℕ) → K.held snk.old ≡ Some s → Notes (D.moment disk.now)
+            (length s + length self.old.replies.items) (K.log snk.old) (K.log snk.new) }
         ensures waiting { self.new.waiting ≡ self.old.waiting }
         ensures later { K.faults snk.old ≤ K.faults snk.new }
     {
-        let _ = self.flush(snk);
+        let _ = self.flush(disk, snk);
     }
 
     /// Adds bytes to the line, as far as the line is kept.

@@ -3,7 +3,9 @@
 ghost use Rattle.std.specs.Prelude.{◌≡◌, ◌≤◌};
 ghost use Rattle.serv_disk.specs.Faults.{HasRisen};
 ghost use Rattle.serv_top.specs.Machine.{stand};
+ghost use Rattle.serv_top.specs.Lines.{lines_of};
 ghost use Rattle.serv_top.specs.Outcome.{Ends};
+ghost use Rattle.serv_top.specs.Upheld.{AreSaidFirst, IsAcknowledged};
 
 use crate::serving::Serving;
 use crate::status::Status;
@@ -34,6 +36,9 @@ pub(crate) fn serve<D: Disk, M: Machine<D>, S: Source, K: Sink, L: Ledger>(
     ensures ends { Ends D.images D.moment D.images_since disk.old disk.new waiting result
         (stand (M.history machine.old) steps.old) (stand (M.history machine.new) steps.new)
         (S.left src.old) (S.left src.new) (K.held snk.old) (K.held snk.new) }
+    ensures acknowledged { IsAcknowledged (λ taken. AreSaidFirst (lines_of taken)) (D.moment disk.new)
+        (D.images_since disk.new) (M.history machine.new).commands (M.history machine.old)
+        (S.left src.old) (S.left src.new) (K.held snk.old) (K.log snk.old) (K.log snk.new) }
     ensures read { result ≡ Status.ReadFault → HasRisen (S.faults src.old) (S.faults src.new) }
     ensures write { result ≡ Status.WriteFault → HasRisen (K.faults snk.old) (K.faults snk.new) }
     ensures disk { result ≡ Status.DiskFault → HasRisen (D.faults disk.old) (D.faults disk.new) }

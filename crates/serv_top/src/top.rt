@@ -121,7 +121,8 @@ pub fn run<S: Source, K: Sink, D: Disk, G: Doors, L: Ledger>(
         → (IsUnopened D.seen D.images D.moment D.images_since D.faults disk.old disk.new result
         steps.old steps.new × (src.new ≡ src.old) × (snk.new ≡ snk.old))
         ⊎ IsApplied D.seen D.images D.moment D.images_since disk.old disk.new result steps.old steps.new
-        (S.left src.old) (S.left src.new) (K.held snk.old) (K.held snk.new) }
+        (S.left src.old) (S.left src.new) (K.held snk.old) (K.held snk.new)
+        (K.log snk.old) (K.log snk.new) }
     ensures not_journal { (s : List ℕ) → D.seen disk.old ≡ Some s → IsNoJournal s
         → task_in (map (λ w. w.now) words.now) ≡ Some task.Apply → IsOnly Status.NotJournal result }
     ensures damaged { (s : List ℕ) (place : ℕ) → D.seen disk.old ≡ Some s → IsDamagedAt place s
@@ -134,7 +135,8 @@ pub fn run<S: Source, K: Sink, D: Disk, G: Doors, L: Ledger>(
         → (IsUnopened D.seen D.images D.moment D.images_since D.faults disk.old disk.new result
         steps.old steps.new × (src.new ≡ src.old) × (snk.new ≡ snk.old))
         ⊎ IsImported D.seen D.images D.moment D.images_since disk.old disk.new result steps.old steps.new
-        (S.left src.old) (S.left src.new) (K.held snk.old) (K.held snk.new) }
+        (S.left src.old) (S.left src.new) (K.held snk.old) (K.held snk.new)
+        (K.log snk.old) (K.log snk.new) }
     ensures import_file { task_in (map (λ w. w.now) words.now) ≡ Some task.Import
         → HasFileFaults (D.seen disk.old) result }
 

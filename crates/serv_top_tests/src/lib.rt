@@ -14,6 +14,10 @@ mod journals;
 #[cfg(test)]
 mod links;
 #[cfg(test)]
+mod noted;
+#[cfg(test)]
+mod noting;
+#[cfg(test)]
 mod one_link;
 #[cfg(test)]
 mod reviews;

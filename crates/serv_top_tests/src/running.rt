@@ -82,17 +82,17 @@ fn run_counted<L: Ledger, S: Source, K: Sink, D: Disk, G: Doors>(
 }
 
 /// Runs the words over these objects.
-fn run_in_memory<G: Doors>(
+pub(crate) fn run_in_memory<K: Sink, G: Doors>(
     alloc: Global,
     given: &Given,
     src: &mut MemSource,
-    snk: &mut MemSink,
+    snk: &mut K,
     disk: &mut MemDisk,
     doors: &mut G,
 ) -> Status
     requires out { G.out doors.old ≡ 0 }
 {
-    run_counted::<Brand, MemSource, MemSink, MemDisk, G>(
+    run_counted::<Brand, MemSource, K, MemDisk, G>(
         alloc,
         Blank::new(1),
         given,
@@ -103,7 +103,7 @@ fn run_in_memory<G: Doors>(
     )
 }
 
-fn source_of(alloc: Global, given: &Given) -> Result<MemSource, AllocError> {
+pub(crate) fn source_of(alloc: Global, given: &Given) -> Result<MemSource, AllocError> {
     let input = given.input.to_vec(alloc)?;
     Ok(MemSource::new(input, given.reads.to_vec(alloc)?))
 }
@@ -116,7 +116,7 @@ fn sink_of(alloc: Global, given: &Given) -> Result<MemSink, OutOfMemory> {
 }
 
 /// A disk with room for some calls.
-fn disk_of(alloc: Global, given: &Given) -> Result<MemDisk, OutOfMemory> {
+pub(crate) fn disk_of(alloc: Global, given: &Given) -> Result<MemDisk, OutOfMemory> {
     let journal = given.journal.to_vec(alloc)?;
     let mut disk = MemDisk::new(journal, given.calls.to_vec(alloc)?)?;
     disk.reserve(64, 4096)?;

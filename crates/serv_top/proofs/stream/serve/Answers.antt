@@ -1,12 +1,20 @@
-use Rattle.std.proofs.Common.{◌≡◌, ◌+◌, ◌<◌, ◌≤◌, length, take, refl, arith}
+use Rattle.std.proofs.Common.{◌≡◌, ◌+◌, ◌<◌, ◌≤◌, ◌++◌, [], length, take, refl, sym, arith, append-nil}
+use Rattle.std.proofs.KnownBytes.{Consumes-trans}
 use Rattle.serv_machine.proofs.OnDiskLemmas.{disk_none, disk_more}
 use Rattle.serv_top.specs.Outcome.{input_limit}
-use Rattle.serv_top.proofs.Running.{running_none, running_more, ends_at_bytes, ends_done, ends_at_end}
+use Rattle.serv_top.specs.Lines.{ended_lines, lines_of}
+use Rattle.serv_top.proofs.GoingLemmas.{going_more, upheld_taken, upheld_end, acknowledged}
+use Rattle.serv_machine.proofs.UpheldLemmas.{upheld_none}
+use Rattle.serv_top.proofs.Running.{end_took, running_none, running_more, ends_at_bytes, ends_done, ends_at_end}
 use Rattle.serv_top.proofs.stream.serve.Goals as goal
 
 pub loop-taken-init : goal.loop-taken-init
 loop-taken-init g c = record {
   running = running_none _ _ _ _ _ _ _ c.new-serving.ensures.line c.new-serving.ensures.replies refl (omega arith);
+  going = record {
+    run = running_none _ _ _ _ _ _ _ c.new-serving.ensures.line c.new-serving.ensures.replies refl (omega arith);
+    upheld = upheld_none _ _ _ _ _ _;
+  };
   disk = disk_none g.D.Disk.images g.D.Disk.moment g.D.Disk.images_since c.args.disk.now _ _ refl
       (g.met.M.Machine.keeps c.args.machine.now c.args.disk.now c.requires) (g.met.D.Disk.only_now c.args.disk.now);
   ready = c.requires;
@@ -55,7 +63,12 @@ loop-taken-preserved g c =
     let within : c.loop-taken.taken + n ≤ input_limit = omega (arith, c.loop-taken-test.true, c.in-Ok.ensures.bound, c.min-most.ensures) in
     let long : length (take n c.read_some.new.room) ≡ n = c.in-Ok.ensures.count in
     let fed = rw c.loop-taken.invariant.waiting at c.in-Ok-feed_all.ensures.fed in
+    let going = c.loop-taken.invariant.going in
+    let bytes = take n c.read_some.new.room in
+    let upheld = rw c.loop-taken.invariant.waiting at c.feed_all.ensures.upheld in
     record {
+      going = going_more going bytes n _ _ _ _ _ _ _ _ long c.in-Ok.ensures.taken (fed going.run.taken _ _ going.run.served)
+          (upheld going.run.taken _ _ _ (ended_lines (going.run.taken ++ bytes)) [] (sym (append-nil _)) going.run.served (upheld_taken _ _ _ _ _ _ _ going.run.taken bytes going.upheld));
       running = running_more run (take n c.read_some.new.room) n _ _ _ _ _ long c.in-Ok.ensures.taken (fed run.taken _ _ run.served);
       disk = disk_more g.D.Disk.images g.D.Disk.moment g.D.Disk.images_since _ _ _ _ _ _ _ c.loop-taken.invariant.disk c.in-Ok-feed_all.ensures.disk;
       ready = c.in-Ok-feed_all.ensures.ready;
@@ -66,3 +79,38 @@ loop-taken-preserved g c =
       write_later = omega (arith, c.loop-taken.invariant.write_later, c.feed_all.ensures.later);
       disk_later = omega (arith, c.loop-taken.invariant.disk_later, c.feed_all.ensures.disk_later);
     }
+
+pub returns-in-Ok-finish-clause-acknowledged : goal.returns-in-Ok-finish-clause-acknowledged
+returns-in-Ok-finish-clause-acknowledged g c =
+    let going = c.loop-taken.invariant.going in
+    let none : c.in-Ok-eq0.field-0 ≡ 0 = omega (arith, c.in-Ok-eq0.field-0-test) in
+    let upheld = rw c.loop-taken.invariant.waiting at c.finish.ensures.upheld in
+    acknowledged _ _ _ _ _ _ _ _ _ going.run.taken (end_took going.run _ (rw none at c.in-Ok-eq0.ensures.taken))
+    (upheld going.run.taken _ _ _ (lines_of going.run.taken) [] (sym (append-nil _)) going.run.served (upheld_end _ _ _ _ _ _ _ going.run.taken going.upheld))
+
+pub returns-in-Err-finish-clause-acknowledged : goal.returns-in-Err-finish-clause-acknowledged
+returns-in-Err-finish-clause-acknowledged g c =
+    let going = c.loop-taken.invariant.going in
+    let none : c.in-Ok-eq0.field-0 ≡ 0 = omega (arith, c.in-Ok-eq0.field-0-test) in
+    let upheld = rw c.loop-taken.invariant.waiting at c.finish.ensures.upheld in
+    acknowledged _ _ _ _ _ _ _ _ _ going.run.taken (end_took going.run _ (rw none at c.in-Ok-eq0.ensures.taken))
+    (upheld going.run.taken _ _ _ (lines_of going.run.taken) [] (sym (append-nil _)) going.run.served (upheld_end _ _ _ _ _ _ _ going.run.taken going.upheld))
+
+pub returns-in-Err-feed_all-clause-acknowledged : goal.returns-in-Err-feed_all-clause-acknowledged
+returns-in-Err-feed_all-clause-acknowledged g c =
+    let going = c.loop-taken.invariant.going in
+    let bytes = take c.in-Ok.n c.read_some.new.room in
+    let upheld = rw c.loop-taken.invariant.waiting at c.feed_all.ensures.upheld in
+    acknowledged _ _ _ _ _ _ _ _ _ (going.run.taken ++ bytes) (Consumes-trans _ _ _ going.run.taken bytes going.run.took c.in-Ok.ensures.taken)
+    (upheld_end _ _ _ _ _ _ _ (going.run.taken ++ bytes)
+    (upheld going.run.taken _ _ _ (ended_lines (going.run.taken ++ bytes)) [] (sym (append-nil _)) going.run.served (upheld_taken _ _ _ _ _ _ _ going.run.taken bytes going.upheld)))
+
+pub returns-in-Err-clause-acknowledged : goal.returns-in-Err-clause-acknowledged
+returns-in-Err-clause-acknowledged g c =
+    let going = c.loop-taken.invariant.going in
+    acknowledged _ _ _ _ _ _ _ _ _ going.run.taken (rw c.in-Err.ensures.kept going.run.took) (upheld_end _ _ _ _ _ _ _ going.run.taken going.upheld)
+
+pub returns-clause-acknowledged : goal.returns-clause-acknowledged
+returns-clause-acknowledged g c =
+    let going = c.loop-taken.invariant.going in
+    acknowledged _ _ _ _ _ _ _ _ _ going.run.taken going.run.took (upheld_end _ _ _ _ _ _ _ going.run.taken going.upheld)

@@ -17,7 +17,7 @@ returns-in-Some-Apply-clause-full g c = λ s bytes told is task. c.apply.ensures
 pub returns-in-Some-Apply-clause-complete_apply : goal.returns-in-Some-Apply-clause-complete_apply
 returns-in-Some-Apply-clause-complete_apply g c = λ input s h a left short told is_history good reads writes disks task.
     complete_run g.D.Disk.seen g.D.Disk.images g.D.Disk.moment g.D.Disk.images_since g.D.Disk.faults c.args.disk.now c.apply.new.disk c.apply.result c.args.steps.now c.apply.new.steps
-    _ _ _ _ input s h a left short told is_history (good s (g.met.D.Disk.reads_image c.args.disk.now s told)) (λ is. reads (c.apply.ensures.read is)) (λ is. writes (c.apply.ensures.write is))
+    _ _ _ _ _ _ input s h a left short told is_history (good s (g.met.D.Disk.reads_image c.args.disk.now s told)) (λ is. reads (c.apply.ensures.read is)) (λ is. writes (c.apply.ensures.write is))
     (λ is. disks (c.apply.ensures.disk is)) disks c.apply.ensures.applied
 
 pub returns-in-Some-Show-clause-complete_show : goal.returns-in-Some-Show-clause-complete_show
@@ -28,7 +28,7 @@ returns-in-Some-Show-clause-complete_show g c = λ q s h a told is_history good 
 pub returns-in-Some-Import-clause-complete_import : goal.returns-in-Some-Import-clause-complete_import
 returns-in-Some-Import-clause-complete_import g c = λ input s h a left short told is_history good reads writes disks task.
     complete_import g.D.Disk.seen g.D.Disk.images g.D.Disk.moment g.D.Disk.images_since g.D.Disk.faults c.args.disk.now c.import.new.disk c.import.result c.args.steps.now c.import.new.steps
-    _ _ _ _ input s h a left short told is_history (good s (g.met.D.Disk.reads_image c.args.disk.now s told)) (λ is. reads (c.import.ensures.read is)) (λ is. writes (c.import.ensures.write is))
+    _ _ _ _ _ _ input s h a left short told is_history (good s (g.met.D.Disk.reads_image c.args.disk.now s told)) (λ is. reads (c.import.ensures.read is)) (λ is. writes (c.import.ensures.write is))
     (λ is. disks (c.import.ensures.disk is)) disks c.import.ensures.imported
 
 pub returns-in-Some-Serve-clause-complete_serve : goal.returns-in-Some-Serve-clause-complete_serve

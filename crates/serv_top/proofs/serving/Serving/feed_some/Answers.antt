@@ -1,7 +1,9 @@
-use Rattle.std.proofs.Common.{◌≡◌, ◌+◌, ◌++◌, ◌∷◌, [], take, drop, refl, sym, ◌∙◌}
+use Rattle.std.proofs.Common.{append-nil, ◌+◌, ◌++◌, [], take, drop, refl, sym, ◌∙◌}
 use Rattle.serv_machine.proofs.OnDiskLemmas.{disk_none}
 use Rattle.serv_top.proofs.PlainLemmas.{plain_before, plain_all, line_before, part_rest}
 use Rattle.serv_top.proofs.ServedLemmas.{stops_more}
+use Rattle.serv_machine.proofs.UpheldLemmas.{commands_kept}
+use Rattle.serv_top.proofs.AnsweredLemmas.{lines_written, lines_before}
 use Rattle.serv_top.proofs.serving.Serving.feed_some.Goals as goal
 
 pub feed_line-requires-clause-plain : goal.feed_line-requires-clause-plain
@@ -38,3 +40,31 @@ returns-in-Err-feed_piece-clause-stopped g c = λ before s held run. record {
   disk = disk_none g.D.Disk.images g.D.Disk.moment g.D.Disk.images_since c.args.disk.now _ _ refl
       (g.met.M.Machine.keeps c.args.machine.now c.args.disk.now c.requires.ready) (g.met.D.Disk.only_now c.args.disk.now);
 }
+
+pub returns-in-Ok-clause-upheld : goal.returns-in-Ok-clause-upheld
+returns-in-Ok-clause-upheld g c = λ before s held log lines others is run up.
+    let bytes = c.args.bytes.now in
+    let n = c.in-Some.at + 1 in
+    let front = line_before bytes c.in-Some.at (sym c.line_feed_in.ensures ∙ c.in-Some.is) in
+    let parted = lines_before (before ++ take n bytes) (drop n bytes) lines others (rw (sym (part_rest before bytes n)) at is) in
+    c.feed_line.ensures.upheld before s held log lines _ (rw front at parted) run up
+
+pub returns-in-Err-clause-upheld : goal.returns-in-Err-clause-upheld
+returns-in-Err-clause-upheld g c = λ before s held log lines others is run up.
+    let bytes = c.args.bytes.now in
+    let n = c.in-Some.at + 1 in
+    let front = line_before bytes c.in-Some.at (sym c.line_feed_in.ensures ∙ c.in-Some.is) in
+    let parted = lines_before (before ++ take n bytes) (drop n bytes) lines others (rw (sym (part_rest before bytes n)) at is) in
+    c.feed_line.ensures.upheld before s held log lines _ (rw front at parted) run up
+
+pub returns-in-Ok-feed_piece-clause-upheld : goal.returns-in-Ok-feed_piece-clause-upheld
+returns-in-Ok-feed_piece-clause-upheld g c = λ before s held log lines others is run up.
+    lines_written g.D.Disk.images g.D.Disk.moment g.D.Disk.images_since c.args.disk.now (g.met.D.Disk.only_now c.args.disk.now) _ before s _ held _ _ _ lines _ _ [] log _ _
+    run (lines_before before c.args.bytes.now lines others is) (sym (append-nil _))
+    (commands_kept _ _ (g.met.M.Machine.keeps c.args.machine.now c.args.disk.now c.requires.ready)) up c.feed_piece.ensures.noted
+
+pub returns-in-Err-feed_piece-clause-upheld : goal.returns-in-Err-feed_piece-clause-upheld
+returns-in-Err-feed_piece-clause-upheld g c = λ before s held log lines others is run up.
+    lines_written g.D.Disk.images g.D.Disk.moment g.D.Disk.images_since c.args.disk.now (g.met.D.Disk.only_now c.args.disk.now) _ before s _ held _ _ _ lines _ _ [] log _ _
+    run (lines_before before c.args.bytes.now lines others is) (sym (append-nil _))
+    (commands_kept _ _ (g.met.M.Machine.keeps c.args.machine.now c.args.disk.now c.requires.ready)) up c.feed_piece.ensures.noted

@@ -1,0 +1,121 @@
+-- What was answered stays on the disk.
+use Rattle.std.proofs.Common.{◌≡◌, ℕ, ◌+◌, ◌≤◌, List, [], ◌∷◌, ◌++◌, length, refl, sym, ap, subst, ◌∙◌, arith, ⊎_elim, inl, append-nil, append_assoc, length-append}
+use Rattle.std.specs.Prelude.{Option, Some, None}
+use Rattle.std.specs.Io.KnownBytes.{Appends}
+use Rattle.svc_world.specs.World.{Accepted}
+use Rattle.serv_disk.specs.Disks.{Each}
+use Rattle.serv_disk.specs.Stamps.{Stamp, AreAt, Notes}
+use Rattle.serv_disk.proofs.NotedLemmas.{adds_nil, adds_trans, held_after}
+use Rattle.serv_machine.specs.OnDisk.{HasHistory, IsAlong, IsLeft, OnDisk}
+use Rattle.serv_machine.specs.Upheld.{HasCommands, IsUpheld, AreUpheld, UpholdsFrom, Upholds}
+use Rattle.serv_machine.proofs.OnDiskLemmas.{along_after}
+
+-- ---- what a content has
+
+pub commands_here : (h h' list : List Accepted) (file : List ℕ) → h' ≡ h ++ list → HasHistory h' file → HasCommands h file
+commands_here h h' list file is whole = record { later = list ++ []; along = along_after h list [] file (subst (λ x. HasHistory x file) is whole) }
+
+-- after a call of the disk, also one that failed
+pub commands_left : (images : List ℕ → Type 0) (h h' list pending : List Accepted) → h' ≡ h ++ list → IsLeft images h' pending → Each images (HasCommands h)
+commands_left images h h' list [] is left = λ c image. commands_here h h' list c is (left c image)
+commands_left images h h' list (a ∷ more) is left = λ c image. record {
+  later = list ++ a ∷ [];
+  along = along_after h list (a ∷ []) c (subst (λ x. IsAlong x (a ∷ []) c) is (inl (left c image)));
+}
+
+pub commands_kept : (images : List ℕ → Type 0) (h : List Accepted) → Each images (HasHistory h) → Each images (HasCommands h)
+commands_kept images h each = λ c image. commands_here h h [] c (sym (append-nil h)) (each c image)
+
+-- ---- what a sink notes
+
+-- the moment at which it was shown the disk
+pub notes_at : (log log' : Option (List Stamp)) (mark at most : ℕ) → ((stamps : List Stamp) → log ≡ Some stamps → mark ≡ at) → Notes mark most log log' → Notes at most log log'
+notes_at None log' mark at most is n = record { stamps = []; added = tt; each = tt }
+notes_at (Some stamps) log' mark at most is n = subst (λ t. Notes t most (Some stamps) log') (is stamps refl) n
+
+-- ---- writes that are upheld
+
+pub upheld_none : (Covers : ℕ → List Accepted → Type 0) (moment : ℕ) (since : ℕ → List ℕ → Type 0) (now : List Accepted) (held : Option (List ℕ)) (log : Option (List Stamp))
+    → Upholds Covers moment since now held log log
+upheld_none Covers moment since now held log = λ s told. record { writes = []; noted = adds_nil log; each = tt }
+
+writes_both : (Covers : ℕ → List Accepted → Type 0) (moment : ℕ) (since : ℕ → List ℕ → Type 0) (now : List Accepted) (base : ℕ) (xs ys : List Stamp)
+    → AreUpheld Covers moment since now base xs → AreUpheld Covers moment since now base ys → AreUpheld Covers moment since now base (xs ++ ys)
+writes_both Covers moment since now base [] ys all more = more
+writes_both Covers moment since now base (x ∷ xs) ys all more = (all.0, writes_both Covers moment since now base xs ys all.1 more)
+
+-- of more requests these are the first too
+module _ (Covers Wider : ℕ → List Accepted → Type 0) (moment : ℕ) (since : ℕ → List ℕ → Type 0) (now : List Accepted) (then : (bytes : ℕ) (commands : List Accepted) → Covers bytes commands → Wider bytes commands) where
+  writes_wider : (base : ℕ) (writes : List Stamp) → AreUpheld Covers moment since now base writes → AreUpheld Wider moment since now base writes
+  writes_wider base [] all = tt
+  writes_wider base (w ∷ writes) all =
+      let is = all.0 in (
+        record { bytes = is.bytes; commands = is.commands; covers = then is.bytes is.commands is.covers; within = is.within; kept = is.kept; past = is.past; rest = is.rest; now_is = is.now_is },
+        writes_wider base writes all.1,
+      )
+
+  pub upheld_wider : (held : Option (List ℕ)) (log log' : Option (List Stamp)) → Upholds Covers moment since now held log log' → Upholds Wider moment since now held log log'
+  upheld_wider held log log' up = λ s told. let all = up s told in record { writes = all.writes; noted = all.noted; each = writes_wider (length s) all.writes all.each }
+
+-- the disk's calls go on
+module _ {D : Type 0} (images : D → List ℕ → Type 0) (moment : D → ℕ) (images_since : D → ℕ → List ℕ → Type 0) (old new : D) (now now' pending : List Accepted)
+    (disk : OnDisk images moment images_since old new now now' pending) (Covers : ℕ → List Accepted → Type 0) where
+  write_later : (base : ℕ) (w : Stamp) → IsUpheld Covers (moment old) (images_since old) now base w → IsUpheld Covers (moment new) (images_since new) now' base w
+  write_later base w is =
+      let more : List Accepted = disk.list ++ pending in
+      record {
+        bytes = is.bytes;
+        commands = is.commands;
+        covers = is.covers;
+        within = is.within;
+        kept = λ c left.
+            ⊎_elim (λ past. is.kept c past) (λ along. record { later = is.rest ++ more; along = along_after is.commands is.rest more c (subst (λ x. IsAlong x more c) is.now_is along) })
+            (disk.moments.before w.at c is.past left);
+        past = omega (arith, is.past, disk.moments.later);
+        rest = is.rest ++ disk.list;
+        now_is = disk.accepted ∙ ap (λ x. x ++ disk.list) is.now_is ∙ append_assoc is.commands is.rest disk.list;
+      }
+
+  writes_later : (base : ℕ) (writes : List Stamp) → AreUpheld Covers (moment old) (images_since old) now base writes → AreUpheld Covers (moment new) (images_since new) now' base writes
+  writes_later base [] all = tt
+  writes_later base (w ∷ writes) all = (write_later base w all.0, writes_later base writes all.1)
+
+  pub upheld_later : (held : Option (List ℕ)) (log log' : Option (List Stamp)) → Upholds Covers (moment old) (images_since old) now held log log' → Upholds Covers (moment new) (images_since new) now' held log log'
+  upheld_later held log log' up = λ s told. let all = up s told in record { writes = all.writes; noted = all.noted; each = writes_later (length s) all.writes all.each }
+
+-- replies are written while the disk is as it is
+module _ {D : Type 0} (images : D → List ℕ → Type 0) (moment : D → ℕ) (images_since : D → ℕ → List ℕ → Type 0) (d : D) (only : (c : List ℕ) → images_since d (moment d) c → images d c)
+    (Covers : ℕ → List Accepted → Type 0) (now commands rest : List Accepted) (now_is : now ≡ commands ++ rest) (has : Each (images d) (HasCommands commands)) (bytes : ℕ) (covers : Covers bytes commands) where
+  writes_now : (base most : ℕ) → most ≤ base + bytes → (writes : List Stamp) → AreAt (moment d) most writes → AreUpheld Covers (moment d) (images_since d) now base writes
+  writes_now base most small [] all = tt
+  writes_now base most small (w ∷ writes) all = (
+    record {
+      bytes = bytes;
+      commands = commands;
+      covers = covers;
+      within = omega (arith, small, all.1);
+      kept = λ c left. has c (only c (subst (λ t. images_since d t c) all.0 left));
+      past = omega (arith, all.0);
+      rest = rest;
+      now_is = now_is;
+    },
+    writes_now base most small writes all.2,
+  )
+
+  from_noted : (base most : ℕ) → most ≤ base + bytes → (log log' log'' : Option (List Stamp)) → UpholdsFrom Covers (moment d) (images_since d) now base log log'
+      → Notes (moment d) most log' log'' → UpholdsFrom Covers (moment d) (images_since d) now base log log''
+  from_noted base most small log log' log'' up notes = record {
+    writes = up.writes ++ notes.stamps;
+    noted = adds_trans log log' log'' up.writes notes.stamps up.noted notes.added;
+    each = writes_both Covers (moment d) (images_since d) now base up.writes notes.stamps up.each (writes_now base most small notes.stamps notes.each);
+  }
+
+  -- after what was written before, a text that ends within the replies
+  pub upheld_written : (held held' : Option (List ℕ)) (written text : List ℕ) (log log' log'' : Option (List Stamp)) → Appends held held' written → length written + length text ≤ bytes
+      → Upholds Covers (moment d) (images_since d) now held log log' → ((x : List ℕ) → held' ≡ Some x → Notes (moment d) (length x + length text) log' log'')
+      → Upholds Covers (moment d) (images_since d) now held log log''
+  upheld_written held held' written text log log' log'' wrote small up notes = λ s told.
+      let most : ℕ = length (s ++ written) + length text in
+      let front = length-append s written in
+      let fits : most ≤ length s + bytes = omega (arith, front, small) in
+      from_noted (length s) most fits log log' log'' (up s told) (notes (s ++ written) (held_after held held' s written told wrote))

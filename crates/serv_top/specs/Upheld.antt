@@ -1,0 +1,29 @@
+-- Which bytes that are written answer which requests, and the commands that these bring.
+use Rattle.std.specs.Prelude.{◌≡◌, ℕ, List, ◌++◌, length, Option}
+use Rattle.std.specs.Io.KnownBytes.{Consumes}
+use Rattle.svc_world.specs.World.{Accepted}
+use Rattle.serv_disk.specs.Stamps.{Stamp}
+use Rattle.serv_machine.specs.History.{History}
+use Rattle.serv_machine.specs.Upheld.{Upholds}
+use Rattle.serv_top.specs.Machine.{Said}
+use Rattle.serv_top.specs.Replies.{Say, replies_to, history_after_all}
+
+-- what some first ones of these lines say
+pub record AreSaidFirst (lines : List (List ℕ)) (said : List Said) : Type 0 where
+  pub acted : List (List ℕ)
+  pub others : List (List ℕ)
+  pub lines_are : lines ≡ acted ++ others
+  pub say : Say acted said
+
+-- so many bytes are the replies to some first requests over a history, after which these commands are accepted
+pub record AreReplies (First : List Said → Type 0) (h : History) (bytes : ℕ) (commands : List Accepted) : Type 0 where
+  pub said : List Said
+  pub first : First said
+  pub bytes_are : bytes ≡ length (replies_to h said)
+  pub commands_are : commands ≡ (history_after_all h said).commands
+
+-- of a run that took its requests from a source, over a history: each write that it noted is upheld
+pub record IsAcknowledged (First : List ℕ → List Said → Type 0) (moment : ℕ) (since : ℕ → List ℕ → Type 0) (now : List Accepted) (h : History) (left left' held : Option (List ℕ)) (log log' : Option (List Stamp)) : Type 0 where
+  pub taken : List ℕ
+  pub took : Consumes left left' taken
+  pub upheld : Upholds (AreReplies (First taken) h) moment since now held log log'

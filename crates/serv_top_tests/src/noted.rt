@@ -1,0 +1,45 @@
+//! From which moment of the disk on a reply counts.
+
+use crate::noting::{Noted, Noting};
+use crate::running::{NEW_JOURNAL, disk_of, over, run_in_memory, source_of};
+use serv_disk::{CalmDoors, Disk};
+use serv_top::Status;
+use std::alloc::Global;
+use svc_base::OutOfMemory;
+
+/// A command, the same again, and an empty line.
+const LINES: &[u8] = b"k1 day 2024-02-01\nk1 day 2024-02-01\n\n";
+
+/// What is said to them.
+const SAID: &[u8] = b"ok 1\nok 1\nbad 0\n";
+
+/// Whether these are three writes, each of one of the replies, that count from this moment.
+fn are_noted(writes: &[Noted], at: u64) -> bool {
+    writes
+        == [
+            Noted { at, upto: 5 },
+            Noted { at, upto: 10 },
+            Noted { at, upto: 16 },
+        ]
+        .as_slice()
+}
+
+/// Whether each of the three replies counts from the moment at which the command's last sync had been made: no further call
+/// of the disk came.
+fn is_noted_behind(alloc: Global) -> Result<bool, OutOfMemory> {
+    let given = over(&["j", "apply"], NEW_JOURNAL, LINES);
+    let mut src = source_of(alloc, &given)?;
+    let mut snk = Noting::new(alloc);
+    let mut disk = disk_of(alloc, &given)?;
+    let mut doors = CalmDoors::new(alloc, Vec::new(alloc))?;
+    let begun = disk.clock();
+    let status = run_in_memory(alloc, &given, &mut src, &mut snk, &mut disk, &mut doors);
+    let at = disk.clock();
+    let replied = status == Status::Done && snk.content() == SAID;
+    Ok(replied && begun < at && are_noted(snk.writes(), at))
+}
+
+#[test]
+fn a_reply_counts_once_its_command_is_on_the_disk(rt: HostRuntime) {
+    assert!(rt; matches!(is_noted_behind(rt.alloc()), Ok(true)));
+}
