@@ -15,6 +15,8 @@ mod order;
 #[cfg(test)]
 mod requests;
 #[cfg(test)]
+mod spelling;
+#[cfg(test)]
 mod terms;
 #[cfg(test)]
 mod texts;

@@ -1,3 +1,4 @@
 pub mod Fields
 pub mod Values
+pub mod Kept
 pub mod Forms

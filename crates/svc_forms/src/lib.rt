@@ -6,9 +6,13 @@ mod building;
 mod field;
 mod form;
 mod places;
+mod spelling;
 mod value;
+mod values;
 
 pub use building::{command_of, query_of};
 pub use field::{Field, FieldKind};
 pub use form::{Form, MAX_FIELDS, Question, form_named, question_named};
+pub use spelling::{values_of, values_of_query};
 pub use value::{Value, read_value};
+pub use values::Values;
