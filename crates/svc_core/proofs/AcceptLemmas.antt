@@ -35,18 +35,18 @@ use Rattle.svc_world.proofs.HistoryLemmas.{accepted_keeps}
 use Rattle.svc_world.proofs.BoardWorlds.{boarding}
 use Rattle.svc_loan.specs.Kept.{KeptLoan}
 use Rattle.svc_loan.specs.Loans.{find_kept, OfLoan, held_in}
-use Rattle.svc_core.specs.declared.position.Position.{Position}
+use Rattle.svc_custody.specs.declared.position.Position.{Position}
 use Rattle.svc_rules.specs.declared.scope.Scope.TheVariants as scope
-use Rattle.svc_core.specs.Appending.{MayAppend, MayAppendAll, IsCashOf, rows_along}
-use Rattle.svc_core.specs.Cash.{IsKeptIn}
-use Rattle.svc_core.specs.Positions.{CanRead, IsPosition, IsLine, position, position_of, no_position, line_after}
+use Rattle.svc_custody.specs.Appending.{MayAppend, MayAppendAll, IsCashOf, rows_along}
+use Rattle.svc_custody.specs.Cash.{IsKeptIn}
+use Rattle.svc_custody.specs.Positions.{CanRead, IsPosition, IsLine, position, position_of, no_position, line_after}
 use Rattle.svc_core.specs.Rows.{IsCash}
 use Rattle.svc_rules.specs.Scope.{scope_of}
 use Rattle.svc_rules.proofs.RuleLemmas.{find-held}
-use Rattle.svc_core.proofs.SameLemmas.{SameReports, rows_changed, rows_boarded}
-use Rattle.svc_core.proofs.PositionLemmas.{all_held, position_within}
-use Rattle.svc_core.proofs.LineLemmas.{line_over, custody_is, line_within, line_changed, line_boarded}
-use Rattle.svc_core.proofs.AppendLemmas.{next_after, earlier_before, cash_within, along_is}
+use Rattle.svc_custody.proofs.SameLemmas.{SameReports, rows_changed, rows_boarded}
+use Rattle.svc_custody.proofs.PositionLemmas.{all_held, position_within}
+use Rattle.svc_custody.proofs.LineLemmas.{line_over, custody_is, line_within, line_changed, line_boarded}
+use Rattle.svc_custody.proofs.AppendLemmas.{next_after, earlier_before, cash_within, along_is}
 
 -- ---- the loans of a sound world can be read, and the line lies within the limits
 

@@ -26,7 +26,7 @@ use Rattle.svc_loan.specs.Kept.{KeptLoan}
 use Rattle.svc_loan.specs.Loans.{KeptLoans, OfLoan, find_kept, held_in, closed_in, remitted_in}
 use Rattle.svc_loan.specs.Closed.{months_cost, closed_cost}
 use Rattle.svc_loan.proofs.KeptLemmas.{of_found, found_of}
-use Rattle.svc_core.specs.Cash.{IsKeptIn}
+use Rattle.svc_custody.specs.Cash.{IsKeptIn}
 use Rattle.svc_core.specs.State.{world_of, IsState}
 use Rattle.svc_core.specs.Costs.{changing_cost, entering_cost}
 use Rattle.svc_core.specs.Changing.{dues_since, world_with}

@@ -30,7 +30,7 @@ use Rattle.svc_world.proofs.QuietWorlds.{after_month}
 use Rattle.svc_world.proofs.ClosedWorlds.{closing, closing_may, close_keeps}
 use Rattle.svc_loan.specs.Kept.{KeptLoan, HasMonth}
 use Rattle.svc_loan.specs.Loans.{KeptLoans, MayCloseMonth, closed_by, held_in, closed_in, remitted_in}
-use Rattle.svc_core.specs.Cash.{IsKeptIn}
+use Rattle.svc_custody.specs.Cash.{IsKeptIn}
 use Rattle.svc_core.specs.Reported.{IsClosedFor, AreSent}
 use Rattle.svc_core.specs.State.{world_of, IsState}
 use Rattle.svc_core.proofs.EveryoneLemmas.{of_held, kept_by}

@@ -17,7 +17,7 @@ use Rattle.svc_world.specs.World.{World, Accepted, accepted, first_world, after,
 use Rattle.svc_world.specs.Judging.{judged, Fresh, IsHistoryFrom, IsHistory}
 use Rattle.svc_world.specs.Custody.{totals_of, totals_before, rows_between, rows_made, rows_from, rows_in, custody_of}
 use Rattle.svc_world.proofs.LawLemmas.{are_lawful}
-use Rattle.svc_core.specs.Positions.{positions_of}
+use Rattle.svc_custody.specs.Positions.{positions_of}
 use Rattle.svc_core.specs.Rows.{IsCash}
 
 -- ---- one fresh command more

@@ -19,7 +19,7 @@ use Rattle.svc_world.proofs.DayWorlds.{day_later, day_none, none_pending}
 use Rattle.svc_loan.specs.Kept.{KeptLoan}
 use Rattle.svc_loan.specs.Loans.{KeptLoans, held_in, closed_in, remitted_in, advance_cost}
 use Rattle.svc_loan.proofs.EachLemmas.{held_mapped}
-use Rattle.svc_core.specs.Cash.{IsKeptIn}
+use Rattle.svc_custody.specs.Cash.{IsKeptIn}
 use Rattle.svc_core.specs.Costs.{advancing_cost}
 use Rattle.svc_core.specs.State.{world_of, IsState}
 

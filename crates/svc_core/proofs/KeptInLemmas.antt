@@ -18,7 +18,7 @@ use Rattle.svc_world.proofs.LoanListLemmas.{KeepsNumber, numbers_of, changed_num
 use Rattle.svc_world.proofs.ChangedWorlds.{closed_months}
 use Rattle.svc_loan.specs.Kept.{KeptLoan}
 use Rattle.svc_loan.specs.Loans.{find_kept, held_in, closed_in, remitted_in}
-use Rattle.svc_core.specs.Cash.{IsKeptIn}
+use Rattle.svc_custody.specs.Cash.{IsKeptIn}
 use Rattle.svc_core.specs.Changing.{dues_since}
 use Rattle.svc_rules.proofs.RuleLemmas.{find-held}
 

@@ -1,7 +1,6 @@
 pub mod BriefLemmas
 pub mod PostedLemmas
 pub mod RepliesLemmas
-pub mod CashLemmas
 pub mod CoreLemmas
 pub mod PartsLemmas
 pub mod BoundLemmas
@@ -20,12 +19,7 @@ pub mod SentWorlds
 pub mod ClosingWorlds
 pub mod ReadyLemmas
 pub mod AskLemmas
-pub mod SameLemmas
-pub mod AppendLemmas
-pub mod PositionLemmas
-pub mod LineLemmas
 pub mod AcceptLemmas
-pub mod ListedLemmas
 pub mod PlaceLemmas
 pub mod PostingLemmas
 pub mod StillBooks

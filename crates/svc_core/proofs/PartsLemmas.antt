@@ -24,10 +24,10 @@ use Rattle.svc_world.proofs.CaseLemmas.{past}
 use Rattle.svc_world.proofs.NamedLoans.{not_full}
 use Rattle.svc_loan.specs.Kept.{KeptLoan}
 use Rattle.svc_loan.specs.Loans.{KeptLoans, held_in}
-use Rattle.svc_core.specs.Cash.{IsKeptIn}
+use Rattle.svc_custody.specs.Cash.{IsKeptIn}
 use Rattle.svc_core.specs.State.{world_of, IsState}
-use Rattle.svc_core.specs.declared.position.Position.{Position}
-use Rattle.svc_core.specs.Positions.{positions_of}
+use Rattle.svc_custody.specs.declared.position.Position.{Position}
+use Rattle.svc_custody.specs.Positions.{positions_of}
 use Rattle.svc_core.specs.Rows.{IsCash}
 use Rattle.svc_core.specs.Core.{AreParts, IsPrepared, unknown_cost, where_unknown, judging_cost}
 use Rattle.svc_core.specs.Costs.{refusing_cost, preparing_cost}

@@ -1,32 +1,30 @@
--- What custody holds for each loan, kept in the order of numbers: after one loan changed, one was taken on, or all were.
-use Rattle.std.proofs.Common.{◌≡◌, ℕ, zero, suc, ◌+◌, ◌≤◌, ◌<◌, true, false, cond, List, [], ◌∷◌, ◌++◌, map, length, take, get_or, arith, refl, sym, ap, subst, ◌∙◌}
+-- What custody holds for each loan, kept in the order of numbers: after one loan changed or was taken on.
+use Rattle.std.proofs.Common.{◌≡◌, ℕ, zero, suc, ◌+◌, ◌≤◌, ◌<◌, true, false, cond, List, [], ◌∷◌, map, length, get_or, arith, refl, sym, ap, subst, ◌∙◌}
 use Rattle.std.proofs.Math.ListN.{set}
 use Rattle.std.proofs.Math.ListN.{get_or-map as get_mapped}
 use Rattle.std.specs.Prelude.{◌==◌, nat_lt, is_some, Some, None, MatchOption, if◌then◌else◌}
 use Rattle.std.specs.List.{AllPairs, insert}
 use Rattle.std.specs.Option.{option_map}
 use Rattle.std.proofs.lemmas.Bool.Decides.{nat_tests}
-use Rattle.std.proofs.lemmas.List.{get_or_default, get_or-set_other, length-map, length-set, map-append, take_all, take_more, take_more_set}
+use Rattle.std.proofs.lemmas.List.{get_or_default, length-map}
 use Rattle.svc_types.proofs.OrderLemmas.{pairs_head, pairs_tail}
 use Rattle.svc_types.specs.declared.terms.Terms.{Terms}
 use Rattle.svc_types.specs.declared.requests.Command.{Command}
 use Rattle.svc_types.specs.declared.requests.Command.TheVariants as command
-use Rattle.custodial_book.specs.declared.row.Totals.{Totals}
 use Rattle.svc_world.specs.Held.{Held, find_loan, with_loan, changed, boarded}
 use Rattle.svc_world.specs.World.{World, after}
 use Rattle.svc_world.specs.Worlds.{IsWorld}
 use Rattle.svc_world.specs.Refusals.{refusal_of}
-use Rattle.svc_world.specs.Custody.{totals_of}
 use Rattle.svc_world.proofs.LoanListLemmas.{rises, found_all, find_boarded, with_loan_length}
 use Rattle.svc_loan.specs.Kept.{KeptLoan}
 use Rattle.svc_loan.specs.Loans.{IsPlaceIn, OfLoan, find_kept, held_in}
-use Rattle.svc_core.specs.declared.position.Position.{Position}
+use Rattle.svc_custody.specs.declared.position.Position.{Position}
 use Rattle.svc_rules.specs.declared.scope.Scope.TheVariants as scope
-use Rattle.svc_core.specs.Positions.{IsPosition, position, position_of, positions_of, totals_in}
+use Rattle.svc_custody.specs.Positions.{IsPosition, position, position_of, positions_of}
 use Rattle.svc_rules.specs.Scope.{scope_of}
 use Rattle.svc_rules.proofs.RuleLemmas.{find-held, some-mapped}
-use Rattle.svc_core.proofs.SameLemmas.{SameReports, held_same, totals_same}
-use Rattle.svc_core.proofs.PositionLemmas.{at_place, same_position}
+use Rattle.svc_custody.proofs.SameLemmas.{SameReports, held_same, totals_same}
+use Rattle.svc_custody.proofs.PositionLemmas.{at_place, same_position}
 use Rattle.svc_core.proofs.AcceptLemmas.{IsOneChange, IsTakenOn, one_changed, one_later, new_later, positions_within, taken_on}
 
 -- ---- where a loan stands
@@ -202,54 +200,3 @@ insert_here n id i w v t ks positions y later fresh made same kept at is =
     ∙ ap (insert (positions_of w) i) (is ∙ new_later n l w v new)
     ∙ insert_in w v l w.loans i new.same new.new (subst (AllPairs rises) new.loans later.rising) within here
     ∙ ap (map (position_of v)) (sym new.loans)
-
--- ---- all loans in turn
-
--- up to a place they are those of the world, and from it on as they were
-pub record AreMoved (w : World) (ls : List Held) (olds news : List Position) (i : ℕ) : Type 0 where
-  pub done : take i news ≡ map (position_of w) (take i ls)
-  pub rest : (k : ℕ) (d : Position) → i ≤ k → get_or news k d ≡ get_or olds k d
-  pub count : length news ≡ length olds
-
-pub none_moved : (w : World) (ls : List Held) (olds : List Position) → AreMoved w ls olds olds 0
-none_moved w ls olds = record { done = refl; rest = λ k d le. refl; count = refl }
-
-pub one_moved : (w : World) (ls : List Held) (olds news : List Position) (i : ℕ) (y : Position) → i < length ls → length olds ≡ length ls → ((d : Held) → y ≡ position_of w (get_or ls i d)) → AreMoved w ls olds news i → AreMoved w ls olds (set news i y) (i + 1)
-one_moved w ls olds news i y lt same is h =
-    let d = (at_place ls i lt).0 in
-    let count = h.count in
-    record {
-      done =
-          take_more_set news i y (omega (arith, lt, same, count))
-          ∙ ap (λ xs. xs ++ y ∷ []) h.done
-          ∙ ap (λ x. map (position_of w) (take i ls) ++ x ∷ []) (is d)
-          ∙ sym (map-append (position_of w) (take i ls) (get_or ls i d ∷ []))
-          ∙ ap (map (position_of w)) (sym (take_more ls i d lt));
-      rest = λ k d le. get_or-set_other news i k y d (λ e. omega (arith, e, le)) ∙ h.rest k d (omega (arith, le));
-      count = length-set news i y ∙ count;
-    }
-
--- while there are more, there is one at the place
-pub still_within : (w : World) (ks : List KeptLoan) (olds news : List Position) (i last : ℕ) → last ≡ length ks → i < last → length (totals_in olds) ≡ length (held_in ks) → AreMoved w (held_in ks) olds news i → i < length news
-still_within w ks olds news i last end lt same h =
-    let count = h.count in
-    omega (arith, end, lt, same, count, length-map olds (λ (x : Position). x.totals), length-map ks (λ (k : KeptLoan). k.held))
-
-pub all_moved : (w : World) (ls : List Held) (olds news : List Position) (i : ℕ) → length ls ≤ i → length olds ≡ length ls → AreMoved w ls olds news i → news ≡ map (position_of w) ls
-all_moved w ls olds news i le same h =
-    let count = h.count in
-    sym (take_all i news (omega (arith, le, same, count)))
-    ∙ h.done
-    ∙ ap (map (position_of w)) (take_all i ls le)
-
--- the totals at a place that was not passed are those from before
-pub totals_before : (w : World) (ls : List Held) (olds news : List Position) (i : ℕ) (x : Position) (t : Totals) → i < length olds → ((d : Position) → x ≡ get_or news i d) → AreMoved w ls olds news i → x.totals ≡ get_or (totals_in olds) i t
-totals_before w ls olds news i x t lt is h =
-    let totals : Position → Totals = λ y. y.totals in
-    ap totals (is x ∙ h.rest i x (omega arith))
-    ∙ sym (get_mapped totals olds i x)
-    ∙ get_or_default (totals_in olds) i (totals x) t (let count = length-map olds totals in omega (arith, lt, count))
-
-pub totals_are : (w : World) (ls : List Held) → totals_in (map (position_of w) ls) ≡ map (totals_of w) ls
-totals_are w [] = refl
-totals_are w (l ∷ ls) = ap (λ xs. totals_of w l ∷ xs) (totals_are w ls)

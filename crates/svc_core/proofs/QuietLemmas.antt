@@ -32,7 +32,7 @@ use Rattle.svc_loan.specs.Kept.{KeptLoan}
 use Rattle.svc_loan.specs.Closed.{months_cost, closed_cost}
 use Rattle.svc_loan.specs.Loans.{KeptLoans, OfLoan, held_in}
 use Rattle.svc_loan.proofs.KeptLemmas.{of_found, found_of}
-use Rattle.svc_core.specs.Cash.{IsKeptIn}
+use Rattle.svc_custody.specs.Cash.{IsKeptIn}
 use Rattle.svc_core.specs.State.{world_of, IsState}
 use Rattle.svc_core.specs.Changing.{world_with}
 use Rattle.svc_core.proofs.KeptInLemmas.{kept_on, changed_stay, kept_all, kept_of}

@@ -20,7 +20,7 @@ use Rattle.svc_world.proofs.BoardWorlds.{boarding}
 use Rattle.svc_loan.specs.Kept.{KeptLoan}
 use Rattle.svc_loan.specs.Loans.{KeptLoans, find_kept, held_in}
 use Rattle.svc_world.specs.Custody.{remitted_for}
-use Rattle.svc_core.specs.Cash.{IsKeptIn}
+use Rattle.svc_custody.specs.Cash.{IsKeptIn}
 use Rattle.svc_core.specs.Preparing.{HaveStayed}
 use Rattle.svc_rules.specs.Scope.{scope_of}
 use Rattle.svc_core.specs.State.{world_of, IsState}

@@ -32,7 +32,7 @@ use Rattle.svc_world.proofs.DayWorlds.{none_pending, kept_none, remitted_closed}
 use Rattle.svc_world.proofs.RemittedLemmas.{later_none, remitted_within}
 use Rattle.svc_loan.specs.Kept.{KeptLoan}
 use Rattle.svc_loan.specs.Loans.{KeptLoans, find_kept, held_in, closed_in, remitted_in}
-use Rattle.svc_core.specs.Cash.{IsKeptIn}
+use Rattle.svc_custody.specs.Cash.{IsKeptIn}
 use Rattle.svc_core.specs.Reported.{IsSmallPart, IsSmallRemitted, AreSent, remitted_with}
 use Rattle.svc_core.specs.State.{world_of, IsState}
 use Rattle.svc_rules.proofs.RuleLemmas.{find-held, some-mapped}

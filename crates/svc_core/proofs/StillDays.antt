@@ -21,14 +21,14 @@ use Rattle.svc_world.specs.Custody.{collected, due_sum, dues_sum, is_remitted_by
 use Rattle.svc_world.proofs.AgreeLemmas.{same_due}
 use Rattle.svc_world.proofs.DayWorlds.{closed_early, day_agrees_to, boarded_by, day_later}
 use Rattle.svc_world.proofs.LoanListLemmas.{all_found, mapped_numbers, numbers_of}
-use Rattle.svc_core.specs.declared.position.Position.{Position}
-use Rattle.svc_core.specs.Appending.{rows_along}
-use Rattle.svc_core.specs.Positions.{position_of, positions_of, totals_in, line_in}
+use Rattle.svc_custody.specs.declared.position.Position.{Position}
+use Rattle.svc_custody.specs.Appending.{rows_along}
+use Rattle.svc_custody.specs.Positions.{position_of, positions_of, totals_in, line_in}
 use Rattle.svc_rules.specs.Scope.{IsWithinMonth}
-use Rattle.svc_core.proofs.AppendLemmas.{along_none, along_cons, along_is}
-use Rattle.svc_core.proofs.LineLemmas.{line_of_world}
-use Rattle.svc_core.proofs.PlaceLemmas.{totals_are}
-use Rattle.svc_core.proofs.SameLemmas.{SameReports, remitted_same, settled_same, no_rows}
+use Rattle.svc_custody.proofs.AppendLemmas.{along_none, along_cons, along_is}
+use Rattle.svc_custody.proofs.LineLemmas.{line_of_world}
+use Rattle.svc_custody.proofs.EachLemmas.{totals_are}
+use Rattle.svc_custody.proofs.SameLemmas.{SameReports, remitted_same, settled_same, no_rows}
 use Rattle.svc_core.proofs.StillBooks.{SameMoney, quiet_money}
 
 -- ---- one loan

@@ -23,7 +23,7 @@ use Rattle.svc_world.proofs.DayWorlds.{none_pending}
 use Rattle.svc_world.proofs.LoanWorlds.{end_by}
 use Rattle.svc_loan.specs.Kept.{KeptLoan}
 use Rattle.svc_loan.specs.Loans.{KeptLoans, find_kept, with_kept, held_in}
-use Rattle.svc_core.specs.Cash.{IsKeptIn}
+use Rattle.svc_custody.specs.Cash.{IsKeptIn}
 use Rattle.svc_core.specs.Ready.{IsBoarding}
 use Rattle.svc_core.specs.State.{world_of, IsState}
 use Rattle.svc_rules.proofs.RuleLemmas.{find-held}

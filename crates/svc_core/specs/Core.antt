@@ -19,9 +19,9 @@ use Rattle.svc_core.specs.declared.verdict.Verdict.{Verdict}
 use Rattle.svc_core.specs.declared.verdict.Verdict.TheVariants as verdict
 use Rattle.svc_core.specs.declared.fault.CoreFault.{CoreFault}
 use Rattle.svc_core.specs.declared.fault.CoreFault.TheVariants as fault
-use Rattle.svc_core.specs.declared.position.Position.{Position}
-use Rattle.svc_core.specs.Cash.{IsKeptIn}
-use Rattle.svc_core.specs.Positions.{positions_of}
+use Rattle.svc_custody.specs.declared.position.Position.{Position}
+use Rattle.svc_custody.specs.Cash.{IsKeptIn}
+use Rattle.svc_custody.specs.Positions.{positions_of}
 use Rattle.svc_core.specs.State.{world_of}
 use Rattle.svc_rules.specs.Scope.{scope_of}
 use Rattle.svc_core.specs.Ready.{IsReadyFor}

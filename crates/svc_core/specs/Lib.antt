@@ -1,7 +1,6 @@
 pub mod Posted
 pub mod Briefs
 pub mod Replies
-pub mod Cash
 pub mod State
 pub mod Ready
 pub mod Costs
@@ -12,5 +11,3 @@ pub mod Changing
 pub mod Reported
 pub mod Preparing
 pub mod Asking
-pub mod Positions
-pub mod Appending

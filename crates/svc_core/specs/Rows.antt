@@ -8,8 +8,8 @@ use Rattle.custodial_book.specs.Rows.{balance_of}
 use Rattle.svc_world.specs.declared.custody.Custody.{Custody}
 use Rattle.svc_world.specs.World.{World}
 use Rattle.svc_world.specs.Custody.{borrower_cash, held_for, custody_of}
-use Rattle.svc_core.specs.declared.position.Position.{Position}
-use Rattle.svc_core.specs.Positions.{positions_of}
+use Rattle.svc_custody.specs.declared.position.Position.{Position}
+use Rattle.svc_custody.specs.Positions.{positions_of}
 
 -- after n commands: the custodial line and the positions are those of the world, the rows are those of these
 -- commands, and their balances are what is held for all loans

@@ -5,7 +5,7 @@ use Rattle.period_adjust.specs.Sealed.{State}
 use Rattle.svc_world.specs.Worlds.{IsWorld}
 use Rattle.svc_loan.specs.Loans.{KeptLoans}
 pub use Rattle.svc_rules.specs.State.{world_of}
-use Rattle.svc_core.specs.Cash.{IsKeptIn}
+use Rattle.svc_custody.specs.Cash.{IsKeptIn}
 
 -- after n commands they hold a sound world, and each loan is kept as that world has it
 pub record IsState (n today : ℕ) (loans : KeptLoans) (seals : State) : Type 0 where

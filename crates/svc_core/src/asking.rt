@@ -30,13 +30,13 @@ use crate::desk::{
 };
 use crate::fault::CoreFault;
 use crate::posted::Posted;
-use crate::state::Cash;
 use custodial_book::Row;
 use period_adjust::Report;
 use std::alloc::Global;
 use std::sync::ledger::Ledger;
 use svc_apply::{open_installment, payoff_due};
 use svc_base::{Cents, Day, Month, OutOfMemory, Steps, month_of};
+use svc_custody::Cash;
 use svc_loan::Loan;
 use svc_replay::LoanBooks;
 use svc_rules::{State, analysis_from, figures_with, refuse_day_of, refuse_report};

@@ -13,7 +13,7 @@ ghost use Rattle.svc_world.specs.Refusals.{refusal_of};
 ghost use Rattle.svc_world.specs.World.{after};
 ghost use Rattle.svc_loan.specs.Kept.{IsReady};
 ghost use Rattle.svc_loan.specs.Loans.{OfLoan};
-ghost use Rattle.svc_core.specs.Cash.{IsKeptIn};
+ghost use Rattle.svc_custody.specs.Cash.{IsKeptIn};
 ghost use Rattle.svc_core.specs.Changing as rule;
 ghost use Rattle.svc_core.specs.Costs.{accepting_cost};
 ghost use Rattle.svc_rules.specs.Scope.{scope_of};

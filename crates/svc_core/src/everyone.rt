@@ -14,7 +14,7 @@ ghost use Rattle.svc_world.specs.Refusals.{refusal_of};
 ghost use Rattle.svc_world.specs.Judging.{extra_of};
 ghost use Rattle.svc_loan.specs.Kept.{HasMonth};
 ghost use Rattle.svc_loan.specs.Loans.{held_in};
-ghost use Rattle.svc_core.specs.Cash.{IsKeptIn};
+ghost use Rattle.svc_custody.specs.Cash.{IsKeptIn};
 ghost use Rattle.svc_core.specs.Costs as cost;
 ghost use Rattle.svc_rules.specs.Scope.{scope_of};
 ghost use Rattle.svc_core.specs.State.{world_of, IsState};

@@ -5,24 +5,20 @@
 mod accepting;
 mod asking;
 mod brief;
-mod cash;
 mod changing;
-mod custody_line;
 mod desk;
 mod entering;
 mod everyone;
 mod fault;
 mod laws;
 mod parts;
-mod position;
-mod positions;
 mod posted;
 mod preparing;
 mod replies;
 mod reporting;
+mod scratch;
 mod sent;
 mod servicing;
-mod state;
 mod taking_on;
 mod verdict;
 

@@ -6,7 +6,7 @@ ghost use Rattle.svc_types.specs.Requests.{IsCommand};
 ghost use Rattle.svc_types.specs.declared.requests.Command.TheVariants as request;
 ghost use Rattle.svc_world.specs.Refusals.{refusal_of};
 ghost use Rattle.svc_world.specs.World.{after};
-ghost use Rattle.svc_core.specs.Cash.{IsKeptIn};
+ghost use Rattle.svc_custody.specs.Cash.{IsKeptIn};
 ghost use Rattle.svc_core.specs.Ready.{IsBoarding};
 ghost use Rattle.svc_core.specs.State.{IsState, world_of};
 

@@ -3,7 +3,7 @@ use Rattle.std.proofs.Math.ListN.{set}
 use Rattle.svc_world.specs.Held.{find_loan}
 use Rattle.svc_loan.specs.Kept.{IsReady}
 use Rattle.svc_loan.specs.Loans.{held_in}
-use Rattle.svc_core.specs.Positions.{KeptPositions, IsPosition, IsLine, position, line_after}
+use Rattle.svc_custody.specs.Positions.{KeptPositions, IsPosition, IsLine, position, line_after}
 use Rattle.svc_core.specs.State.{world_of}
 use Rattle.svc_core.proofs.AcceptLemmas.{IsAdded, can_read, custody_within, accepted_one, later_world}
 use Rattle.svc_core.proofs.PlaceLemmas.{is_there, kept_here, place_within, set_here}
@@ -41,20 +41,20 @@ asked g c =
     let old = before g c in
     accepted_one c.args.count c.args.id w v c.args.command.now c.args.state.now.loans.loans (IsReady c.args.state.now.today) c.args.cash.now.book.rows c.args.cash.now.custody c.args.cash.now.positions.items c.at.result.now c.position_of-later.result c.requires.state.world c.requires.command c.requires.fresh c.requires.scope refl c.requires.room.loan c.change_one-extra.ensures.world c.requires.cash old.0 c.position_of-later.ensures.value old.1 c.position_of-later.ensures.limits
 
-pub add-requires-clause-may : goal.add-requires-clause-may
-add-requires-clause-may g c = (asked g c).may
+pub add_rows-requires-clause-may : goal.add_rows-requires-clause-may
+add_rows-requires-clause-may g c = (asked g c).may
 
-pub add-requires-clause-line : goal.add-requires-clause-line
-add-requires-clause-line g c = subst IsLine (sym c.requires.cash.line) (custody_within c.args.count (world_of c.args.state.now.today c.args.state.now.loans c.args.state.now.seals) c.requires.state.world)
+pub add_rows-requires-clause-line : goal.add_rows-requires-clause-line
+add_rows-requires-clause-line g c = subst IsLine (sym c.requires.cash.line) (custody_within c.args.count (world_of c.args.state.now.today c.args.state.now.loans c.args.state.now.seals) c.requires.state.world)
 
-pub add-requires-clause-before : goal.add-requires-clause-before
-add-requires-clause-before g c = (before g c).1
+pub add_rows-requires-clause-before : goal.add_rows-requires-clause-before
+add_rows-requires-clause-before g c = (before g c).1
 
 pub set-requires : goal.set-requires
 set-requires g c =
     let s = c.args.state.now in
     let within = place_within c.args.id c.place_there-place.result (world_of s.today s.loans s.seals) s.loans.loans c.args.cash.now.positions.items refl c.requires.cash.places c.place_there-place.ensures in
-    subst (λ (p : KeptPositions). c.place_there-place.result < length p.items) (sym c.add.ensures.positions) within
+    subst (λ (p : KeptPositions). c.place_there-place.result < length p.items) (sym c.add_rows.ensures.positions) within
 
 -- the rows and the line are those of the command
 added : (g : Over) (c : goal.After-set g) → IsAdded c.args.count c.args.id (world_of c.args.state.now.today c.args.state.now.loans c.args.state.now.seals) (world_of c.change_one-extra.new.state.today c.change_one-extra.new.state.loans c.change_one-extra.new.state.seals) c.args.cash.now.book.rows c.at.result.now c.position_of-later.result
@@ -66,10 +66,10 @@ added g c =
     accepted_one c.args.count c.args.id w v c.args.command.now c.args.state.now.loans.loans (IsReady c.args.state.now.today) c.args.cash.now.book.rows c.args.cash.now.custody c.args.cash.now.positions.items c.at.result.now c.position_of-later.result c.requires.state.world c.requires.command c.requires.fresh c.requires.scope refl c.requires.room.loan c.change_one-extra.ensures.world c.requires.cash old.0 c.position_of-later.ensures.value old.1 c.position_of-later.ensures.limits
 
 pub returns-clause-rows : goal.returns-clause-rows
-returns-clause-rows g c = c.add.ensures.rows ∙ ap (λ rs. c.args.cash.now.book.rows ++ rs) (added g c).made
+returns-clause-rows g c = c.add_rows.ensures.rows ∙ ap (λ rs. c.args.cash.now.book.rows ++ rs) (added g c).made
 
 pub returns-clause-custody : goal.returns-clause-custody
-returns-clause-custody g c = c.add.ensures.custody ∙ ap (λ x. line_after x c.at.result.now c.position_of-later.result) c.requires.cash.line ∙ (added g c).line
+returns-clause-custody g c = c.add_rows.ensures.custody ∙ ap (λ x. line_after x c.at.result.now c.position_of-later.result) c.requires.cash.line ∙ (added g c).line
 
 pub returns-clause-positions : goal.returns-clause-positions
 returns-clause-positions g c =
@@ -77,5 +77,5 @@ returns-clause-positions g c =
     let w = world_of c.args.state.now.today c.args.state.now.loans c.args.state.now.seals in
     let v = world_of s.today s.loans s.seals in
     c.set.ensures
-    ∙ ap (λ (p : KeptPositions). set p.items c.place_there-place.result c.position_of-later.result) c.add.ensures.positions
+    ∙ ap (λ (p : KeptPositions). set p.items c.place_there-place.result c.position_of-later.result) c.add_rows.ensures.positions
     ∙ set_here c.args.count c.args.id c.place_there-place.result w v c.args.command.now c.args.state.now.loans.loans c.args.cash.now.positions.items c.position_of-later.result c.requires.state.world c.requires.scope refl c.change_one-extra.ensures.world c.requires.cash.places c.place_there-place.ensures c.position_of-later.ensures.value

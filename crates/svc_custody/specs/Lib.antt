@@ -1,0 +1,3 @@
+pub mod Cash
+pub mod Positions
+pub mod Appending
