@@ -1,6 +1,6 @@
 -- Two rising lists of loans, gone through together, loan by loan.
 use Rattle.std.proofs.Common.{◌≡◌, ℕ, suc, ◌+◌, ◌<◌, ◌≤◌, Bool, true, false, cond, List, [], ◌∷◌, ◌++◌, length, get_or, refl, sym, ap, subst, ◌∙◌, arith, append_assoc, append-nil, Option, Some, None}
-use Rattle.std.specs.Prelude.{⊤, codes, nat_lt, ◌==◌, ℤ, min, if◌then◌else◌}
+use Rattle.std.specs.Prelude.{⊤, codes, nat_lt, ◌==◌, min, if◌then◌else◌}
 use Rattle.std.specs.List.{All, AllPairs, flat_map}
 use Rattle.std.proofs.lemmas.List.Elements.{All-cons, All-nil, All-head, All-tail}
 use Rattle.std.proofs.lemmas.Bool.Decides.{nat_tests}
@@ -12,7 +12,6 @@ use Rattle.servicing_transfer.specs.contracts.statement_line.StatementLinePartia
 use Rattle.servicing_transfer.specs.declared.statement_line.StatementLine.{StatementLine}
 use Rattle.servicing_transfer.specs.Stated.{rises}
 use Rattle.servicing_transfer.specs.Confirmations.{with_number, together, loan_numbers, stated_of, word_for, word_of_same, line_about, same_line, text_of_differences}
-use Rattle.servicing_transfer.proofs.LineWords.{made}
 use Rattle.servicing_transfer.specs.Differences.{least_loan, first_for, left_after, lines_about}
 
 -- ---- numbers that rise
@@ -249,12 +248,26 @@ differences_text day today same text books o1 o2 o3 o4 o5 word same_is word_is e
 abbrev test_of : {A : Type 0} {E : A → A → Bool} → IsPartialEquivalence E → A → A → Bool
 test_of {A} {E} h = E
 
-tested_by : (a b : ℕ) (u u2 : ℤ) (n n2 : Option ℕ) (e e2 s s2 l l2 ea ea2 h h2 p p2 : ℤ) → test_of laws-law (made a u n e s l ea h p) (made b u2 n2 e2 s2 l2 ea2 h2 p2) ≡ same_line (made a u n e s l ea h p) (made b u2 n2 e2 s2 l2 ea2 h2 p2)
+-- a line with another month
+abbrev with_next : StatementLine → Option ℕ → StatementLine
+with_next s n = record {
+  loan = s.loan;
+  upb = s.upb;
+  next = n;
+  escrow = s.escrow;
+  suspense = s.suspense;
+  late = s.late;
+  escrow_advance = s.escrow_advance;
+  held = s.held;
+  pi_advance = s.pi_advance;
+}
+
+tested_by : (a b : StatementLine) (m n : Option ℕ) → test_of laws-law (with_next a m) (with_next b n) ≡ same_line (with_next a m) (with_next b n)
 unfolding same_line
-tested_by a b u u2 None None e e2 s s2 l l2 ea ea2 h h2 p p2 = refl
-tested_by a b u u2 None (Some y) e e2 s s2 l l2 ea ea2 h h2 p p2 = refl
-tested_by a b u u2 (Some x) None e e2 s s2 l l2 ea ea2 h h2 p p2 = refl
-tested_by a b u u2 (Some x) (Some y) e e2 s s2 l l2 ea ea2 h h2 p p2 = refl
+tested_by a b None None = refl
+tested_by a b None (Some n) = refl
+tested_by a b (Some m) None = refl
+tested_by a b (Some m) (Some n) = refl
 
 pub line_tested : (a b : StatementLine) → test_of laws-law a b ≡ same_line a b
-line_tested a b = tested_by a.loan b.loan a.upb b.upb a.next b.next a.escrow b.escrow a.suspense b.suspense a.late b.late a.escrow_advance b.escrow_advance a.held b.held a.pi_advance b.pi_advance
+line_tested a b = tested_by a b a.next b.next

@@ -20,6 +20,8 @@ pub mod SumLemmas
 pub mod StatementLemmas
 pub mod LineTexts
 pub mod AmountLemmas
+pub mod PlainLemmas
+pub mod FieldLemmas
 pub mod LineWords
 pub mod FitsLemmas
 pub mod CoreLines

@@ -1,17 +1,14 @@
 -- Lines of a statement are their fields, one after the other.
-use Rattle.std.proofs.Common.{◌≡◌, ℕ, List, [], ◌∷◌, ◌++◌, refl, sym, ap, subst, ◌∙◌, to_z, of_z, append_assoc, append-nil}
+use Rattle.std.proofs.Common.{◌≡◌, ℕ, List, [], ◌∷◌, ◌++◌, refl, sym, ap, subst, ◌∙◌, to_z, of_z, append_assoc}
 use Rattle.std.specs.Prelude.{OnOk, Result, Ok, Err, codes, length, map, ℤ, FitsSigned}
 use Rattle.std.specs.Int.{w128}
 use Rattle.std.specs.List.{flat_map}
 use Rattle.std.proofs.lemmas.Int.{to_z-of_z}
 use Rattle.std.proofs.lemmas.List.Concat.{flat_map-append}
-use Rattle.svc_base.specs.Text.{text_of_number, text_of_signed, text_of_day}
+use Rattle.svc_base.specs.Text.{text_of_signed, text_of_day}
 use Rattle.svc_world.specs.World.{World}
-use Rattle.serv_line.specs.Lines.{joined}
 use Rattle.serv_line.specs.Replies.{ended, signed_field, number_field}
-use Rattle.servicing_transfer.specs.declared.statement_line.StatementLine.{StatementLine}
-use Rattle.servicing_transfer.specs.StatementTexts.{next_word, heading_words, loan_words, total_words, heading_line, loan_line, total_line, last_line, t_of, p_of, stated_loans, statement_lines, text_of_statement}
-use Rattle.servicing_transfer.specs.StatementParts.{field, balances, advances, text_of_balances, text_of_advances}
+use Rattle.servicing_transfer.specs.StatementTexts.{heading_words, total_words, heading_line, loan_line, total_line, last_line, t_of, p_of, stated_loans, statement_lines, text_of_statement}
 
 -- ---- what is pushed one after the other; each text, and what it comes to, is handed by name
 
@@ -29,36 +26,11 @@ pushed3 r o a x b x2 c y ex ex2 e = pushed2 r o a x (b ++ c) y ex (pushed2 r x b
 pub pushed4 : {A E : Type 0} (r : Result A E) (o a x b x2 c x3 d y : List ℕ) → x ≡ o ++ a → x2 ≡ x ++ b → x3 ≡ x2 ++ c → OnOk r (y ≡ x3 ++ d) → OnOk r (y ≡ o ++ (a ++ (b ++ (c ++ d))))
 pushed4 r o a x b x2 c x3 d y ex ex2 ex3 e = pushed2 r o a x (b ++ (c ++ d)) y ex (pushed3 r x b x2 c x3 d y ex2 ex3 e)
 
-pub pushed5 : {A E : Type 0} (r : Result A E) (o a x b x2 c x3 d x4 f y : List ℕ) → x ≡ o ++ a → x2 ≡ x ++ b → x3 ≡ x2 ++ c → x4 ≡ x3 ++ d → OnOk r (y ≡ x4 ++ f) → OnOk r (y ≡ o ++ (a ++ (b ++ (c ++ (d ++ f)))))
-pushed5 r o a x b x2 c x3 d x4 f y ex ex2 ex3 ex4 e = pushed2 r o a x (b ++ (c ++ (d ++ f))) y ex (pushed4 r x b x2 c x3 d x4 f y ex2 ex3 ex4 e)
-
 -- an amount that was passed is the amount
 pub as_passed : (P : ℤ → Type 0) (z : ℤ) → FitsSigned w128 z → P (to_z w128 (of_z w128 z)) → P z
 as_passed P z fits h = subst P (to_z-of_z w128 z fits) h
 
--- ---- words that are joined are fields
-
--- names and values as words
-pub named : List (List ℕ × List ℕ) → List (List ℕ)
-named [] = []
-named (f ∷ fs) = f.0 ∷ f.1 ∷ named fs
-
-pub joined_fields : (w : List ℕ) (fs : List (List ℕ × List ℕ)) → joined (w ∷ named fs) ≡ w ++ flat_map field fs
-unfolding named
-joined_fields w [] = sym (append-nil w)
-joined_fields w (f ∷ fs) =
-    ap (λ r. w ++ (32 ∷ (f.0 ++ (32 ∷ r)))) (joined_fields f.1 fs)
-    ∙ ap (λ r. w ++ r) (sym (append_assoc (32 ∷ f.0) (32 ∷ f.1) (flat_map field fs)))
-
-pub loan_text : (s : StatementLine) → codes "loan " ++ (text_of_number s.loan ++ (text_of_balances s ++ (text_of_advances s ++ (10 ∷ [])))) ≡ ended (loan_line s)
-unfolding loan_line loan_words text_of_balances text_of_advances named
-loan_text s =
-    let n = text_of_number s.loan in
-    let all = flat_map field (balances s ++ advances s) in
-    ap (λ r. codes "loan " ++ (n ++ r)) (sym (append_assoc (flat_map field (balances s)) (flat_map field (advances s)) (10 ∷ [])))
-    ∙ ap (λ r. codes "loan " ++ (n ++ (r ++ (10 ∷ [])))) (sym (flat_map-append field (balances s) (advances s)))
-    ∙ ap (λ r. codes "loan " ++ r) (sym (append_assoc n all (10 ∷ [])))
-    ∙ ap (λ r. codes "loan " ++ (r ++ (10 ∷ []))) (sym (joined_fields n (balances s ++ advances s)))
+-- ---- lines
 
 pub heading_text : (day n : ℕ) → codes "statement " ++ (text_of_day day ++ (number_field (codes "loans") n ++ (10 ∷ []))) ≡ ended (heading_line day n)
 unfolding heading_line heading_words number_field
@@ -85,15 +57,7 @@ statement_text w n t p o1 o2 o3 o4 n_is t_is p_is e1 e2 e3 e4 =
     ∙ ap (λ x. head ++ (flat_map ended lines ++ x)) (sym (append_assoc total (10 ∷ []) (codes "end\n")))
     ∙ ap (λ x. head ++ x) (sym (flat_map-append ended lines (total ∷ last_line ∷ [])))
 
--- fields as they are pushed
-pub balances_text : (s : StatementLine) → signed_field (codes "upb") s.upb ++ (field (codes "next", next_word s.next) ++ (signed_field (codes "escrow") s.escrow ++ (signed_field (codes "suspense") s.suspense ++ signed_field (codes "late") s.late))) ≡ text_of_balances s
-unfolding text_of_balances signed_field
-balances_text s = ap (λ r. field (codes "upb", text_of_signed s.upb) ++ (field (codes "next", next_word s.next) ++ (field (codes "escrow", text_of_signed s.escrow) ++ (field (codes "suspense", text_of_signed s.suspense) ++ r)))) (sym (append-nil (field (codes "late", text_of_signed s.late))))
-
-pub advances_text : (s : StatementLine) → signed_field (codes "escrow-advance") s.escrow_advance ++ (signed_field (codes "held") s.held ++ signed_field (codes "pi-advance") s.pi_advance) ≡ text_of_advances s
-unfolding text_of_advances signed_field
-advances_text s = ap (λ r. field (codes "escrow-advance", text_of_signed s.escrow_advance) ++ (field (codes "held", text_of_signed s.held) ++ r)) (sym (append-nil (field (codes "pi-advance", text_of_signed s.pi_advance))))
-
+-- a field as it is pushed
 pub field_text : (name : List ℕ) (z : ℤ) → (32 ∷ []) ++ (name ++ ((32 ∷ []) ++ text_of_signed z)) ≡ signed_field name z
 unfolding signed_field
 field_text name z = refl

@@ -3,12 +3,12 @@ pub mod Splits
 pub mod Passes
 pub mod Sets
 pub mod RowSums
+pub mod LoanFields
+pub mod FieldValues
 pub mod StatementTexts
-pub mod StatementParts
 pub mod Stated
 pub mod Confirmations
 pub mod StatementAnswers
 pub mod Numbers
-pub mod LoanWords
 pub mod StatementReading
 pub mod Differences

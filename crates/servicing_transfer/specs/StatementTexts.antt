@@ -1,10 +1,10 @@
 -- The statement of all loans: what it says of each of them, its lines, and its text.
-use Rattle.std.specs.Prelude.{ℕ, List, [], ◌∷◌, ◌++◌, map, length, codes, ℤ, ◌+ℤ◌, Option, Some, None}
+use Rattle.std.specs.Prelude.{ℕ, List, [], ◌∷◌, ◌++◌, map, length, codes, ℤ, ◌+ℤ◌}
 use Rattle.std.specs.List.{flat_map}
 use Rattle.std.specs.Option.{option_map}
 use Rattle.svc_base.specs.Calendar.{month_of}
 use Rattle.svc_base.specs.Sums.{total_by}
-use Rattle.svc_base.specs.Text.{text_of_number, text_of_signed, text_of_day, text_of_month}
+use Rattle.svc_base.specs.Text.{text_of_number, text_of_signed, text_of_day}
 use Rattle.svc_types.specs.declared.books.Installment.{Installment}
 use Rattle.svc_spec.specs.Installments.{open_installment}
 use Rattle.advance_book.specs.Positions.{escrow_advanced}
@@ -14,6 +14,7 @@ use Rattle.svc_world.specs.Held.{Held, books_now}
 use Rattle.svc_world.specs.World.{World}
 use Rattle.svc_world.specs.Custody.{held_for, advanced_for}
 use Rattle.servicing_transfer.specs.declared.statement_line.StatementLine.{StatementLine}
+use Rattle.servicing_transfer.specs.LoanFields.{fields, values_of, words_of_fields}
 
 -- what a statement says of a loan: its books now, what the servicer paid out of an escrow account that did not
 -- cover it, and what is held and advanced of its principal and interest
@@ -48,18 +49,9 @@ p_of stated = total_by (λ (s : StatementLine). s.held) stated
 unfoldable pub heading_words : ℕ → ℕ → List (List ℕ)
 heading_words day n = codes "statement" ∷ text_of_day day ∷ codes "loans" ∷ text_of_number n ∷ []
 
--- the month in which the open installment is due; a dash where the loan is satisfied
-abbrev pub next_word : Option ℕ → List ℕ
-next_word None = codes "-"
-next_word (Some month) = text_of_month month
-
 -- a loan's line: names and what they name
 unfoldable pub loan_words : StatementLine → List (List ℕ)
-loan_words s =
-    codes "loan" ∷ text_of_number s.loan ∷ codes "upb" ∷ text_of_signed s.upb ∷ codes "next" ∷ next_word s.next
-    ∷ codes "escrow" ∷ text_of_signed s.escrow ∷ codes "suspense" ∷ text_of_signed s.suspense
-    ∷ codes "late" ∷ text_of_signed s.late ∷ codes "escrow-advance" ∷ text_of_signed s.escrow_advance
-    ∷ codes "held" ∷ text_of_signed s.held ∷ codes "pi-advance" ∷ text_of_signed s.pi_advance ∷ []
+loan_words s = words_of_fields fields (values_of s)
 
 -- what both custodial accounts hold
 unfoldable pub total_words : ℤ → ℤ → List (List ℕ)

@@ -7,6 +7,7 @@ mod confirm_fault;
 mod confirming;
 mod keeping;
 mod laws;
+mod loan_fields;
 mod loan_line;
 mod loan_numbers;
 mod loan_set;

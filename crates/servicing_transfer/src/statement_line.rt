@@ -1,12 +1,15 @@
 //! A line of a statement.
 
-ghost use Rattle.std.specs.Prelude.{◌≡◌, ◌++◌, codes, OnOk};
+ghost use Rattle.std.specs.Prelude.{◌≡◌, ◌++◌, ◌∷◌, map, OnOk};
+ghost use Rattle.serv_line.specs.Lines.{joined};
 ghost use Rattle.serv_line.specs.Replies.{ended, signed_field};
-ghost use Rattle.servicing_transfer.specs.StatementTexts.{loan_line, next_word};
-ghost use Rattle.servicing_transfer.specs.StatementParts.{field, text_of_advances, text_of_balances};
+ghost use Rattle.servicing_transfer.specs.LoanFields.{text_of_value, words_of_fields};
+ghost use Rattle.servicing_transfer.specs.FieldValues.{said};
+ghost use Rattle.servicing_transfer.specs.StatementTexts.{loan_line};
 
-use serv_line::{push_bytes, push_number};
-use svc_base::{Month, OutOfMemory, push_signed, write_month};
+use crate::loan_fields::{FIELD_COUNT, FIELDS, FieldKind, Value, push_value, values_of};
+use serv_line::push_bytes;
+use svc_base::{Month, OutOfMemory, push_signed};
 
 /// An amount of a statement, in cents. It has up to eighteen digits before its point, which is more than
 /// `Cents` holds.
@@ -31,31 +34,39 @@ pub(crate) struct StatementLine {
 pub(crate) fn push_loan_line(out: &mut Vec<u8>, line: &StatementLine) -> Result<(), OutOfMemory>
     ensures { OnOk result (out.new.items ≡ out.old.items ++ ended (loan_line line.now)) }
 {
-    push_bytes(out, b"loan ")?;
-    push_number(out, line.loan)?;
-    push_balances(out, line)?;
-    push_advances(out, line)?;
+    push_fields(out, &FIELDS, &values_of(line))?;
     push_bytes(out, b"\n")
 }
 
-/// Appends what a loan owes, and what is held for it.
-fn push_balances(out: &mut Vec<u8>, line: &StatementLine) -> Result<(), OutOfMemory>
-    ensures { OnOk result (out.new.items ≡ out.old.items ++ text_of_balances line.now) }
+/// Appends the names of fields and their values, with a space between each two words.
+fn push_fields(
+    out: &mut Vec<u8>,
+    fields: &[(&[u8], FieldKind); FIELD_COUNT],
+    values: &[Value; FIELD_COUNT],
+) -> Result<(), OutOfMemory>
+    ensures { OnOk result (out.new.items ≡ out.old.items ++ joined (words_of_fields (map said fields.now) values.now)) }
 {
-    push_cents_field(out, b"upb", line.upb)?;
-    push_next(out, line.next)?;
-    push_cents_field(out, b"escrow", line.escrow)?;
-    push_cents_field(out, b"suspense", line.suspense)?;
-    push_cents_field(out, b"late", line.late)
+    let mut gap: &[u8] = b"";
+    for (i, (name, _)) in fields.iter().enumerate() {
+        push_field(out, gap, name, values[i])?;
+        gap = b" ";
+    }
+    Ok(())
 }
 
-/// Appends what was advanced for a loan, and what is held of its principal and interest.
-fn push_advances(out: &mut Vec<u8>, line: &StatementLine) -> Result<(), OutOfMemory>
-    ensures { OnOk result (out.new.items ≡ out.old.items ++ text_of_advances line.now) }
+/// Appends a field's name and its value, with a space between them, after what stands before them.
+fn push_field(
+    out: &mut Vec<u8>,
+    before: &[u8],
+    name: &[u8],
+    value: Value,
+) -> Result<(), OutOfMemory>
+    ensures { OnOk result (out.new.items ≡ out.old.items ++ before.now ++ name.now ++ 32 ∷ text_of_value value) }
 {
-    push_cents_field(out, b"escrow-advance", line.escrow_advance)?;
-    push_cents_field(out, b"held", line.held)?;
-    push_cents_field(out, b"pi-advance", line.pi_advance)
+    push_bytes(out, before)?;
+    push_bytes(out, name)?;
+    push_bytes(out, b" ")?;
+    push_value(out, value)
 }
 
 /// Appends a name and an amount, a space before each.
@@ -70,15 +81,4 @@ pub(crate) fn push_cents_field(
     push_bytes(out, name)?;
     push_bytes(out, b" ")?;
     push_signed(out, cents)
-}
-
-/// Appends the month of the open installment, or a dash.
-fn push_next(out: &mut Vec<u8>, next: Option<Month>) -> Result<(), OutOfMemory>
-    ensures { OnOk result (out.new.items ≡ out.old.items ++ field (codes "next", next_word next)) }
-{
-    push_bytes(out, b" next ")?;
-    match next {
-        None => push_bytes(out, b"-"),
-        Some(month) => push_bytes(out, &write_month(month)),
-    }
 }

@@ -1,6 +1,3 @@
-use Rattle.std.proofs.Common.{length}
-use Rattle.svc_world.specs.World.{world}
-use Rattle.svc_world.specs.Custody.{rows_in}
 use Rattle.servicing_transfer.proofs.StatementLemmas.{rows_not_refused, has_rows, are_rows}
 use Rattle.servicing_transfer.proofs.row_sums.rows_of.Goals as goal
 

@@ -1,6 +1,3 @@
-use Rattle.std.proofs.Common.{length}
-use Rattle.svc_world.specs.World.{world}
-use Rattle.svc_world.specs.Custody.{rows_in}
 use Rattle.servicing_transfer.proofs.StatementLemmas.{custody_not_refused, is_custodial, custody_is}
 use Rattle.servicing_transfer.proofs.stating.custody.Goals as goal
 

@@ -1,6 +1,3 @@
-use Rattle.std.proofs.Common.{length}
-use Rattle.svc_world.specs.World.{world}
-use Rattle.svc_world.specs.Custody.{rows_in}
 use Rattle.servicing_transfer.proofs.StatementLemmas.{books_not_refused, is_books, line_is}
 use Rattle.servicing_transfer.proofs.stating.line_of.Goals as goal
 

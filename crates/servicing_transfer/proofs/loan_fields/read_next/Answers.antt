@@ -1,8 +1,8 @@
 use Rattle.std.proofs.Common.{◌≡◌, ◌≢◌, true, false}
 use Rattle.std.specs.Prelude.{codes}
 use Rattle.svc_base.proofs.TextLemmas.{on_none}
-use Rattle.servicing_transfer.proofs.LineWords.{no_next}
-use Rattle.servicing_transfer.proofs.loan_line.read_next.Goals as goal
+use Rattle.servicing_transfer.proofs.FieldLemmas.{no_next}
+use Rattle.servicing_transfer.proofs.loan_fields.read_next.Goals as goal
 
 pub returns-in_err-month-clause-none : goal.returns-in_err-month-clause-none
 returns-in_err-month-clause-none c =
