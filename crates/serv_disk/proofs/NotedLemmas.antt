@@ -46,6 +46,11 @@ held_after None held' s text told wrote = cc
 held_after (Some xs) None s text told wrote = absurd wrote
 held_after (Some xs) (Some ys) s text told wrote = cc
 
+-- the moment is the one at which it was shown the disk
+pub notes_at : (log log' : Option (List Stamp)) (mark at most : ℕ) → ((stamps : List Stamp) → log ≡ Some stamps → mark ≡ at) → Notes mark most log log' → Notes at most log log'
+notes_at None log' mark at most is n = record { stamps = []; added = tt; each = tt }
+notes_at (Some stamps) log' mark at most is n = subst (λ t. Notes t most (Some stamps) log') (is stamps refl) n
+
 -- how much is held with the front of a text
 pub held_long : (s text : List ℕ) (i : ℕ) → i ≤ length text → length (s ++ take i text) ≡ length s + i
 held_long s text i le =

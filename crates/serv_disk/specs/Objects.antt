@@ -1,6 +1,6 @@
 -- What contracts see of sources, sinks, links and doors in memory.
-use Rattle.std.specs.Prelude.{ℕ, ◌+◌, ◌-◌, ◌^◌, min, List, Some}
-use Rattle.serv_disk.specs.Sides.{Side}
+use Rattle.std.specs.Prelude.{ℕ, ◌+◌, ◌-◌, ◌^◌, min, List, Some, None}
+use Rattle.serv_disk.specs.Sides.{Reading, Writing}
 
 -- a source in memory: the bytes that are left, the numbers of the calls that fail, how many calls there were and how
 -- many of them failed
@@ -28,11 +28,11 @@ pub record LinkState : Type 0 where
   pub writing : SinkState
 
 -- its sides, each as the other sees it
-abbrev pub reading_side : LinkState → Side
-reading_side link = record { bytes = Some link.reading.rest; faults = link.reading.faults }
+abbrev pub reading_side : LinkState → Reading
+reading_side link = record { left = Some link.reading.rest; faults = link.reading.faults }
 
-abbrev pub writing_side : LinkState → Side
-writing_side link = record { bytes = Some link.writing.content; faults = link.writing.faults }
+abbrev pub writing_side : LinkState → Writing
+writing_side link = record { held = Some link.writing.content; faults = link.writing.faults; log = None; mark = 0 }
 
 -- links that are to come, in order, those that were handed back, and how many are out
 pub record LinksState (A : Type 0) : Type 0 where

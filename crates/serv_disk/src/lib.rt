@@ -27,7 +27,7 @@ pub use link::Link;
 pub use mem_disk::MemDisk;
 pub use mem_doors::{CalmDoors, MemDoors};
 pub use mem_link::{CalmLink, MemLink};
-pub use sink::{CalmSink, MemSink, Sink, WriteSink, write_whole};
+pub use sink::{CalmSink, MemSink, Sink, WriteSink, write_beside, write_whole};
 pub use source::{CalmSource, MemSource, ReadSource, Source, read_some};
 pub use tcp::{TcpDoors, TcpLink};
 pub use torn::Torn;

@@ -3,7 +3,7 @@
 ghost use Rattle.std.specs.Prelude.{◌≡◌, ℕ, ◌+◌, ◌-◌, ◌<◌, ◌≤◌, ◌↔◌, ◌++◌, List, [], None, Some, Ok, IsOk, IsErr, is_ok, if◌then◌else◌, IfOk, OnErr, OnOk, length, take, drop, min, Contains, Option, vec_len, vec_capacity};
 ghost use Rattle.std.specs.Io.KnownBytes.{Appends, Consumes, IsAtEnd};
 ghost use Rattle.serv_disk.specs.Faults.{HasCause};
-ghost use Rattle.serv_disk.specs.Sides.{Side};
+ghost use Rattle.serv_disk.specs.Sides.{Reading, Writing};
 
 use crate::disk::Disk;
 use crate::failed::Failed;
@@ -168,7 +168,7 @@ impl Source for CalmLink {
 
     ghost faults = { λ _. 0 };
 
-    ghost beside = { λ _. record { bytes = None; faults = 0 } };
+    ghost beside = { λ _. record { held = None; faults = 0; log = None; mark = 0 } };
 
     fn read(&mut self, buf: &mut [u8]) -> Result<usize, Failed> {
         self.bytes.read(buf)
@@ -180,7 +180,7 @@ impl Sink for CalmLink {
 
     ghost faults = { λ _. 0 };
 
-    ghost beside = { λ x. record { bytes = Some x; faults = 0 } };
+    ghost beside = { λ x. record { left = Some x; faults = 0 } };
 
     ghost log = { λ _. None };
 

@@ -3,7 +3,7 @@
 ghost use Rattle.std.specs.Prelude.{◌≡◌, ℕ, ◌+◌, ◌-◌, ◌<◌, ◌≤◌, ◌↔◌, ◌++◌, List, [], ◌∷◌, None, Some, IsOk, IsErr, is_ok, if◌then◌else◌, IfOk, OnErr, OnOk, length, take, Contains, Option, vec_len, vec_capacity};
 ghost use Rattle.std.specs.Io.KnownBytes.{Appends};
 ghost use Rattle.serv_disk.specs.Faults.{HasCause, AppendsPart};
-ghost use Rattle.serv_disk.specs.Sides.{Side, no_side};
+ghost use Rattle.serv_disk.specs.Sides.{Reading, no_reading};
 ghost use Rattle.serv_disk.specs.Stamps.{Adds, Notes, Stamp, stamp};
 
 use crate::disk::Disk;
@@ -21,7 +21,7 @@ pub trait Sink {
     ghost faults: { Self → ℕ };
 
     /// The other side of a link, which a write leaves as it was.
-    ghost beside: { Self → Side };
+    ghost beside: { Self → Reading };
 
     /// Its writes beside a disk, in order, where the object notes them.
     ghost log: { Self → Option (List Stamp) };
@@ -113,13 +113,13 @@ impl MemSink {
 
 impl Sink for MemSink {
     ghost use Rattle.serv_disk.specs.Objects.{raised};
-    ghost use Rattle.serv_disk.specs.Sides.{no_side};
+    ghost use Rattle.serv_disk.specs.Sides.{no_reading};
 
     ghost held = { λ s. Some s.content };
 
     ghost faults = { λ s. s.faults };
 
-    ghost beside = { λ _. no_side };
+    ghost beside = { λ _. no_reading };
 
     ghost log = { λ _. None };
 
@@ -134,7 +134,7 @@ impl Sink for MemSink {
         ensures some { IfOk result (λ n. 0 < length piece.now → 0 < n) }
         ensures appended { IfOk result (λ n. Appends (Some self.old.content) (Some self.new.content) (take n piece.now)) }
         ensures kept { OnErr result (Some self.new.content ≡ Some self.old.content) }
-        ensures beside { no_side ≡ no_side }
+        ensures beside { no_reading ≡ no_reading }
         ensures cause { HasCause self.old.faults self.new.faults result }
 
         // It takes each piece whole. With room for the piece a call fails exactly where its number is
@@ -182,7 +182,7 @@ impl Sink for CalmSink {
 
     ghost faults = { λ _. 0 };
 
-    ghost beside = { λ _. no_side };
+    ghost beside = { λ _. no_reading };
 
     ghost log = { λ _. None };
 
@@ -226,7 +226,7 @@ impl<W: Write + Drop> Sink for WriteSink<W> {
 
     ghost faults = { λ s. s.faults };
 
-    ghost beside = { λ _. no_side };
+    ghost beside = { λ _. no_reading };
 
     ghost log = { λ _. None };
 
@@ -262,4 +262,18 @@ pub fn write_whole<K: Sink>(snk: &mut K, text: &[u8]) -> Result<(), Failed>
         at += snk.write(&text[at..])?;
     }
     Ok(())
+}
+
+/// Shows a sink the disk as it is, and writes a text to its end. Where a write fails, a part of the text that does not
+/// reach its end is written.
+pub fn write_beside<D: Disk, K: Sink>(snk: &mut K, disk: &D, text: &[u8]) -> Result<(), Failed>
+    ensures whole { OnOk result (Appends (K.held snk.old) (K.held snk.new) text.now) }
+    ensures part { OnErr result (AppendsPart (K.held snk.old) (K.held snk.new) text.now) }
+    ensures cause { HasCause (K.faults snk.old) (K.faults snk.new) result }
+    ensures beside { K.beside snk.new ≡ K.beside snk.old }
+    ensures noted { (s : List ℕ) → K.held snk.old ≡ Some s
+        → Notes (D.moment disk.now) (length s + length text.now) (K.log snk.old) (K.log snk.new) }
+{
+    snk.show(disk);
+    write_whole(snk, text)
 }

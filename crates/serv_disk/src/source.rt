@@ -3,7 +3,7 @@
 ghost use Rattle.std.specs.Prelude.{◌≡◌, ℕ, ◌<◌, ◌≤◌, ◌↔◌, ◌++◌, List, [], None, Some, Ok, IsOk, IsErr, is_ok, if◌then◌else◌, IfOk, OnErr, OnOk, length, take, drop, min, Contains, Option};
 ghost use Rattle.std.specs.Io.KnownBytes.{Consumes, IsAtEnd};
 ghost use Rattle.serv_disk.specs.Faults.{HasCause};
-ghost use Rattle.serv_disk.specs.Sides.{Side, no_side};
+ghost use Rattle.serv_disk.specs.Sides.{Writing, no_writing};
 
 use crate::failed::{Failed, is_among};
 use std::alloc::Global;
@@ -19,7 +19,7 @@ pub trait Source {
     ghost faults: { Self → ℕ };
 
     /// The other side of a link, which a read leaves as it was.
-    ghost beside: { Self → Side };
+    ghost beside: { Self → Writing };
 
     /// Reads up to as many bytes as there is room for, to the front of `buf`. 0 says that nothing is
     /// left, where there is room.
@@ -72,7 +72,7 @@ impl Source for CalmSource {
 
     ghost faults = { λ _. 0 };
 
-    ghost beside = { λ _. no_side };
+    ghost beside = { λ _. no_writing };
 
     fn read(&mut self, buf: &mut [u8]) -> Result<usize, Failed> {
         Ok(self.give(buf))
@@ -115,20 +115,20 @@ impl MemSource {
 
 impl Source for MemSource {
     ghost use Rattle.serv_disk.specs.Objects.{raised};
-    ghost use Rattle.serv_disk.specs.Sides.{no_side};
+    ghost use Rattle.serv_disk.specs.Sides.{no_writing};
 
     ghost left = { λ s. Some s.rest };
 
     ghost faults = { λ s. s.faults };
 
-    ghost beside = { λ _. no_side };
+    ghost beside = { λ _. no_writing };
 
     fn read(&mut self, buf: &mut [u8]) -> Result<usize, Failed>
         ensures bound { IfOk result (λ n. n ≤ length buf.old) }
         ensures taken { IfOk result (λ n. Consumes (Some self.old.rest) (Some self.new.rest) (take n buf.new)) }
         ensures end { IfOk result (λ n. n ≡ 0 → 0 < length buf.old → IsAtEnd (Some self.new.rest)) }
         ensures kept { OnErr result (self.new.rest ≡ self.old.rest) }
-        ensures beside { no_side ≡ no_side }
+        ensures beside { no_writing ≡ no_writing }
         ensures cause { HasCause self.old.faults self.new.faults result }
 
         // A call fails exactly where its number is in the list, and reads as much as it can.
@@ -178,7 +178,7 @@ impl<R: Read + Drop> Source for ReadSource<R> {
 
     ghost faults = { λ s. s.faults };
 
-    ghost beside = { λ _. no_side };
+    ghost beside = { λ _. no_writing };
 
     fn read(&mut self, buf: &mut [u8]) -> Result<usize, Failed> {
         match self.reader.read(buf) {

@@ -41,7 +41,7 @@ impl<R: Net> Source for TcpLink<R> {
 
     ghost faults = { λ x. x.read_faults };
 
-    ghost beside = { λ x. record { bytes = None; faults = x.write_faults } };
+    ghost beside = { λ x. record { held = None; faults = x.write_faults; log = None; mark = 0 } };
 
     fn read(&mut self, buf: &mut [u8]) -> Result<usize, Failed> {
         match self.stream.read(buf) {
@@ -59,7 +59,7 @@ impl<R: Net> Sink for TcpLink<R> {
 
     ghost faults = { λ x. x.write_faults };
 
-    ghost beside = { λ x. record { bytes = None; faults = x.read_faults } };
+    ghost beside = { λ x. record { left = None; faults = x.read_faults } };
 
     ghost log = { λ _. None };
 

@@ -4,8 +4,11 @@ use Rattle.std.specs.Prelude.{Option, Some, None}
 use Rattle.std.proofs.lemmas.List.Sums.{sum_by_push}
 use Rattle.svc_world.specs.World.{Accepted}
 use Rattle.serv_disk.specs.Listening.{IsNext, IsBack}
+use Rattle.serv_disk.specs.Stamps.{Stamp}
 use Rattle.serv_machine.specs.OnDisk.{OnDisk}
+use Rattle.serv_machine.specs.Upheld.{Upholds}
 use Rattle.serv_machine.proofs.OnDiskLemmas.{disk_more}
+use Rattle.serv_machine.proofs.UpheldLemmas.{upheld_later}
 use Rattle.serv_links.specs.declared.doors.DoorsEnd.TheVariants as doors_end
 use Rattle.serv_links.specs.declared.link_end.LinkEnd.{LinkEnd}
 use Rattle.serv_links.specs.declared.link_end.LinkEnd.TheVariants.{Ended, Broken, Cut, Disk, NoMemory}
@@ -13,6 +16,7 @@ use Rattle.serv_links.specs.declared.summary.Summary.{Summary}
 use Rattle.serv_links.specs.Responses.{Stand}
 use Rattle.serv_disk.specs.Faults.{HasRisen}
 use Rattle.serv_links.specs.Outcomes.{Writes}
+use Rattle.serv_links.specs.Answered.{AreAnswersOf}
 use Rattle.serv_links.specs.Links.{IsDiskEnd, Serves, number_in}
 use Rattle.serv_links.specs.Doors.{ServedLink, AreServed, AreTaken, AreBack, AreNone, HasServed, NoDisk, IsSummary, ServesDoors, as_broken, as_cut, as_memory}
 
@@ -91,33 +95,50 @@ pub disk_end : (e : LinkEnd) (n : ℕ) → e ≡ Disk n → IsDiskEnd e
 disk_end e n is = subst IsDiskEnd (sym is) tt
 
 -- where the disk did not fail, no command was being appended
-nothing_pending : (e : LinkEnd) (reads writes : Type 0) (left left' : Option (List ℕ)) (s s' : Stand) (pending : List Accepted) (added : List ℕ) → ¬ (IsDiskEnd e)
-    → Serves e reads writes left left' s s' pending added → pending ≡ []
-nothing_pending (Ended n) reads writes left left' s s' pending added calm is = is.says.0
-nothing_pending (Cut n) reads writes left left' s s' pending added calm is = is.says.0
-nothing_pending (Disk n) reads writes left left' s s' pending added calm is = absurd (calm tt)
-nothing_pending (Broken n) reads writes left left' s s' pending added calm is = elim is.says [ inl read ↦ read.1 | inr write ↦ write.1.stopped.one.0 ]
-nothing_pending (NoMemory n) reads writes left left' s s' pending added calm is = elim is.says [ inl cut ↦ cut.stopped.one.0 | inr starved ↦ starved.0 ]
+nothing_pending : (e : LinkEnd) (reads writes : Type 0) (U : (ℕ → List Accepted → Type 0) → Type 0) (left left' : Option (List ℕ)) (s s' : Stand) (pending : List Accepted) (added : List ℕ) → ¬ (IsDiskEnd e)
+    → Serves e reads writes U left left' s s' pending added → pending ≡ []
+nothing_pending (Ended n) reads writes U left left' s s' pending added calm is = is.says.0
+nothing_pending (Cut n) reads writes U left left' s s' pending added calm is = is.says.0
+nothing_pending (Disk n) reads writes U left left' s s' pending added calm is = absurd (calm tt)
+nothing_pending (Broken n) reads writes U left left' s s' pending added calm is = elim is.says [ inl read ↦ read.1 | inr write ↦ write.1.stopped.one.0 ]
+nothing_pending (NoMemory n) reads writes U left left' s s' pending added calm is = elim is.says [ inl cut ↦ cut.stopped.one.0 | inr starved ↦ starved.0 ]
 
 -- ---- links so far
 
--- ---- links so far
+-- what holds of a link holds of it later
+serves_later : (U V : (ℕ → List Accepted → Type 0) → Type 0) (e : LinkEnd) (reads writes : Type 0) (left left' : Option (List ℕ)) (s s' : Stand) (pending : List Accepted) (added : List ℕ)
+    → ((Covers : ℕ → List Accepted → Type 0) → U Covers → V Covers) → Serves e reads writes U left left' s s' pending added → Serves e reads writes V left left' s s' pending added
+serves_later U V e reads writes left left' s s' pending added then is =
+    record { taken = is.taken; took = is.took; within = is.within; read_on = is.read_on; says = is.says; acknowledged = then (AreAnswersOf s.history is.taken) is.acknowledged }
 
--- a link that was served
-pub link_of : {D C : Type 0} (images : D → List ℕ → Type 0) (moment : D → ℕ) (images_since : D → ℕ → List ℕ → Type 0) (left held : C → Option (List ℕ)) (reads writes : C → ℕ) (old new : D)
-    (e : LinkEnd) (x y : C) (s s' : Stand)
-    (w : Writes images moment images_since old new (Serves e (HasRisen (reads x) (reads y)) (HasRisen (writes x) (writes y)) (left x) (left y) s s') s.history.commands s'.history.commands (held x) (held y))
-    → ServedLink left held reads writes e x y s s' w.pending
-link_of images moment images_since left held reads writes old new e x y s s' w = record { added = w.wrote; appends = w.appends; serves = w.says_so }
+module _ {D C : Type 0} (images : D → List ℕ → Type 0) (moment : D → ℕ) (images_since : D → ℕ → List ℕ → Type 0) (left held : C → Option (List ℕ)) (log : C → Option (List Stamp)) (reads writes : C → ℕ) where
+  -- a link that was served, where the disk is this one and the books stand so
+  abbrev P : D → Stand → LinkEnd → C → C → Stand → Stand → List Accepted → Type 0
+  P d exit = ServedLink left held log reads writes (moment d) (images_since d) exit
 
-module _ {D C : Type 0} (images : D → List ℕ → Type 0) (moment : D → ℕ) (images_since : D → ℕ → List ℕ → Type 0) (left held : C → Option (List ℕ)) (reads writes : C → ℕ) where
-  abbrev P : LinkEnd → C → C → Stand → Stand → List Accepted → Type 0
-  P = ServedLink left held reads writes
+  -- the disk's calls go on
+  module _ (mid new : D) (t u : Stand) (pending : List Accepted) (disk : OnDisk images moment images_since mid new t.history.commands u.history.commands pending) where
+    link_later : (e : LinkEnd) (x y : C) (s s' : Stand) (p : List Accepted) → P mid t e x y s s' p → P new u e x y s s' p
+    link_later e x y s s' p is = record {
+      added = is.added;
+      appends = is.appends;
+      serves = serves_later _ _ e _ _ (left x) (left y) s s' p is.added
+          (λ Covers up. upheld_later images moment images_since mid new t.history.commands u.history.commands pending disk Covers (held x) (log x) (log y) up) is.serves;
+    }
+
+    links_later : (ends : List LinkEnd) (came back : List C) (s s' : Stand) (p : List Accepted) → AreServed (P mid t) ends came back s s' p → AreServed (P new u) ends came back s s' p
+    links_later [] [] [] s s' p all = all
+    links_later [] [] (y ∷ back) s s' p all = absurd all
+    links_later [] (x ∷ came) back s s' p all = absurd all
+    links_later (e ∷ ends) [] back s s' p all = absurd all
+    links_later (e ∷ ends) (x ∷ came) [] s s' p all = absurd all
+    links_later (e ∷ ends) (x ∷ came) (y ∷ back) s s' p (v, (now, (later, first, rest, is))) =
+        (v, (now, (later, link_later e x y s v now first, links_later ends came back v s' later rest, is)))
 
   -- so many links are served, and at none the disk failed
   pub record Along (old new : D) (summary : Summary) (n : ℕ) (coming coming' backed backed' : Option (List C)) (s s' : Stand) : Type 0 where
     pub ends : List LinkEnd
-    pub has : HasServed P coming coming' backed backed' ends s s' []
+    pub has : HasServed (P new s') coming coming' backed backed' ends s s' []
     pub calm : NoDisk ends
     pub counted : IsSummary ends summary
     pub count : length ends ≡ n
@@ -135,42 +156,44 @@ module _ {D C : Type 0} (images : D → List ℕ → Type 0) (moment : D → ℕ
   }
 
   module _ (old mid : D) (summary : Summary) (n : ℕ) (c0 c1 b0 b1 : Option (List C)) (s t : Stand) (along : Along old mid summary n c0 c1 b0 b1 s t) where
-    has_more : (c2 c3 b2 b3 : Option (List C)) (e : LinkEnd) (x y : C) (s' : Stand) (pending : List Accepted) → IsNext c1 c2 (Some x) → c3 ≡ c2 → b2 ≡ b1 → IsBack b2 b3 y → P e x y t s' pending
-        → HasServed P c0 c3 b0 b3 (along.ends ++ e ∷ []) s s' pending
-    has_more c2 c3 b2 b3 e x y s' pending next stays kept back one = record {
+    has_more : (new : D) (c2 c3 b2 b3 : Option (List C)) (e : LinkEnd) (x y : C) (s' : Stand) (pending : List Accepted) → OnDisk images moment images_since mid new t.history.commands s'.history.commands pending
+        → IsNext c1 c2 (Some x) → c3 ≡ c2 → b2 ≡ b1 → IsBack b2 b3 y → P new s' e x y t s' pending → HasServed (P new s') c0 c3 b0 b3 (along.ends ++ e ∷ []) s s' pending
+    has_more new c2 c3 b2 b3 e x y s' pending disk next stays kept back one = record {
       came = along.has.came ++ x ∷ [];
       back = along.has.back ++ y ∷ [];
       taken = subst (λ c. AreTaken c0 c (along.has.came ++ x ∷ [])) (sym stays) (taken_more c0 c1 c2 along.has.came x along.has.taken next);
       handed = back_more b0 b1 b3 along.has.back y along.has.handed (subst (λ b. IsBack b b3 y) kept back);
-      served = served_more P along.ends along.has.came along.has.back s t s' [] pending e x y along.has.served one;
+      served = served_more (P new s') along.ends along.has.came along.has.back s t s' [] pending e x y
+          (links_later mid new t s' pending disk along.ends along.has.came along.has.back s t [] along.has.served) one;
     }
 
     module _ (new : D) (summary' : Summary) (c2 c3 b2 b3 : Option (List C)) (e : LinkEnd) (x y : C) (s' : Stand)
         (next : IsNext c1 c2 (Some x)) (stays : c3 ≡ c2) (kept : b2 ≡ b1) (back : IsBack b2 b3 y)
-        (link : Writes images moment images_since mid new (Serves e (HasRisen (reads x) (reads y)) (HasRisen (writes x) (writes y)) (left x) (left y) t s') t.history.commands s'.history.commands (held x) (held y))
+        (link : Writes images moment images_since mid new (Serves e (HasRisen (reads x) (reads y)) (HasRisen (writes x) (writes y))
+        (λ covers. Upholds covers (moment new) (images_since new) s'.history.commands (held x) (log x) (log y)) (left x) (left y) t s') t.history.commands s'.history.commands (held x) (held y))
         (counted : IsSummary (along.ends ++ e ∷ []) summary') where
       disk_on : OnDisk images moment images_since old new s.history.commands s'.history.commands link.pending
       disk_on = disk_more images moment images_since old mid new s.history.commands t.history.commands s'.history.commands link.pending along.disk link.disk
 
-      has_on : HasServed P c0 c3 b0 b3 (along.ends ++ e ∷ []) s s' link.pending
-      has_on = has_more c2 c3 b2 b3 e x y s' link.pending next stays kept back (record { added = link.wrote; appends = link.appends; serves = link.says_so })
+      has_on : HasServed (P new s') c0 c3 b0 b3 (along.ends ++ e ∷ []) s s' link.pending
+      has_on = has_more new c2 c3 b2 b3 e x y s' link.pending link.disk next stays kept back (record { added = link.wrote; appends = link.appends; serves = link.says_so })
 
       long : length (along.ends ++ e ∷ []) ≡ n + 1
       long = let joined = length-append along.ends (e ∷ []) in let is = along.count in omega arith
 
       pub along_more : ¬ (IsDiskEnd e) → Along old new summary' (n + 1) c0 c3 b0 b3 s s'
       along_more calm =
-          let none : link.pending ≡ [] = nothing_pending e _ _ _ _ t s' link.pending link.wrote calm link.says_so in
+          let none : link.pending ≡ [] = nothing_pending e _ _ _ _ _ t s' link.pending link.wrote calm link.says_so in
           record {
             ends = along.ends ++ e ∷ [];
-            has = subst (λ p. HasServed P c0 c3 b0 b3 (along.ends ++ e ∷ []) s s' p) none has_on;
+            has = subst (λ p. HasServed (P new s') c0 c3 b0 b3 (along.ends ++ e ∷ []) s s' p) none has_on;
             calm = calm_more along.ends e along.calm calm;
             counted = counted;
             count = long;
             disk = subst (λ p. OnDisk images moment images_since old new s.history.commands s'.history.commands p) none disk_on;
           }
 
-      pub along_stops : (most : ℕ) → n < most → IsDiskEnd e → ServesDoors images moment images_since old new P doors_end.DiskFault summary' most c0 c3 b0 b3 s s'
+      pub along_stops : (most : ℕ) → n < most → IsDiskEnd e → ServesDoors images moment images_since old new (P new) doors_end.DiskFault summary' most c0 c3 b0 b3 s s'
       along_stops most below failed = record {
         ends = along.ends ++ e ∷ [];
         pending = link.pending;
@@ -181,7 +204,7 @@ module _ {D C : Type 0} (images : D → List ℕ → Type 0) (moment : D → ℕ
       }
 
     -- no link comes
-    pub along_over : (c2 b2 : Option (List C)) (most : ℕ) → n < most → IsNext c1 c2 None → b2 ≡ b1 → ServesDoors images moment images_since old mid P doors_end.Done summary most c0 c2 b0 b2 s t
+    pub along_over : (c2 b2 : Option (List C)) (most : ℕ) → n < most → IsNext c1 c2 None → b2 ≡ b1 → ServesDoors images moment images_since old mid (P mid) doors_end.Done summary most c0 c2 b0 b2 s t
     along_over c2 b2 most below next kept =
         let end = taken_end c0 c1 c2 along.has.came along.has.taken next in
         record {
@@ -194,7 +217,7 @@ module _ {D C : Type 0} (images : D → List ℕ → Type 0) (moment : D → ℕ
         }
 
     -- the doors fail
-    pub along_fails : (c2 b2 : Option (List C)) (most : ℕ) → n < most → c2 ≡ c1 → b2 ≡ b1 → ServesDoors images moment images_since old mid P doors_end.NetFault summary most c0 c2 b0 b2 s t
+    pub along_fails : (c2 b2 : Option (List C)) (most : ℕ) → n < most → c2 ≡ c1 → b2 ≡ b1 → ServesDoors images moment images_since old mid (P mid) doors_end.NetFault summary most c0 c2 b0 b2 s t
     along_fails c2 b2 most below same kept = record {
       ends = along.ends;
       pending = [];
@@ -211,7 +234,7 @@ module _ {D C : Type 0} (images : D → List ℕ → Type 0) (moment : D → ℕ
     }
 
     -- as many as were asked for
-    pub along_done : (most : ℕ) → n ≡ most → ServesDoors images moment images_since old mid P doors_end.Done summary most c0 c1 b0 b1 s t
+    pub along_done : (most : ℕ) → n ≡ most → ServesDoors images moment images_since old mid (P mid) doors_end.Done summary most c0 c1 b0 b1 s t
     along_done most all = record {
       ends = along.ends;
       pending = [];

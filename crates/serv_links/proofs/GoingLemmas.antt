@@ -5,12 +5,12 @@ use Rattle.std.specs.Io.KnownBytes.{Consumes, IsAtEnd}
 use Rattle.std.proofs.KnownBytes.{Appends-nil, Consumes-nil, Consumes-trans}
 use Rattle.std.proofs.lemmas.Bool.{both_ways}
 use Rattle.svc_world.specs.World.{Accepted}
-use Rattle.serv_disk.specs.Sides.{Side}
+use Rattle.serv_disk.specs.Sides.{Reading, Writing}
+use Rattle.serv_disk.specs.Stamps.{Stamp}
 use Rattle.serv_http.specs.declared.ask.Ask.{Ask}
 use Rattle.serv_http.specs.declared.conn.Conn.{Conn}
 use Rattle.serv_http.specs.Conns.{StandsFor, StandsForLeft, is_over}
 use Rattle.serv_http.specs.Streams.{AsksTo}
-use Rattle.serv_http.proofs.StepLemmas.{nothing-more, nothing-open}
 use Rattle.serv_http.proofs.StreamLemmas.{asks-grow}
 use Rattle.serv_machine.specs.OnDisk.{OnDisk}
 use Rattle.serv_links.specs.declared.link_end.LinkEnd.TheVariants as link_end
@@ -18,11 +18,16 @@ use Rattle.serv_links.specs.declared.outcome.Outcome.{Outcome}
 use Rattle.serv_links.specs.declared.outcome.Outcome.TheVariants as outcome
 use Rattle.serv_links.specs.Responses.{Stand, response_503}
 use Rattle.serv_links.specs.Outcomes.{IsAnswered, IsCutOff, IsUnread, IsPiece, AppendsFront, Writes}
+use Rattle.serv_machine.specs.Upheld.{Upholds}
+use Rattle.serv_machine.proofs.UpheldLemmas.{upheld_none}
+use Rattle.serv_links.specs.Answered.{AreAnswersIn, AreAnswersOf}
+use Rattle.serv_links.proofs.AnsweredLemmas.{asks_none, piece_upheld}
 use Rattle.serv_links.specs.Links.{IsAll, IsReadOn, IsStarved, Serves, link_limit, read_limit}
 use Rattle.serv_links.proofs.RoundLemmas.{answered_none, answered_more, stopped_more, piece_weaker, writes_more, writes_as}
 
--- all requests of the bytes taken are answered, and the connection stands for what is left of them
-pub record Going (left left' : Option (List ℕ)) (c : Conn) (n taken : ℕ) (s s' : Stand) (pending : List Accepted) (added : List ℕ) : Type 0 where
+-- all requests of the bytes taken are answered, and the connection stands for what is left of them; and of what so many bytes
+-- answer, which writes are upheld
+pub record Going (upheld : (ℕ → List Accepted → Type 0) → Type 0) (left left' : Option (List ℕ)) (c : Conn) (n taken : ℕ) (s s' : Stand) (pending : List Accepted) (added : List ℕ) : Type 0 where
   pub nothing : pending ≡ []
   pub bytes : List ℕ
   pub took : Consumes left left' bytes
@@ -32,9 +37,10 @@ pub record Going (left left' : Option (List ℕ)) (c : Conn) (n taken : ℕ) (s 
   pub asked : AsksTo bytes asks (Some rest)
   pub stands : StandsFor c rest
   pub answered : IsAnswered n asks s s' added
+  pub acknowledged : upheld (AreAnswersOf s.history bytes)
 
 -- the same where the connection may have ended
-pub record Passed (left left' : Option (List ℕ)) (c : Conn) (n taken : ℕ) (s s' : Stand) (pending : List Accepted) (added : List ℕ) : Type 0 where
+pub record Passed (upheld : (ℕ → List Accepted → Type 0) → Type 0) (left left' : Option (List ℕ)) (c : Conn) (n taken : ℕ) (s s' : Stand) (pending : List Accepted) (added : List ℕ) : Type 0 where
   pub nothing : pending ≡ []
   pub bytes : List ℕ
   pub took : Consumes left left' bytes
@@ -45,19 +51,29 @@ pub record Passed (left left' : Option (List ℕ)) (c : Conn) (n taken : ℕ) (s
   pub stands : StandsForLeft c over
   pub read_on : IsReadOn bytes
   pub answered : IsAnswered n asks s s' added
+  pub acknowledged : upheld (AreAnswersOf s.history bytes)
 
 -- ---- sides of a link
 
-pub same_bytes : (x y : Side) (b b' : Option (List ℕ)) (f f' : ℕ) → x ≡ record { bytes = b; faults = f } → y ≡ record { bytes = b'; faults = f' } → y ≡ x → b' ≡ b
-same_bytes x y b b' f f' xs ys same = ap (λ (z : Side). z.bytes) (sym ys ∙ (same ∙ xs))
+-- what a write leaves of the side that is read
+pub same_left : (x y : Reading) (b b' : Option (List ℕ)) (f f' : ℕ) → x ≡ record { left = b; faults = f } → y ≡ record { left = b'; faults = f' } → y ≡ x → b' ≡ b
+same_left x y b b' f f' xs ys same = ap (λ (z : Reading). z.left) (sym ys ∙ (same ∙ xs))
 
-pub same_faults : (x y : Side) (b b' : Option (List ℕ)) (f f' : ℕ) → x ≡ record { bytes = b; faults = f } → y ≡ record { bytes = b'; faults = f' } → y ≡ x → f' ≡ f
-same_faults x y b b' f f' xs ys same = ap (λ (z : Side). z.faults) (sym ys ∙ (same ∙ xs))
+pub same_reads : (x y : Reading) (b b' : Option (List ℕ)) (f f' : ℕ) → x ≡ record { left = b; faults = f } → y ≡ record { left = b'; faults = f' } → y ≡ x → f' ≡ f
+same_reads x y b b' f f' xs ys same = ap (λ (z : Reading). z.faults) (sym ys ∙ (same ∙ xs))
+
+-- what a read leaves of the side that is written
+module _ (x y : Writing) (b b' : Option (List ℕ)) (f f' : ℕ) (l l' : Option (List Stamp)) (m m' : ℕ) (xs : x ≡ record { held = b; faults = f; log = l; mark = m }) (ys : y ≡ record { held = b'; faults = f'; log = l'; mark = m' }) (same : y ≡ x) where
+  pub same_held : b' ≡ b
+  same_held = ap (λ (z : Writing). z.held) (sym ys ∙ (same ∙ xs))
+
+  pub same_writes : f' ≡ f
+  same_writes = ap (λ (z : Writing). z.faults) (sym ys ∙ (same ∙ xs))
+
+  pub same_log : l' ≡ l
+  same_log = ap (λ (z : Writing). z.log) (sym ys ∙ (same ∙ xs))
 
 -- ---- the bytes of two pieces
-
-asks_none : AsksTo [] [] (Some [])
-asks_none = (inl (nothing-more, nothing-open), refl)
 
 bytes_more : (bytes piece : List ℕ) (taken count : ℕ) → taken ≡ length bytes → length piece ≡ count → taken + count ≡ length (bytes ++ piece)
 bytes_more bytes piece taken count is long = let joined = length-append bytes piece in omega arith
@@ -67,14 +83,15 @@ took_more left left' left'' left''' bytes piece first second same = subst (λ l.
 
 -- ---- what the next piece makes of it
 
-module _ (left left' : Option (List ℕ)) (c : Conn) (n taken : ℕ) (s t : Stand) (pending : List Accepted) (added : List ℕ) (going : Going left left' c n taken s t pending added)
-    (left'' left''' : Option (List ℕ)) (piece : List ℕ) (count : ℕ) (long : length piece ≡ count) (few : count ≤ read_limit) (took : Consumes left' left'' piece) (same : left''' ≡ left'') (cut : Type 0) where
+module _ (U V : (ℕ → List Accepted → Type 0) → Type 0) (left left' : Option (List ℕ)) (c : Conn) (n taken : ℕ) (s t : Stand) (pending : List Accepted) (added : List ℕ) (going : Going U left left' c n taken s t pending added)
+    (left'' left''' : Option (List ℕ)) (piece : List ℕ) (count : ℕ) (long : length piece ≡ count) (few : count ≤ read_limit) (took : Consumes left' left'' piece) (same : left''' ≡ left'') (cut : Type 0)
+    (up : V (AreAnswersOf s.history (going.bytes ++ piece))) where
   -- it went on before the piece
   last_read : IsReadOn (going.bytes ++ piece)
   last_read = record { before = going.bytes; piece = piece; parted = refl; few = omega (arith, few, long); asks = going.asks; going = going.rest; asked = going.asked }
 
   passed_more : (m : ℕ) (c' : Conn) (t' : Stand) (pending' : List Accepted) (w : List ℕ) → IsPiece cut outcome.Answered m (going.rest ++ piece) c' t t' pending' w
-      → Passed left left''' c' (n + m) (taken + count) s t' pending' (added ++ w)
+      → Passed V left left''' c' (n + m) (taken + count) s t' pending' (added ++ w)
   passed_more m c' t' pending' w more = record {
     nothing = more.nothing;
     bytes = going.bytes ++ piece;
@@ -86,6 +103,7 @@ module _ (left left' : Option (List ℕ)) (c : Conn) (n taken : ℕ) (s t : Stan
     stands = more.fed.2;
     read_on = last_read;
     answered = answered_more n m going.asks more.asks s t t' added w going.answered more.answered;
+    acknowledged = up;
   }
 
   cut_off_more : (o : Outcome) (m : ℕ) (t' : Stand) (pending' : List Accepted) (w : List ℕ) → IsCutOff cut o m (going.rest ++ piece) t t' pending' w
@@ -115,51 +133,54 @@ module _ (left left' : Option (List ℕ)) (c : Conn) (n taken : ℕ) (s t : Stan
     small : length (going.bytes ++ piece) ≤ link_limit
     small = let all = bytes_more going.bytes piece taken count going.count long in omega arith
 
-    broken_more : cut → IsPiece cut outcome.Broken m (going.rest ++ piece) c' t t' pending' w → Serves (link_end.Broken (n + m)) reads cut left left''' s t' pending' (added ++ w)
-    broken_more risen more = record { taken = going.bytes ++ piece; took = took_more left left' left'' left''' going.bytes piece going.took took same; within = small; read_on = last_read; says = inr (risen, cut_off_more outcome.Broken m t' pending' w more) }
+    broken_more : cut → IsPiece cut outcome.Broken m (going.rest ++ piece) c' t t' pending' w → Serves (link_end.Broken (n + m)) reads cut V left left''' s t' pending' (added ++ w)
+    broken_more risen more = record { taken = going.bytes ++ piece; took = took_more left left' left'' left''' going.bytes piece going.took took same; within = small; read_on = last_read; says = inr (risen, cut_off_more outcome.Broken m t' pending' w more); acknowledged = up }
 
-    disk_more_end : IsPiece cut outcome.Disk m (going.rest ++ piece) c' t t' pending' w → Serves (link_end.Disk (n + m)) reads cut left left''' s t' pending' (added ++ w)
-    disk_more_end more = record { taken = going.bytes ++ piece; took = took_more left left' left'' left''' going.bytes piece going.took took same; within = small; read_on = last_read; says = cut_off_more outcome.Disk m t' pending' w more }
+    disk_more_end : IsPiece cut outcome.Disk m (going.rest ++ piece) c' t t' pending' w → Serves (link_end.Disk (n + m)) reads cut V left left''' s t' pending' (added ++ w)
+    disk_more_end more = record { taken = going.bytes ++ piece; took = took_more left left' left'' left''' going.bytes piece going.took took same; within = small; read_on = last_read; says = cut_off_more outcome.Disk m t' pending' w more; acknowledged = up }
 
-    memory_more : IsPiece cut outcome.NoMemory m (going.rest ++ piece) c' t t' pending' w → Serves (link_end.NoMemory (n + m)) reads cut left left''' s t' pending' (added ++ w)
-    memory_more (inl more) = record { taken = going.bytes ++ piece; took = took_more left left' left'' left''' going.bytes piece going.took took same; within = small; read_on = last_read; says = inl (cut_off_more outcome.NoMemory m t' pending' w more) }
-    memory_more (inr unread) = record { taken = going.bytes ++ piece; took = took_more left left' left'' left''' going.bytes piece going.took took same; within = small; read_on = last_read; says = inr (unread.nothing, starved_more m t' pending' w unread) }
+    memory_more : IsPiece cut outcome.NoMemory m (going.rest ++ piece) c' t t' pending' w → Serves (link_end.NoMemory (n + m)) reads cut V left left''' s t' pending' (added ++ w)
+    memory_more (inl more) = record { taken = going.bytes ++ piece; took = took_more left left' left'' left''' going.bytes piece going.took took same; within = small; read_on = last_read; says = inl (cut_off_more outcome.NoMemory m t' pending' w more); acknowledged = up }
+    memory_more (inr unread) = record { taken = going.bytes ++ piece; took = took_more left left' left'' left''' going.bytes piece going.took took same; within = small; read_on = last_read; says = inr (unread.nothing, starved_more m t' pending' w unread); acknowledged = up }
 
 -- ---- where it ends without a further piece
 
-module _ (left left' : Option (List ℕ)) (c : Conn) (n taken : ℕ) (s t : Stand) (pending : List Accepted) (added : List ℕ) (reads writes : Type 0) where
-  going_all : (g : Going left left' c n taken s t pending added) → IsAll n g.bytes added s t (Some g.rest)
+module _ (U : (ℕ → List Accepted → Type 0) → Type 0) (left left' : Option (List ℕ)) (c : Conn) (n taken : ℕ) (s t : Stand) (pending : List Accepted) (added : List ℕ) (reads writes : Type 0) where
+  going_all : (g : Going U left left' c n taken s t pending added) → IsAll n g.bytes added s t (Some g.rest)
   going_all g = record { asks = g.asks; asked = g.asked; answered = g.answered }
 
-  going_read : (g : Going left left' c n taken s t pending added) → IsReadOn g.bytes
+  going_read : (g : Going U left left' c n taken s t pending added) → IsReadOn g.bytes
   going_read g = record { before = g.bytes; piece = []; parted = sym (append-nil g.bytes); few = omega arith; asks = g.asks; going = g.rest; asked = g.asked }
 
-  ended_at_end : Going left left' c n taken s t pending added → (left'' : Option (List ℕ)) → taken < link_limit → Consumes left' left'' [] → IsAtEnd left''
-      → Serves (link_end.Ended n) reads writes left left'' s t pending added
+  ended_at_end : Going U left left' c n taken s t pending added → (left'' : Option (List ℕ)) → taken < link_limit → Consumes left' left'' [] → IsAtEnd left''
+      → Serves (link_end.Ended n) reads writes U left left'' s t pending added
   ended_at_end g left'' below took end = record {
     taken = g.bytes;
     took = subst (Consumes left left'') (append-nil g.bytes) (Consumes-trans left left' left'' g.bytes [] g.took took);
     within = (let is = g.count in omega arith);
     read_on = going_read g;
     says = (g.nothing, (let is = g.count in omega arith), (Some g.rest, going_all g, inl end));
+    acknowledged = g.acknowledged;
   }
 
-  broken_at_read : Going left left' c n taken s t pending added → (left'' : Option (List ℕ)) → taken < link_limit → left'' ≡ left' → reads → Serves (link_end.Broken n) reads writes left left'' s t pending added
+  broken_at_read : Going U left left' c n taken s t pending added → (left'' : Option (List ℕ)) → taken < link_limit → left'' ≡ left' → reads → Serves (link_end.Broken n) reads writes U left left'' s t pending added
   broken_at_read g left'' below same risen = record {
     taken = g.bytes;
     took = subst (λ l. Consumes left l g.bytes) (sym same) g.took;
     within = (let is = g.count in omega arith);
     read_on = going_read g;
     says = inl (risen, g.nothing, (let is = g.count in omega arith), (g.rest, going_all g));
+    acknowledged = g.acknowledged;
   }
 
-  cut_at_limit : Passed left left' c n taken s t pending added → taken ≡ link_limit → Serves (link_end.Cut n) reads writes left left' s t pending added
+  cut_at_limit : Passed U left left' c n taken s t pending added → taken ≡ link_limit → Serves (link_end.Cut n) reads writes U left left' s t pending added
   cut_at_limit p full = record {
     taken = p.bytes;
     took = p.took;
     within = (let is = p.count in omega arith);
     read_on = p.read_on;
     says = (p.nothing, (let is = p.count in omega arith), (p.over, record { asks = p.asks; asked = p.asked; answered = p.answered }));
+    acknowledged = p.acknowledged;
   }
 
   -- a connection that has ended stands for no bytes
@@ -167,20 +188,21 @@ module _ (left left' : Option (List ℕ)) (c : Conn) (n taken : ℕ) (s t : Stan
   over_is None stands none = refl
   over_is (Some r) stands none = absurd (none r stands)
 
-  ended_at_request : Passed left left' c n taken s t pending added → taken < link_limit → ((r : List ℕ) → StandsFor c r → ⊥) → Serves (link_end.Ended n) reads writes left left' s t pending added
+  ended_at_request : Passed U left left' c n taken s t pending added → taken < link_limit → ((r : List ℕ) → StandsFor c r → ⊥) → Serves (link_end.Ended n) reads writes U left left' s t pending added
   ended_at_request p below none = record {
     taken = p.bytes;
     took = p.took;
     within = (let is = p.count in omega arith);
     read_on = p.read_on;
     says = (p.nothing, (let is = p.count in omega arith), (p.over, record { asks = p.asks; asked = p.asked; answered = p.answered }, inr (over_is p.over p.stands none)));
+    acknowledged = p.acknowledged;
   }
 
   rest_of : (over : Option (List ℕ)) → is_over c ≡ false → StandsForLeft c over → (r : List ℕ) × (over ≡ Some r) × StandsFor c r
   rest_of None going stands = absurd (both_ways (is_over c) going stands)
   rest_of (Some r) going stands = (r, refl, stands)
 
-  going_on : Passed left left' c n taken s t pending added → is_over c ≡ false → Going left left' c n taken s t pending added
+  going_on : Passed U left left' c n taken s t pending added → is_over c ≡ false → Going U left left' c n taken s t pending added
   going_on p going =
       let r = rest_of p.over going p.stands in
       record {
@@ -193,16 +215,17 @@ module _ (left left' : Option (List ℕ)) (c : Conn) (n taken : ℕ) (s t : Stan
         asked = subst (AsksTo p.bytes p.asks) r.1 p.asked;
         stands = r.2;
         answered = p.answered;
+        acknowledged = p.acknowledged;
       }
 
 -- ---- with what is written to the link and left on a disk
 
 module _ {D : Type 0} (images : D → List ℕ → Type 0) (moment : D → ℕ) (images_since : D → ℕ → List ℕ → Type 0) where
   -- no memory was there for the connection
-  pub starved_at_once : (d : D) (reads writes : Type 0) (left left' held held' : Option (List ℕ)) (s : Stand) → left' ≡ left → AppendsFront writes held held' response_503
+  pub starved_at_once : (d : D) (reads writes : Type 0) (U : (ℕ → List Accepted → Type 0) → Type 0) (left left' held held' : Option (List ℕ)) (s : Stand) → U (AreAnswersOf s.history []) → left' ≡ left → AppendsFront writes held held' response_503
       → OnDisk images moment images_since d d s.history.commands s.history.commands []
-      → Writes images moment images_since d d (Serves (link_end.NoMemory 0) reads writes left left' s s) s.history.commands s.history.commands held held'
-  starved_at_once d reads writes left left' held held' s same front disk = record {
+      → Writes images moment images_since d d (Serves (link_end.NoMemory 0) reads writes U left left' s s) s.history.commands s.history.commands held held'
+  starved_at_once d reads writes U left left' held held' s up same front disk = record {
     pending = [];
     wrote = front.part;
     appends = front.appends;
@@ -225,13 +248,14 @@ module _ {D : Type 0} (images : D → List ℕ → Type 0) (moment : D → ℕ) 
           stays = (refl, omega arith);
         },
       );
+      acknowledged = up;
     };
     disk = disk;
   }
 
-  pub going_none : (d : D) (left held : Option (List ℕ)) (c : Conn) (s : Stand) → StandsFor c [] → OnDisk images moment images_since d d s.history.commands s.history.commands []
-      → Writes images moment images_since d d (Going left left c 0 0 s s) s.history.commands s.history.commands held held
-  going_none d left held c s stands disk = record {
+  pub going_none : (d : D) (left held : Option (List ℕ)) (log : Option (List Stamp)) (c : Conn) (s : Stand) → StandsFor c [] → OnDisk images moment images_since d d s.history.commands s.history.commands []
+      → Writes images moment images_since d d (Going (λ covers. Upholds covers (moment d) (images_since d) s.history.commands held log log) left left c 0 0 s s) s.history.commands s.history.commands held held
+  going_none d left held log c s stands disk = record {
     pending = [];
     wrote = [];
     appends = Appends-nil held;
@@ -245,6 +269,7 @@ module _ {D : Type 0} (images : D → List ℕ → Type 0) (moment : D → ℕ) 
       asked = asks_none;
       stands = stands;
       answered = answered_none s s refl (omega arith);
+      acknowledged = upheld_none (AreAnswersOf s.history []) (moment d) (images_since d) s.history.commands held log;
     };
     disk = disk;
   }
@@ -256,21 +281,39 @@ module _ {D : Type 0} (images : D → List ℕ → Type 0) (moment : D → ℕ) 
   held_same : (old new : D) (P : List Accepted → List ℕ → Type 0) (s s' : Stand) (held held' held'' : Option (List ℕ)) → held'' ≡ held' → Run old new P s s' held held' → Run old new P s s' held held''
   held_same old new P s s' held held' held'' same w = subst (λ h. Run old new P s s' held h) (sym same) w
 
-  module _ (old mid : D) (left left' held held' : Option (List ℕ)) (c : Conn) (n taken : ℕ) (s t : Stand) (run : Run old mid (Going left left' c n taken s t) s t held held')
+  module _ (old mid : D) (U : Option (List Stamp) → (ℕ → List Accepted → Type 0) → Type 0) (log log' : Option (List Stamp)) (unnoted : log' ≡ log) (left left' held held' : Option (List ℕ)) (c : Conn) (n taken : ℕ) (s t : Stand)
+      (run : Run old mid (Going (U log) left left' c n taken s t) s t held held')
       (left'' held'' : Option (List ℕ)) (same : held'' ≡ held') (below : taken < link_limit) (reads writes : Type 0) where
-    pub run_ends : Consumes left' left'' [] → IsAtEnd left'' → Run old mid (Serves (link_end.Ended n) reads writes left left'' s t) s t held held''
-    run_ends took end = held_same old mid _ s t held held' held'' same
-        (writes_as images moment images_since old mid _ _ _ _ held held' (λ p w g. ended_at_end left left' c n taken s t p w reads writes g left'' below took end) run)
+    pub run_ends : Consumes left' left'' [] → IsAtEnd left'' → Run old mid (Serves (link_end.Ended n) reads writes (U log') left left'' s t) s t held held''
+    run_ends took end = subst (λ l. Run old mid (Serves (link_end.Ended n) reads writes (U l) left left'' s t) s t held held'') (sym unnoted)
+        (held_same old mid _ s t held held' held'' same
+        (writes_as images moment images_since old mid _ _ _ _ held held' (λ p w g. ended_at_end (U log) left left' c n taken s t p w reads writes g left'' below took end) run))
 
-    pub run_breaks : left'' ≡ left' → reads → Run old mid (Serves (link_end.Broken n) reads writes left left'' s t) s t held held''
-    run_breaks unread risen = held_same old mid _ s t held held' held'' same
-        (writes_as images moment images_since old mid _ _ _ _ held held' (λ p w g. broken_at_read left left' c n taken s t p w reads writes g left'' below unread risen) run)
+    pub run_breaks : left'' ≡ left' → reads → Run old mid (Serves (link_end.Broken n) reads writes (U log') left left'' s t) s t held held''
+    run_breaks unread risen = subst (λ l. Run old mid (Serves (link_end.Broken n) reads writes (U l) left left'' s t) s t held held'') (sym unnoted)
+        (held_same old mid _ s t held held' held'' same
+        (writes_as images moment images_since old mid _ _ _ _ held held' (λ p w g. broken_at_read (U log) left left' c n taken s t p w reads writes g left'' below unread risen) run))
 
   -- a piece of a link was read, and then served
   module _ (old mid new : D) (left left' left'' left''' held held' held'' held''' : Option (List ℕ)) (c c' : Conn) (n taken : ℕ) (s t t' : Stand)
-      (run : Run old mid (Going left left' c n taken s t) s t held held') (same : held'' ≡ held')
+      (log log' log'' log''' : Option (List Stamp)) (unnoted : log'' ≡ log')
+      (run : Run old mid (Going (λ covers. Upholds covers (moment mid) (images_since mid) t.history.commands held log log') left left' c n taken s t) s t held held') (same : held'' ≡ held')
       (piece : List ℕ) (count : ℕ) (long : length piece ≡ count) (few : count ≤ read_limit) (took : Consumes left' left'' piece) (stays : left''' ≡ left'')
-      (cut : Type 0) (o : Outcome) (m : ℕ) (served : (r : List ℕ) → StandsFor c r → Run mid new (IsPiece cut o m (r ++ piece) c' t t') t t' held'' held''') where
+      (cut : Type 0) (o : Outcome) (m : ℕ) (served : (r : List ℕ) → StandsFor c r → Run mid new (IsPiece cut o m (r ++ piece) c' t t') t t' held'' held''')
+      (upheld : (r : List ℕ) → StandsFor c r → Upholds (AreAnswersIn t.history (r ++ piece)) (moment new) (images_since new) t'.history.commands held'' log'' log''') where
+    abbrev V : (ℕ → List Accepted → Type 0) → Type 0
+    V covers = Upholds covers (moment new) (images_since new) t'.history.commands held log log'''
+
+    -- what was answered of the bytes before it, and of it
+    up : V (AreAnswersOf s.history (run.says_so.bytes ++ piece))
+    up =
+        let g = run.says_so in
+        let later : Upholds (AreAnswersIn t.history (g.rest ++ piece)) (moment new) (images_since new) t'.history.commands held' log' log''' =
+        subst (λ l. Upholds (AreAnswersIn t.history (g.rest ++ piece)) (moment new) (images_since new) t'.history.commands held' l log''') unnoted
+        (subst (λ h. Upholds (AreAnswersIn t.history (g.rest ++ piece)) (moment new) (images_since new) t'.history.commands h log'' log''') same (upheld g.rest g.stands)) in
+        let second = served g.rest g.stands in
+        piece_upheld images moment images_since mid new n s t t' second.pending second.disk held held' run.wrote run.appends log log' log''' g.asks g.bytes g.rest piece g.asked g.answered g.acknowledged later
+
     joined : (R : List Accepted → List ℕ → Type 0)
         → ((p : List Accepted) (w : List ℕ) → IsPiece cut o m (run.says_so.rest ++ piece) c' t t' p w → R p (run.wrote ++ w)) → Run old new R s t' held held'''
     joined R then =
@@ -279,30 +322,30 @@ module _ {D : Type 0} (images : D → List ℕ → Type 0) (moment : D → ℕ) 
         writes_more images moment images_since old mid new _ _ R _ _ _ held held' held''' run run.says_so.nothing second
         (then second.pending second.wrote second.says_so)
 
-    pub run_passes : o ≡ outcome.Answered → Run old new (Passed left left''' c' (n + m) (taken + count) s t') s t' held held'''
-    run_passes is = joined _ (λ p w x. passed_more left left' c n taken s t run.pending run.wrote run.says_so left'' left''' piece count long few took stays cut m c' t' p w
+    pub run_passes : o ≡ outcome.Answered → Run old new (Passed V left left''' c' (n + m) (taken + count) s t') s t' held held'''
+    run_passes is = joined _ (λ p w x. passed_more (λ covers. Upholds covers (moment mid) (images_since mid) t.history.commands held log log') V left left' c n taken s t run.pending run.wrote run.says_so left'' left''' piece count long few took stays cut up m c' t' p w
         (subst (λ q. IsPiece cut q m (run.says_so.rest ++ piece) c' t t' p w) is x))
 
     module _ (within : taken + count ≤ link_limit) (reads writes : Type 0) (then : cut → writes) where
-      pub run_broken : o ≡ outcome.Broken → writes → Run old new (Serves (link_end.Broken (n + m)) reads writes left left''' s t') s t' held held'''
-      run_broken is risen = joined _ (λ p w x. broken_more left left' c n taken s t run.pending run.wrote run.says_so left'' left''' piece count long few took stays writes within reads m c' t' p w risen
+      pub run_broken : o ≡ outcome.Broken → writes → Run old new (Serves (link_end.Broken (n + m)) reads writes V left left''' s t') s t' held held'''
+      run_broken is risen = joined _ (λ p w x. broken_more (λ covers. Upholds covers (moment mid) (images_since mid) t.history.commands held log log') V left left' c n taken s t run.pending run.wrote run.says_so left'' left''' piece count long few took stays writes up within reads m c' t' p w risen
           (piece_weaker cut writes outcome.Broken m (run.says_so.rest ++ piece) c' t t' p w then (subst (λ q. IsPiece cut q m (run.says_so.rest ++ piece) c' t t' p w) is x)))
 
-      pub run_disk : o ≡ outcome.Disk → Run old new (Serves (link_end.Disk (n + m)) reads writes left left''' s t') s t' held held'''
-      run_disk is = joined _ (λ p w x. disk_more_end left left' c n taken s t run.pending run.wrote run.says_so left'' left''' piece count long few took stays writes within reads m c' t' p w
+      pub run_disk : o ≡ outcome.Disk → Run old new (Serves (link_end.Disk (n + m)) reads writes V left left''' s t') s t' held held'''
+      run_disk is = joined _ (λ p w x. disk_more_end (λ covers. Upholds covers (moment mid) (images_since mid) t.history.commands held log log') V left left' c n taken s t run.pending run.wrote run.says_so left'' left''' piece count long few took stays writes up within reads m c' t' p w
           (piece_weaker cut writes outcome.Disk m (run.says_so.rest ++ piece) c' t t' p w then (subst (λ q. IsPiece cut q m (run.says_so.rest ++ piece) c' t t' p w) is x)))
 
-      pub run_memory : o ≡ outcome.NoMemory → Run old new (Serves (link_end.NoMemory (n + m)) reads writes left left''' s t') s t' held held'''
-      run_memory is = joined _ (λ p w x. memory_more left left' c n taken s t run.pending run.wrote run.says_so left'' left''' piece count long few took stays writes within reads m c' t' p w
+      pub run_memory : o ≡ outcome.NoMemory → Run old new (Serves (link_end.NoMemory (n + m)) reads writes V left left''' s t') s t' held held'''
+      run_memory is = joined _ (λ p w x. memory_more (λ covers. Upholds covers (moment mid) (images_since mid) t.history.commands held log log') V left left' c n taken s t run.pending run.wrote run.says_so left'' left''' piece count long few took stays writes up within reads m c' t' p w
           (piece_weaker cut writes outcome.NoMemory m (run.says_so.rest ++ piece) c' t t' p w then (subst (λ q. IsPiece cut q m (run.says_so.rest ++ piece) c' t t' p w) is x)))
 
   -- after a piece that was answered
-  module _ (old new : D) (left left' held held' : Option (List ℕ)) (c : Conn) (n taken : ℕ) (s t : Stand) (run : Run old new (Passed left left' c n taken s t) s t held held') where
-    pub run_cut : (reads writes : Type 0) → taken ≡ link_limit → Run old new (Serves (link_end.Cut n) reads writes left left' s t) s t held held'
-    run_cut reads writes full = writes_as images moment images_since old new _ _ _ _ held held' (λ p w g. cut_at_limit left left' c n taken s t p w reads writes g full) run
+  module _ (old new : D) (U : (ℕ → List Accepted → Type 0) → Type 0) (left left' held held' : Option (List ℕ)) (c : Conn) (n taken : ℕ) (s t : Stand) (run : Run old new (Passed U left left' c n taken s t) s t held held') where
+    pub run_cut : (reads writes : Type 0) → taken ≡ link_limit → Run old new (Serves (link_end.Cut n) reads writes U left left' s t) s t held held'
+    run_cut reads writes full = writes_as images moment images_since old new _ _ _ _ held held' (λ p w g. cut_at_limit U left left' c n taken s t p w reads writes g full) run
 
-    pub run_over : (reads writes : Type 0) → taken < link_limit → ((r : List ℕ) → StandsFor c r → ⊥) → Run old new (Serves (link_end.Ended n) reads writes left left' s t) s t held held'
-    run_over reads writes below none = writes_as images moment images_since old new _ _ _ _ held held' (λ p w g. ended_at_request left left' c n taken s t p w reads writes g below none) run
+    pub run_over : (reads writes : Type 0) → taken < link_limit → ((r : List ℕ) → StandsFor c r → ⊥) → Run old new (Serves (link_end.Ended n) reads writes U left left' s t) s t held held'
+    run_over reads writes below none = writes_as images moment images_since old new _ _ _ _ held held' (λ p w g. ended_at_request U left left' c n taken s t p w reads writes g below none) run
 
-    pub run_goes : is_over c ≡ false → Run old new (Going left left' c n taken s t) s t held held'
-    run_goes going = writes_as images moment images_since old new _ _ _ _ held held' (λ p w g. going_on left left' c n taken s t p w ⊥ ⊥ g going) run
+    pub run_goes : is_over c ≡ false → Run old new (Going U left left' c n taken s t) s t held held'
+    run_goes going = writes_as images moment images_since old new _ _ _ _ held held' (λ p w g. going_on U left left' c n taken s t p w ⊥ ⊥ g going) run

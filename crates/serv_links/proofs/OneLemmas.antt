@@ -20,7 +20,8 @@ use Rattle.serv_links.specs.Outcomes.{IsCutOff}
 use Rattle.serv_links.proofs.RoundLemmas.{responses_append}
 use Rattle.svc_world.specs.World.{Accepted}
 use Rattle.serv_disk.specs.Faults.{HasRisen, IsProperPrefix}
-use Rattle.serv_links.specs.Links.{IsAll, AreFirst}
+use Rattle.serv_links.specs.Answered.{AreFirst}
+use Rattle.serv_links.specs.Links.{IsAll}
 
 -- a body asks for one request
 body_one : (r q : Request) (body : List ℕ) → IsRequest r → IsRequest q → IsBodyOf r body → IsBodyOf q body → q ≡ r

@@ -25,13 +25,13 @@ use Rattle.serv_http.specs.Responses.{response}
 
 -- ---- lists of meanings
 
-mean_append : (xs ys : List Ask) (ms ns : List Meaning) → Mean xs ms → Mean ys ns → Mean (xs ++ ys) (ms ++ ns)
+pub mean_append : (xs ys : List Ask) (ms ns : List Meaning) → Mean xs ms → Mean ys ns → Mean (xs ++ ys) (ms ++ ns)
 mean_append [] ys [] ns p q = q
 mean_append [] ys (m ∷ ms) ns p q = absurd p
 mean_append (x ∷ xs) ys [] ns p q = absurd p
 mean_append (x ∷ xs) ys (m ∷ ms) ns p q = (p.0, mean_append xs ys ms ns p.1 q)
 
-after_append : (ms : List Meaning) (h : History) (ns : List Meaning) → after_all h (ms ++ ns) ≡ after_all (after_all h ms) ns
+pub after_append : (ms : List Meaning) (h : History) (ns : List Meaning) → after_all h (ms ++ ns) ≡ after_all (after_all h ms) ns
 after_append [] h ns = refl
 after_append (m ∷ ms) h ns = after_append ms (history_after h m) ns
 
@@ -102,7 +102,7 @@ one_answered i asks a d s mid s' w1 w2 lt is first second =
     subst (λ l. IsAnswered (i + 1) l s s' (w1 ++ w2)) (ap (λ x. take i asks ++ x ∷ []) is ∙ sym (take_more asks i d lt))
     (answered_more i 1 (take i asks) (a ∷ []) s mid s' w1 w2 first (answered_one a mid s' w2 second))
 
-parted : (i : ℕ) (asks : List Ask) (a d : Ask) → i < length asks → a ≡ get_or asks i d → asks ≡ take i asks ++ a ∷ drop (i + 1) asks
+pub parted : (i : ℕ) (asks : List Ask) (a d : Ask) → i < length asks → a ≡ get_or asks i d → asks ≡ take i asks ++ a ∷ drop (i + 1) asks
 parted i asks a d lt is =
     sym (take-append-drop i asks) ∙ ap (λ l. take i asks ++ l) (drop-cons asks i d lt ∙ (ap (λ x. x ∷ drop (suc i) asks) (sym is) ∙ ap (λ n. a ∷ drop n asks) (sym (add-one i))))
 

@@ -6,6 +6,8 @@ use Rattle.serv_disk.specs.Faults.{HasRisen}
 use Rattle.svc_base.specs.Text.{text_of_number}
 use Rattle.serv_line.specs.Replies.{ended, number_field}
 use Rattle.serv_machine.specs.OnDisk.{OnDisk}
+use Rattle.serv_machine.specs.Upheld.{Upholds}
+use Rattle.serv_disk.specs.Stamps.{Stamp}
 use Rattle.serv_links.specs.declared.doors.DoorsEnd.{DoorsEnd}
 use Rattle.serv_links.specs.declared.doors.DoorsEnd.TheVariants.{Done, DiskFault, NetFault}
 use Rattle.serv_links.specs.declared.link_end.LinkEnd.{LinkEnd}
@@ -19,12 +21,14 @@ use Rattle.serv_links.specs.Links.{IsDiskEnd, Serves, number_in}
 abbrev pub OneServed : Type 0 → Type 1
 OneServed C = LinkEnd → C → C → Stand → Stand → List Accepted → Type 0
 
--- a link came so, was served to this end, and was handed back so
-pub record ServedLink {C : Type 0} (left held : C → Option (List ℕ)) (reads writes : C
-    → ℕ) (end : LinkEnd) (came back : C) (s s' : Stand) (pending : List Accepted) : Type 0 where
+-- a link came so, was served to this end, and was handed back so; and where the books stand at the exit, what was answered
+-- of it is on the disk
+pub record ServedLink {C : Type 0} (left held : C → Option (List ℕ)) (log : C → Option (List Stamp)) (reads writes : C
+    → ℕ) (moment : ℕ) (since : ℕ → List ℕ → Type 0) (exit : Stand) (end : LinkEnd) (came back : C) (s s' : Stand) (pending : List Accepted) : Type 0 where
   pub added : List ℕ
   pub appends : Appends (held came) (held back) added
   pub serves : Serves end (HasRisen (reads came) (reads back)) (HasRisen (writes came) (writes back))
+      (λ covers. Upholds covers moment since exit.history.commands (held came) (log came) (log back))
       (left came) (left back) s s' pending added
 
 -- each link in its turn, over the history that the one before it left
@@ -129,10 +133,10 @@ text_of_summary s = ended (text_of_answered s ++ text_of_unanswered s)
 
 -- with what is left on a disk
 module _ {D : Type 0} (images : D → List ℕ → Type 0) (moment : D → ℕ) (images_since : D → ℕ → List ℕ → Type 0) (old new : D) where
-  pub record ServesDoors {C : Type 0} (P : OneServed C) (end : DoorsEnd) (summary : Summary) (most : ℕ) (coming coming' backed backed' : Option (List C)) (s s' : Stand) : Type 0 where
+  pub record ServesDoors {C : Type 0} (P : Stand → OneServed C) (end : DoorsEnd) (summary : Summary) (most : ℕ) (coming coming' backed backed' : Option (List C)) (s s' : Stand) : Type 0 where
     pub ends : List LinkEnd
     pub pending : List Accepted
-    pub has : HasServed P coming coming' backed backed' ends s s' pending
+    pub has : HasServed (P s') coming coming' backed backed' ends s s' pending
     pub ended : IsDoorsEnd end most coming' ends
     pub counted : IsSummary ends summary
     pub disk : OnDisk images moment images_since old new s.history.commands s'.history.commands pending

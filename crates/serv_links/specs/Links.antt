@@ -7,6 +7,7 @@ use Rattle.serv_http.specs.Streams.{AsksTo}
 use Rattle.serv_links.specs.declared.link_end.LinkEnd.{LinkEnd}
 use Rattle.serv_links.specs.declared.link_end.LinkEnd.TheVariants as link_end
 use Rattle.serv_links.specs.declared.outcome.Outcome.TheVariants as outcome
+use Rattle.serv_links.specs.Answered.{AreFirst, AreAnswersOf}
 use Rattle.serv_links.specs.Responses.{Stand, Stays, response_503}
 use Rattle.serv_links.specs.Outcomes.{IsAnswered, IsCutOff, IsFront}
 
@@ -39,14 +40,6 @@ pub record IsAll (n : ℕ) (taken added : List ℕ) (s s' : Stand) (left : Optio
   pub asks : List Ask
   pub asked : AsksTo taken asks left
   pub answered : IsAnswered n asks s s' added
-
--- requests of the first ones of these bytes, which have no further one
-pub record AreFirst (taken : List ℕ) (asks : List Ask) : Type 0 where
-  pub front : List ℕ
-  pub more : List ℕ
-  pub parted : taken ≡ front ++ more
-  pub left : Option (List ℕ)
-  pub asked : AsksTo front asks left
 
 -- no memory was there to read on: the first requests of these bytes are answered, and no further one is acted on
 pub record IsStarved (cut : Type 0) (n : ℕ) (taken added : List ℕ) (s s' : Stand) : Type 0 where
@@ -91,10 +84,11 @@ pub record IsReadOn (taken : List ℕ) : Type 0 where
   pub going : List ℕ
   pub asked : AsksTo before asks (Some going)
 
--- with what is taken, where the link tells what is left
-pub record Serves (end : LinkEnd) (reads writes : Type 0) (left left' : Option (List ℕ)) (s s' : Stand) (pending : List Accepted) (added : List ℕ) : Type 0 where
+-- with what is taken, where the link tells what is left; and of what so many bytes answer, which writes are upheld
+pub record Serves (end : LinkEnd) (reads writes : Type 0) (upheld : (ℕ → List Accepted → Type 0) → Type 0) (left left' : Option (List ℕ)) (s s' : Stand) (pending : List Accepted) (added : List ℕ) : Type 0 where
   pub taken : List ℕ
   pub took : Consumes left left' taken
   pub within : length taken ≤ link_limit
   pub read_on : IsReadOn taken
   pub says : IsServed end reads writes (IsAtEnd left') taken s s' pending added
+  pub acknowledged : upheld (AreAnswersOf s.history taken)

@@ -1,16 +1,19 @@
 //! Requests of a connection, each acted on once the response before it is written.
 
-ghost use Rattle.std.specs.Prelude.{◌≡◌, ◌≢◌, ℕ, ◌+◌, ◌≤◌, ◌<◌, ◌^◌, ◌++◌, List, [], length, All, Err, IfErr, IfOk, OnOk};
+ghost use Rattle.std.specs.Prelude.{◌≡◌, ◌≢◌, ℕ, ◌+◌, ◌≤◌, ◌<◌, ◌^◌, ◌++◌, ◌∷◌, List, [], length, All, Err, IfErr, IfOk, OnOk, Some};
 ghost use Rattle.serv_disk.specs.Faults.{HasRisen};
+ghost use Rattle.serv_disk.specs.Stamps.{Notes};
 ghost use Rattle.serv_http.specs.Conns.{StandsFor};
 ghost use Rattle.serv_machine.specs.OnDisk.{OnDisk};
+ghost use Rattle.serv_machine.specs.Upheld.{Upholds};
+ghost use Rattle.serv_links.specs.Answered.{AreAnswers, AreAnswersIn};
 ghost use Rattle.serv_links.specs.Meanings.{IsAsk};
 ghost use Rattle.serv_links.specs.Responses.{response_500, response_503, stand};
 ghost use Rattle.serv_links.specs.Outcomes.{AppendsFront, Halts, IsOne, IsPiece, IsReplied, IsRound, Writes};
 
 use crate::outcome::{Outcome, Round};
 use crate::replying::reply;
-use serv_disk::{Disk, Sink, write_whole};
+use serv_disk::{Disk, Sink, write_beside};
 use serv_http::{Ask, Conn, respond};
 use serv_json::{JsonFault, read_json};
 use serv_machine::{Halt, Machine};
@@ -69,23 +72,27 @@ fn answer<D: Disk, M: Machine<D>, L: Ledger>(
 }
 
 /// Writes that the disk failed, as far as the link takes it.
-fn write_failed<K: Sink>(link: &mut K)
+fn write_failed<D: Disk, K: Sink>(link: &mut K, disk: &D)
     ensures front { AppendsFront (HasRisen (K.faults link.old) (K.faults link.new))
         (K.held link.old) (K.held link.new) response_500 }
+    ensures noted { (s : List ℕ) → K.held link.old ≡ Some s → Notes (D.moment disk.now)
+        (length s + length response_500) (K.log link.old) (K.log link.new) }
     ensures later { K.faults link.old ≤ K.faults link.new }
     ensures beside { K.beside link.new ≡ K.beside link.old }
 {
-    let _ = write_whole(link, FAILED);
+    let _ = write_beside(link, disk, FAILED);
 }
 
 /// Writes that no memory is there, as far as the link takes it.
-pub(crate) fn write_no_memory<K: Sink>(link: &mut K)
+pub(crate) fn write_no_memory<D: Disk, K: Sink>(link: &mut K, disk: &D)
     ensures front { AppendsFront (HasRisen (K.faults link.old) (K.faults link.new))
         (K.held link.old) (K.held link.new) response_503 }
+    ensures noted { (s : List ℕ) → K.held link.old ≡ Some s → Notes (D.moment disk.now)
+        (length s + length response_503) (K.log link.old) (K.log link.new) }
     ensures later { K.faults link.old ≤ K.faults link.new }
     ensures beside { K.beside link.new ≡ K.beside link.old }
 {
-    let _ = write_whole(link, NO_MEMORY);
+    let _ = write_beside(link, disk, NO_MEMORY);
 }
 
 /// Acts on a request, and writes its response.
@@ -104,6 +111,9 @@ fn answer_one<D: Disk, M: Machine<D>, K: Sink, L: Ledger>(
         (stand (M.history machine.old) steps.old) (stand (M.history machine.new) steps.new))
         (M.history machine.old).commands (M.history machine.new).commands
         (K.held link.old) (K.held link.new) }
+    ensures upheld { Upholds (AreAnswers (ask.now ∷ []) (M.history machine.old)) (D.moment disk.new)
+        (D.images_since disk.new) (M.history machine.new).commands
+        (K.held link.old) (K.log link.old) (K.log link.new) }
     ensures ready { result ≢ Outcome.Disk → M.ready machine.new disk.new }
     ensures broken { result ≡ Outcome.Broken → HasRisen (K.faults link.old) (K.faults link.new) }
     ensures failed { result ≡ Outcome.Disk → M.failed machine.new }
@@ -113,16 +123,16 @@ fn answer_one<D: Disk, M: Machine<D>, K: Sink, L: Ledger>(
     ensures beside { K.beside link.new ≡ K.beside link.old }
 {
     match answer(alloc, machine, disk, ask, steps) {
-        Ok(text) => match write_whole(link, &text) {
+        Ok(text) => match write_beside(link, disk, &text) {
             Ok(()) => Outcome::Answered,
             Err(_) => Outcome::Broken,
         },
         Err(Halt::DiskFault) => {
-            write_failed(link);
+            write_failed(link, disk);
             Outcome::Disk
         }
         Err(Halt::OutOfMemory) => {
-            write_no_memory(link);
+            write_no_memory(link, disk);
             Outcome::NoMemory
         }
     }
@@ -145,6 +155,9 @@ fn answer_all<D: Disk, M: Machine<D>, K: Sink, L: Ledger>(
         (stand (M.history machine.old) steps.old) (stand (M.history machine.new) steps.new))
         (M.history machine.old).commands (M.history machine.new).commands
         (K.held link.old) (K.held link.new) }
+    ensures upheld { Upholds (AreAnswers asks.now (M.history machine.old)) (D.moment disk.new)
+        (D.images_since disk.new) (M.history machine.new).commands
+        (K.held link.old) (K.log link.old) (K.log link.new) }
     ensures few { result.answered ≤ length asks.now }
     ensures ready { result.outcome ≢ Outcome.Disk → M.ready machine.new disk.new }
     ensures broken { result.outcome ≡ Outcome.Broken → HasRisen (K.faults link.old) (K.faults link.new) }
@@ -186,6 +199,10 @@ pub(crate) fn serve_piece<D: Disk, M: Machine<D>, K: Sink, L: Ledger>(
         (stand (M.history machine.old) steps.old) (stand (M.history machine.new) steps.new))
         (M.history machine.old).commands (M.history machine.new).commands
         (K.held link.old) (K.held link.new) }
+    ensures upheld { (s : List ℕ) → StandsFor conn.old s
+        → Upholds (AreAnswersIn (M.history machine.old) (s ++ piece.now)) (D.moment disk.new)
+        (D.images_since disk.new) (M.history machine.new).commands
+        (K.held link.old) (K.log link.old) (K.log link.new) }
     ensures few { result.answered ≤ length piece.now }
     ensures ready { result.outcome ≢ Outcome.Disk → M.ready machine.new disk.new }
     ensures broken { result.outcome ≡ Outcome.Broken → HasRisen (K.faults link.old) (K.faults link.new) }
@@ -198,7 +215,7 @@ pub(crate) fn serve_piece<D: Disk, M: Machine<D>, K: Sink, L: Ledger>(
     match conn.feed(alloc, piece) {
         Ok(asks) => answer_all(alloc, machine, disk, link, &asks, steps),
         Err(_) => {
-            write_no_memory(link);
+            write_no_memory(link, disk);
             Round {
                 answered: 0,
                 outcome: Outcome::NoMemory,

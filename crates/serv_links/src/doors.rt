@@ -48,7 +48,8 @@ pub fn serve_doors<D: Disk, M: Machine<D>, G: Doors, L: Ledger>(
     requires out { G.out doors.old ≡ 0 }
     requires ready { M.ready machine.old disk.old }
     ensures served { ServesDoors D.images D.moment D.images_since disk.old disk.new
-        (ServedLink G.Conn.left G.Conn.held G.Conn.Source.faults G.Conn.Sink.faults) result.end result.summary
+        (ServedLink G.Conn.left G.Conn.held G.Conn.log G.Conn.Source.faults G.Conn.Sink.faults
+        (D.moment disk.new) (D.images_since disk.new)) result.end result.summary
         most (G.coming doors.old) (G.coming doors.new) (G.backed doors.old) (G.backed doors.new)
         (stand (M.history machine.old) steps.old) (stand (M.history machine.new) steps.new) }
     ensures out { G.out doors.new ≡ 0 }

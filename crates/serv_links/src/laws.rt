@@ -8,7 +8,8 @@ ghost use Rattle.serv_disk.specs.Faults.{HasRisen, IsProperPrefix};
 ghost use Rattle.serv_links.specs.Meanings.{Meaning, Means};
 ghost use Rattle.serv_links.specs.Responses.{Stand};
 ghost use Rattle.serv_links.specs.Outcomes.{IsCutOff};
-ghost use Rattle.serv_links.specs.Links.{IsAll, AreFirst};
+ghost use Rattle.serv_links.specs.Answered.{AreFirst};
+ghost use Rattle.serv_links.specs.Links.{IsAll};
 
 use crate::outcome::Outcome;
 

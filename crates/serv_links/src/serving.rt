@@ -2,6 +2,7 @@
 
 ghost use Rattle.std.specs.Prelude.{◌≡◌, ◌≢◌, ◌≤◌};
 ghost use Rattle.serv_disk.specs.Faults.{HasRisen};
+ghost use Rattle.serv_machine.specs.Upheld.{Upholds};
 ghost use Rattle.serv_links.specs.Responses.{stand};
 ghost use Rattle.serv_links.specs.Outcomes.{Writes};
 ghost use Rattle.serv_links.specs.Links.{IsDiskEnd, Serves, link_limit, number_in};
@@ -35,7 +36,10 @@ pub fn serve_link<D: Disk, M: Machine<D>, C: Link, L: Ledger>(
     requires { M.ready machine.old disk.old }
     ensures served { Writes D.images D.moment D.images_since disk.old disk.new
         (Serves result (HasRisen (C.Source.faults link.old) (C.Source.faults link.new))
-        (HasRisen (C.Sink.faults link.old) (C.Sink.faults link.new)) (C.left link.old) (C.left link.new)
+        (HasRisen (C.Sink.faults link.old) (C.Sink.faults link.new))
+        (λ covers. Upholds covers (D.moment disk.new) (D.images_since disk.new)
+        (M.history machine.new).commands (C.held link.old) (C.log link.old) (C.log link.new))
+        (C.left link.old) (C.left link.new)
         (stand (M.history machine.old) steps.old) (stand (M.history machine.new) steps.new))
         (M.history machine.old).commands (M.history machine.new).commands
         (C.held link.old) (C.held link.new) }
@@ -48,7 +52,7 @@ pub fn serve_link<D: Disk, M: Machine<D>, C: Link, L: Ledger>(
     ensures write_later { C.Sink.faults link.old ≤ C.Sink.faults link.new }
 {
     let Ok(mut conn) = Conn::new(alloc) else {
-        write_no_memory(link);
+        write_no_memory(link, disk);
         return LinkEnd::NoMemory(0);
     };
     let mut room = [0; ROOM];

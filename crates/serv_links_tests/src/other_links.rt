@@ -26,7 +26,7 @@ impl Source for Pieces {
 
     ghost faults = { λ x. x.link.reading.faults };
 
-    ghost beside = { λ x. record { bytes = None; faults = x.link.writing.faults } };
+    ghost beside = { λ x. record { held = None; faults = x.link.writing.faults; log = None; mark = 0 } };
 
     fn read(&mut self, buf: &mut [u8]) -> Result<usize, Failed> {
         let count = buf.len().min(1);
@@ -39,7 +39,7 @@ impl Sink for Pieces {
 
     ghost faults = { λ x. x.link.writing.faults };
 
-    ghost beside = { λ x. record { bytes = None; faults = x.link.reading.faults } };
+    ghost beside = { λ x. record { left = None; faults = x.link.reading.faults } };
 
     ghost log = { λ _. None };
 
@@ -82,7 +82,7 @@ impl Source for Waiting {
 
     ghost faults = { λ _. 0 };
 
-    ghost beside = { λ _. record { bytes = None; faults = 0 } };
+    ghost beside = { λ _. record { held = None; faults = 0; log = None; mark = 0 } };
 
     fn read(&mut self, buf: &mut [u8]) -> Result<usize, Failed> {
         self.calls = self.calls.saturating_add(1);
@@ -102,7 +102,7 @@ impl Sink for Waiting {
 
     ghost faults = { λ _. 0 };
 
-    ghost beside = { λ _. record { bytes = None; faults = 0 } };
+    ghost beside = { λ _. record { left = None; faults = 0 } };
 
     ghost log = { λ _. None };
 

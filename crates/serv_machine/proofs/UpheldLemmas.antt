@@ -1,6 +1,6 @@
 -- What was answered stays on the disk.
-use Rattle.std.proofs.Common.{◌≡◌, ℕ, ◌+◌, ◌≤◌, List, [], ◌∷◌, ◌++◌, length, refl, sym, ap, subst, ◌∙◌, arith, ⊎_elim, inl, append-nil, append_assoc, length-append}
-use Rattle.std.specs.Prelude.{Option, Some, None}
+use Rattle.std.proofs.Common.{◌≡◌, ℕ, ◌+◌, ◌≤◌, List, [], ◌∷◌, ◌++◌, length, sym, ap, subst, ◌∙◌, arith, ⊎_elim, inl, append-nil, append_assoc, length-append}
+use Rattle.std.specs.Prelude.{Option, Some}
 use Rattle.std.specs.Io.KnownBytes.{Appends}
 use Rattle.svc_world.specs.World.{Accepted}
 use Rattle.serv_disk.specs.Disks.{Each}
@@ -25,13 +25,6 @@ commands_left images h h' list (a ∷ more) is left = λ c image. record {
 
 pub commands_kept : (images : List ℕ → Type 0) (h : List Accepted) → Each images (HasHistory h) → Each images (HasCommands h)
 commands_kept images h each = λ c image. commands_here h h [] c (sym (append-nil h)) (each c image)
-
--- ---- what a sink notes
-
--- the moment at which it was shown the disk
-pub notes_at : (log log' : Option (List Stamp)) (mark at most : ℕ) → ((stamps : List Stamp) → log ≡ Some stamps → mark ≡ at) → Notes mark most log log' → Notes at most log log'
-notes_at None log' mark at most is n = record { stamps = []; added = tt; each = tt }
-notes_at (Some stamps) log' mark at most is n = subst (λ t. Notes t most (Some stamps) log') (is stamps refl) n
 
 -- ---- writes that are upheld
 
@@ -119,3 +112,37 @@ module _ {D : Type 0} (images : D → List ℕ → Type 0) (moment : D → ℕ) 
       let front = length-append s written in
       let fits : most ≤ length s + bytes = omega (arith, front, small) in
       from_noted (length s) most fits log log' log'' (up s told) (notes (s ++ written) (held_after held held' s written told wrote))
+
+-- ---- a run after another one
+
+-- others are written by a run that began where these ended
+module _ (First Second Covers : ℕ → List Accepted → Type 0) (moment : ℕ) (since : ℕ → List ℕ → Type 0) (now : List Accepted) (written : List ℕ)
+    (here : (bytes : ℕ) (commands : List Accepted) → First bytes commands → Covers bytes commands) (then : (bytes : ℕ) (commands : List Accepted) → Second bytes commands → Covers (length written + bytes) commands) where
+  writes_then : (s : List ℕ) (writes : List Stamp) → AreUpheld Second moment since now (length (s ++ written)) writes → AreUpheld Covers moment since now (length s) writes
+  writes_then s [] all = tt
+  writes_then s (w ∷ writes) all =
+      let is = all.0 in
+      let long = length-append s written in (
+        record {
+          bytes = length written + is.bytes;
+          commands = is.commands;
+          covers = then is.bytes is.commands is.covers;
+          within = (let within = is.within in omega (arith, within, long));
+          kept = is.kept;
+          past = is.past;
+          rest = is.rest;
+          now_is = is.now_is;
+        },
+        writes_then s writes all.1,
+      )
+
+  pub upheld_then : (held held' : Option (List ℕ)) (log log' log'' : Option (List Stamp)) → Appends held held' written → Upholds First moment since now held log log' → Upholds Second moment since now held' log' log''
+      → Upholds Covers moment since now held log log''
+  upheld_then held held' log log' log'' wrote first second = λ s told.
+      let before = upheld_wider First Covers moment since now here held log log' first s told in
+      let after = second (s ++ written) (held_after held held' s written told wrote) in
+      record {
+        writes = before.writes ++ after.writes;
+        noted = adds_trans log log' log'' before.writes after.writes before.noted after.noted;
+        each = writes_both Covers moment since now (length s) before.writes after.writes before.each (writes_then s after.writes after.each);
+      }

@@ -1,5 +1,6 @@
 -- What a crash leaves of the commands that are answered by what is written.
 use Rattle.std.specs.Prelude.{◌≡◌, ℕ, ◌+◌, ◌≤◌, List, [], ◌∷◌, ◌++◌, length, Option, Some}
+use Rattle.std.specs.Io.KnownBytes.{Consumes}
 use Rattle.svc_world.specs.World.{Accepted}
 use Rattle.serv_disk.specs.Disks.{Each}
 use Rattle.serv_disk.specs.Stamps.{Stamp, Adds}
@@ -38,3 +39,9 @@ pub record UpholdsFrom (Covers : ℕ → List Accepted → Type 0) (moment : ℕ
 abbrev pub Upholds : (ℕ → List Accepted → Type 0) → ℕ → (ℕ → List ℕ → Type 0) → List Accepted → Option (List ℕ) → Option (List Stamp) → Option (List Stamp) → Type 0
 Upholds Covers moment since now held log log' =
     (s : List ℕ) → held ≡ Some s → UpholdsFrom Covers moment since now (length s) log log'
+
+-- of a run that took its requests from a source: each write that it noted is upheld
+pub record IsAcknowledged (Covers : List ℕ → ℕ → List Accepted → Type 0) (moment : ℕ) (since : ℕ → List ℕ → Type 0) (now : List Accepted) (left left' held : Option (List ℕ)) (log log' : Option (List Stamp)) : Type 0 where
+  pub taken : List ℕ
+  pub took : Consumes left left' taken
+  pub upheld : Upholds (Covers taken) moment since now held log log'

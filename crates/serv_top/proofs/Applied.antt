@@ -33,6 +33,7 @@ use Rattle.serv_top.specs.Journal.{KeepsGood, IsCause, IsOnly, IsUnopened, IsOpe
 use Rattle.serv_top.specs.Lines.{lines_of}
 use Rattle.serv_top.specs.Upheld.{AreSaidFirst, IsAcknowledged}
 use Rattle.serv_top.proofs.SoundLemmas.{stay_sound}
+use Rattle.serv_top.specs.Ends.{Completes}
 
 -- ---- where commands are kept stays the same
 
@@ -83,13 +84,7 @@ store_ended waiting (status.TooMuch n) s s' pending taken left written is = stor
 store_ended waiting status.OutOfMemory s s' pending taken left written is =
     ⊎_elim (λ begun. store_near begun.others begun.before s' begun.after ∙ store_moves begun.said s begun.before begun.moved)
     (λ begun. store_near begun.1.others begun.1.before s' begun.1.after ∙ store_moves begun.1.said s begun.1.before begun.1.moved) is.2
-store_ended waiting status.Usage s s' pending taken left written is = absurd is
-store_ended waiting status.NotJournal s s' pending taken left written is = absurd is
-store_ended waiting status.AlreadyThere s s' pending taken left written is = absurd is
-store_ended waiting (status.Damaged place) s s' pending taken left written is = absurd is
-store_ended waiting status.NetFault s s' pending taken left written is = absurd is
-store_ended waiting (status.NoReport last) s s' pending taken left written is = absurd is
-store_ended waiting (status.JournalFull bytes) s s' pending taken left written is = absurd is
+store_ended waiting other s s' pending taken left written is = absurd is
 
 -- ---- a journal was opened
 
@@ -165,9 +160,6 @@ only_of only f old new which =
 
 -- ---- completeness
 
-abbrev pub Completes : Status → Type 0
-Completes st = (st ≡ status.Done) ⊎ ((st ≡ status.OutOfMemory) ⊎ ((bytes : ℕ) × (st ≡ status.JournalFull bytes)))
-
 pub unopened_ends : (st : Status) (s : List ℕ) (h : List Accepted) (a : Accepted) (faults faults' : ℕ) (told : Option (List ℕ)) → told ≡ Some s → IsHistory (h ++ a ∷ []) → IsGoodFound h a s → IsCause st told faults faults' → (HasRisen faults faults' → ⊥) → Completes st
 unopened_ends status.NotJournal s h a faults faults' told is hist good cause calm = absurd (good_journal h a s hist good (cause s is))
 unopened_ends (status.Damaged place) s h a faults faults' told is hist good cause calm = absurd (good_undamaged h a s place hist good (cause s is))
@@ -175,13 +167,7 @@ unopened_ends status.NetFault s h a faults faults' told is hist good cause calm 
 unopened_ends (status.JournalFull bytes) s h a faults faults' told is hist good cause calm = inr (inr (bytes, refl))
 unopened_ends status.DiskFault s h a faults faults' told is hist good cause calm = absurd (calm cause)
 unopened_ends status.OutOfMemory s h a faults faults' told is hist good cause calm = inr (inl refl)
-unopened_ends status.Done s h a faults faults' told is hist good cause calm = absurd cause
-unopened_ends status.Usage s h a faults faults' told is hist good cause calm = absurd cause
-unopened_ends status.ReadFault s h a faults faults' told is hist good cause calm = absurd cause
-unopened_ends status.WriteFault s h a faults faults' told is hist good cause calm = absurd cause
-unopened_ends status.AlreadyThere s h a faults faults' told is hist good cause calm = absurd cause
-unopened_ends (status.TooMuch bytes) s h a faults faults' told is hist good cause calm = absurd cause
-unopened_ends (status.NoReport last) s h a faults faults' told is hist good cause calm = absurd cause
+unopened_ends other s h a faults faults' told is hist good cause calm = absurd cause
 
 pub few_taken : (left left' : Option (List ℕ)) (input taken : List ℕ) → left ≡ Some input → Consumes left left' taken → length taken ≤ length input
 few_taken None left' input taken is took = absurd (cc)
@@ -199,13 +185,7 @@ applied_ends waiting status.DiskFault s s' pending left left' held held' input i
 applied_ends waiting (status.TooMuch n) s s' pending left left' held held' input is short reads writes disks e =
     absurd (omega (arith, few_taken left left' input e.taken is e.took, short, e.says.1, e.says.2))
 applied_ends waiting status.OutOfMemory s s' pending left left' held held' input is short reads writes disks e = inr (inl refl)
-applied_ends waiting status.Usage s s' pending left left' held held' input is short reads writes disks e = absurd e.says
-applied_ends waiting status.NotJournal s s' pending left left' held held' input is short reads writes disks e = absurd e.says
-applied_ends waiting status.AlreadyThere s s' pending left left' held held' input is short reads writes disks e = absurd e.says
-applied_ends waiting (status.Damaged place) s s' pending left left' held held' input is short reads writes disks e = absurd e.says
-applied_ends waiting status.NetFault s s' pending left left' held held' input is short reads writes disks e = absurd e.says
-applied_ends waiting (status.NoReport last) s s' pending left left' held held' input is short reads writes disks e = absurd e.says
-applied_ends waiting (status.JournalFull bytes) s s' pending left left' held held' input is short reads writes disks e = absurd e.says
+applied_ends waiting other s s' pending left left' held held' input is short reads writes disks e = absurd e.says
 
 pub complete_run : {D A B : Type 0} (seen : D → Option (List ℕ)) (images : D → List ℕ → Type 0) (moment : D → ℕ) (images_since : D → ℕ → List ℕ → Type 0) (faults : D → ℕ) (old new : D) (st : Status) (steps steps' : ℕ)
     (left left' held held' : Option (List ℕ)) (log log' : Option (List Stamp)) (input s : List ℕ) (h : List Accepted) (a : Accepted) → left ≡ Some input → length input < input_limit → seen old ≡ Some s → IsHistory (h ++ a ∷ [])

@@ -33,9 +33,10 @@ use Rattle.serv_top.specs.Stop.{status_of, stop_of}
 use Rattle.serv_top.specs.Upheld.{IsAcknowledged}
 use Rattle.serv_top.specs.Imported.{AreFirstIn, FileSays, said_of, IsRow, AreRows, HaltsOn, IsStoppedOn, StopsOn, IsAnswered, IsTriedFirst, IsRowsOutput, RowsEnd, IsUnread, rows, headless, FileEnds, Imports, ImportEnds, IsImported}
 use Rattle.serv_top.specs.Journal.{IsOpened, IsUnopened, journal_limit}
-use Rattle.serv_top.proofs.Applied.{Completes, run_over, unopened_ends, few_taken, store_of, store_after, store_moves}
+use Rattle.serv_top.proofs.Applied.{run_over, unopened_ends, few_taken, store_of, store_after, store_moves}
 use Rattle.serv_top.proofs.Cutting.{replies_to-push, moves_more}
 use Rattle.serv_top.proofs.ServedLemmas.{before_last-push}
+use Rattle.serv_top.specs.Ends.{Completes}
 
 -- ---- rows that ask commands
 
@@ -254,15 +255,7 @@ store_rows status.OutOfMemory saids s s' pending written is = store_first is.1.o
     store_first [] t t' near = ⊎_elim (λ same. ap store_of same.0) (λ tried. absurd tried) near
     store_first (said ∷ others) t t' near =
         ⊎_elim (λ same. ap store_of same.0) (λ tried. ⊎_elim (λ same. ap store_of same) (λ moved. ap store_of moved ∙ store_after t.history said) tried.near) near
-store_rows status.Usage saids s s' pending written is = absurd is
-store_rows status.ReadFault saids s s' pending written is = absurd is
-store_rows status.NotJournal saids s s' pending written is = absurd is
-store_rows status.AlreadyThere saids s s' pending written is = absurd is
-store_rows (status.Damaged place) saids s s' pending written is = absurd is
-store_rows status.NetFault saids s s' pending written is = absurd is
-store_rows (status.NoReport last) saids s s' pending written is = absurd is
-store_rows (status.TooMuch bytes) saids s s' pending written is = absurd is
-store_rows (status.JournalFull bytes) saids s s' pending written is = absurd is
+store_rows other saids s s' pending written is = absurd is
 
 pub store_import : (st : Status) (s s' : Stand) (pending : List Accepted) (left left' held held' : Option (List ℕ)) → Imports st s s' pending left left' held held' → s'.history.store ≡ s.history.store
 store_import st s s' pending left left' held held' is =
@@ -286,30 +279,13 @@ rows_end status.Done saids s s' pending written writes disks is = inl refl
 rows_end status.WriteFault saids s s' pending written writes disks is = absurd (writes refl)
 rows_end status.DiskFault saids s s' pending written writes disks is = absurd (disks refl)
 rows_end status.OutOfMemory saids s s' pending written writes disks is = inr (inl refl)
-rows_end status.Usage saids s s' pending written writes disks is = absurd is
-rows_end status.ReadFault saids s s' pending written writes disks is = absurd is
-rows_end status.NotJournal saids s s' pending written writes disks is = absurd is
-rows_end status.AlreadyThere saids s s' pending written writes disks is = absurd is
-rows_end (status.Damaged place) saids s s' pending written writes disks is = absurd is
-rows_end status.NetFault saids s s' pending written writes disks is = absurd is
-rows_end (status.NoReport last) saids s s' pending written writes disks is = absurd is
-rows_end (status.TooMuch bytes) saids s s' pending written writes disks is = absurd is
-rows_end (status.JournalFull bytes) saids s s' pending written writes disks is = absurd is
+rows_end other saids s s' pending written writes disks is = absurd is
 
 pub unread_ends : (st : Status) (taken input : List ℕ) → length taken ≤ length input → length input < input_limit → (st ≡ status.ReadFault → ⊥) → IsUnread st taken → Completes st
 unread_ends status.ReadFault taken input few short reads is = absurd (reads refl)
 unread_ends (status.TooMuch n) taken input few short reads is = absurd (omega (arith, few, short, is.0, is.1))
 unread_ends status.OutOfMemory taken input few short reads is = inr (inl refl)
-unread_ends status.Done taken input few short reads is = absurd is
-unread_ends status.Usage taken input few short reads is = absurd is
-unread_ends status.WriteFault taken input few short reads is = absurd is
-unread_ends status.DiskFault taken input few short reads is = absurd is
-unread_ends status.NotJournal taken input few short reads is = absurd is
-unread_ends status.AlreadyThere taken input few short reads is = absurd is
-unread_ends (status.Damaged place) taken input few short reads is = absurd is
-unread_ends status.NetFault taken input few short reads is = absurd is
-unread_ends (status.NoReport last) taken input few short reads is = absurd is
-unread_ends (status.JournalFull bytes) taken input few short reads is = absurd is
+unread_ends other taken input few short reads is = absurd is
 
 pub complete_import : {D A B : Type 0} (seen : D → Option (List ℕ)) (images : D → List ℕ → Type 0) (moment : D → ℕ) (images_since : D → ℕ → List ℕ → Type 0) (faults : D → ℕ) (old new : D) (st : Status) (steps steps' : ℕ)
     (left left' held held' : Option (List ℕ)) (log log' : Option (List Stamp)) (input s : List ℕ) (h : List Accepted) (a : Accepted) → left ≡ Some input → length input < input_limit → seen old ≡ Some s → IsHistory (h ++ a ∷ [])

@@ -21,3 +21,5 @@ pub mod ExtractLemmas
 pub mod AskLemmas
 pub mod AnsweredLemmas
 pub mod GoingLemmas
+pub mod OrderLemmas
+pub mod EndLemmas

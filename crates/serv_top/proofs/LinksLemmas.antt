@@ -6,6 +6,7 @@ use Rattle.std.proofs.KnownBytes.{Appends-nil}
 use Rattle.svc_world.specs.World.{Accepted}
 use Rattle.svc_world.specs.Judging.{IsHistory}
 use Rattle.serv_disk.specs.Faults.{AppendsPart, HasRisen}
+use Rattle.serv_disk.specs.Stamps.{Stamp}
 use Rattle.serv_http.specs.declared.ask.Ask.{Ask}
 use Rattle.serv_engine.specs.Histories.{lengths_of, IsGoodFound}
 use Rattle.serv_engine.specs.Engines.{EngineState}
@@ -28,7 +29,8 @@ use Rattle.serv_top.specs.declared.status.Status.TheVariants as status
 use Rattle.serv_top.specs.Machine.{Stand, stand}
 use Rattle.serv_top.specs.Journal.{IsUnopened, IsOpened, journal_limit}
 use Rattle.serv_top.specs.Served.{IsServedAs, IsServedOver, LinksEnd, ServesLinks, of_links}
-use Rattle.serv_top.proofs.Applied.{Completes, few_taken, run_over, store_of, store_request, unopened_ends}
+use Rattle.serv_top.proofs.Applied.{few_taken, run_over, store_of, store_request, unopened_ends}
+use Rattle.serv_top.specs.Ends.{Completes}
 
 -- ---- where commands are kept stays the same
 
@@ -81,21 +83,21 @@ store_served (link_end.NoMemory n) reads writes at_end taken s s' pending added 
 store_served (link_end.NoMemory n) reads writes at_end taken s s' pending added (inr (none, starved)) = store_starved writes n taken added s s' starved
 
 -- links came, and were served in their turn
-module _ {C : Type 0} (left held : C → Option (List ℕ)) (reads writes : C → ℕ) where
-  abbrev P : OneServed C
-  P = ServedLink left held reads writes
+module _ {C : Type 0} (left held : C → Option (List ℕ)) (log : C → Option (List Stamp)) (reads writes : C → ℕ) (at : ℕ) (since : ℕ → List ℕ → Type 0) where
+  abbrev P : links.Stand → OneServed C
+  P exit = ServedLink left held log reads writes at since exit
 
-  store_link : (end : LinkEnd) (x y : C) (s s' : links.Stand) (pending : List Accepted) → P end x y s s' pending → s'.history.store ≡ s.history.store
-  store_link end x y s s' pending is = store_served end _ _ _ is.serves.taken s s' pending is.added is.serves.says
+  store_link : (exit : links.Stand) (end : LinkEnd) (x y : C) (s s' : links.Stand) (pending : List Accepted) → P exit end x y s s' pending → s'.history.store ≡ s.history.store
+  store_link exit end x y s s' pending is = store_served end _ _ _ is.serves.taken s s' pending is.added is.serves.says
 
-  store_links : (ends : List LinkEnd) (came back : List C) (s s' : links.Stand) (pending : List Accepted) → AreServed P ends came back s s' pending → s'.history.store ≡ s.history.store
-  store_links [] [] [] s s' pending is = ap (λ (z : links.Stand). z.history.store) is.0
-  store_links [] [] (y ∷ back) s s' pending is = absurd is
-  store_links [] (x ∷ came) back s s' pending is = absurd is
-  store_links (end ∷ ends) [] back s s' pending is = absurd is
-  store_links (end ∷ ends) (x ∷ came) [] s s' pending is = absurd is
-  store_links (end ∷ ends) (x ∷ came) (y ∷ back) s s' pending (t, (now, (later, first, rest, parts))) =
-      store_links ends came back t s' later rest ∙ store_link end x y s t now first
+  store_links : (exit : links.Stand) (ends : List LinkEnd) (came back : List C) (s s' : links.Stand) (pending : List Accepted) → AreServed (P exit) ends came back s s' pending → s'.history.store ≡ s.history.store
+  store_links exit [] [] [] s s' pending is = ap (λ (z : links.Stand). z.history.store) is.0
+  store_links exit [] [] (y ∷ back) s s' pending is = absurd is
+  store_links exit [] (x ∷ came) back s s' pending is = absurd is
+  store_links exit (end ∷ ends) [] back s s' pending is = absurd is
+  store_links exit (end ∷ ends) (x ∷ came) [] s s' pending is = absurd is
+  store_links exit (end ∷ ends) (x ∷ came) (y ∷ back) s s' pending (t, (now, (later, first, rest, parts))) =
+      store_links exit ends came back t s' later rest ∙ store_link exit end x y s t now first
 
   -- ---- what is written after them
 
@@ -123,7 +125,7 @@ module _ {C : Type 0} (left held : C → Option (List ℕ)) (reads writes : C �
         subst (λ z. LinksEnd images moment images_since mid new P status_ most coming coming' backed backed' held0 held' (stand (history_of e) begun) z) is'
         (subst (λ z. LinksEnd images moment images_since mid new P status_ most coming coming' backed backed' held0 held' z s') is end) in
         run_over (λ s s' pending. ServesLinks P status_ most coming coming' backed backed' held0 held' s s' pending) seen images moment images_since old mid new e e' steps begun steps' all.pending opening limit
-        (store_links all.served.ends all.served.served.came all.served.served.back (links.stand (history_of e) begun) (links.stand (history_of e') steps') all.pending all.served.served.served) all.served all.disk
+        (store_links (links.stand (history_of e') steps') all.served.ends all.served.served.came all.served.served.back (links.stand (history_of e) begun) (links.stand (history_of e') steps') all.pending all.served.served.served) all.served all.disk
 
 -- the summary was written, or a part of it, or no memory was there for it
 pub counts_written : {C : Type 0} (st : Status) (most : ℕ) (coming : Option (List C)) (held held' : Option (List ℕ)) (summary : Summary)
@@ -149,16 +151,9 @@ served_ends status.WriteFault most coming ends written writes disks nets is = ab
 served_ends status.DiskFault most coming ends written writes disks nets is = absurd (disks refl)
 served_ends status.NetFault most coming ends written writes disks nets is = absurd (nets refl)
 served_ends status.OutOfMemory most coming ends written writes disks nets is = inr (inl refl)
-served_ends status.Usage most coming ends written writes disks nets is = absurd is
-served_ends status.ReadFault most coming ends written writes disks nets is = absurd is
-served_ends status.NotJournal most coming ends written writes disks nets is = absurd is
-served_ends status.AlreadyThere most coming ends written writes disks nets is = absurd is
-served_ends (status.Damaged place) most coming ends written writes disks nets is = absurd is
-served_ends (status.NoReport last) most coming ends written writes disks nets is = absurd is
-served_ends (status.TooMuch bytes) most coming ends written writes disks nets is = absurd is
-served_ends (status.JournalFull bytes) most coming ends written writes disks nets is = absurd is
+served_ends other most coming ends written writes disks nets is = absurd is
 
-pub complete_served : {D C A B : Type 0} (seen : D → Option (List ℕ)) (images : D → List ℕ → Type 0) (moment : D → ℕ) (images_since : D → ℕ → List ℕ → Type 0) (faults : D → ℕ) (old new : D) (Q : OneServed C)
+pub complete_served : {D C A B : Type 0} (seen : D → Option (List ℕ)) (images : D → List ℕ → Type 0) (moment : D → ℕ) (images_since : D → ℕ → List ℕ → Type 0) (faults : D → ℕ) (old new : D) (Q : links.Stand → OneServed C)
     (st : Status) (most steps steps' : ℕ) (coming coming' backed backed' : Option (List C)) (held held' : Option (List ℕ)) (s : List ℕ) (h : List Accepted) (a : Accepted)
     → seen old ≡ Some s → IsHistory (h ++ a ∷ []) → IsGoodFound h a s
     → (st ≡ status.WriteFault → ⊥) → (st ≡ status.DiskFault → ⊥) → (st ≡ status.NetFault → ⊥) → (HasRisen (faults old) (faults new) → ⊥)
@@ -173,13 +168,13 @@ complete_served seen images moment images_since faults old new Q st most steps s
 -- ---- one link
 
 -- no count has risen, and the limit was not reached
-pub complete_link : (end : LinkEnd) (reads writes : Type 0) (left left' : Option (List ℕ)) (s s' : links.Stand) (pending : List Accepted) (added input : List ℕ)
-    → left ≡ Some input → length input < link_limit → (reads → ⊥) → (writes → ⊥) → (IsDiskEnd end → ⊥) → Serves end reads writes left left' s s' pending added
+pub complete_link : (end : LinkEnd) (reads writes : Type 0) (U : (ℕ → List Accepted → Type 0) → Type 0) (left left' : Option (List ℕ)) (s s' : links.Stand) (pending : List Accepted) (added input : List ℕ)
+    → left ≡ Some input → length input < link_limit → (reads → ⊥) → (writes → ⊥) → (IsDiskEnd end → ⊥) → Serves end reads writes U left left' s s' pending added
     → ((n : ℕ) × (end ≡ link_end.Ended n)) ⊎ ((n : ℕ) × (end ≡ link_end.NoMemory n))
-complete_link (link_end.Ended n) reads writes left left' s s' pending added input is short read write disk serves = inl (n, refl)
-complete_link (link_end.NoMemory n) reads writes left left' s s' pending added input is short read write disk serves = inr (n, refl)
-complete_link (link_end.Disk n) reads writes left left' s s' pending added input is short read write disk serves = absurd (disk tt)
-complete_link (link_end.Cut n) reads writes left left' s s' pending added input is short read write disk serves =
+complete_link (link_end.Ended n) reads writes U left left' s s' pending added input is short read write disk serves = inl (n, refl)
+complete_link (link_end.NoMemory n) reads writes U left left' s s' pending added input is short read write disk serves = inr (n, refl)
+complete_link (link_end.Disk n) reads writes U left left' s s' pending added input is short read write disk serves = absurd (disk tt)
+complete_link (link_end.Cut n) reads writes U left left' s s' pending added input is short read write disk serves =
     absurd (omega (arith, few_taken left left' input serves.taken is serves.took, short, serves.says.1))
-complete_link (link_end.Broken n) reads writes left left' s s' pending added input is short read write disk serves =
+complete_link (link_end.Broken n) reads writes U left left' s s' pending added input is short read write disk serves =
     absurd (⊎_elim (λ failed. read failed.0) (λ failed. write failed.0) serves.says)

@@ -11,9 +11,10 @@ use Rattle.serv_top.specs.declared.status.Status.TheVariants as status
 use Rattle.serv_top.specs.Journal.{IsUnopened}
 use Rattle.serv_top.specs.Outcome.{input_limit}
 use Rattle.serv_top.specs.Reviews.{IsReviewed}
-use Rattle.serv_top.proofs.Applied.{Completes, unopened_ends, few_taken}
+use Rattle.serv_top.proofs.Applied.{unopened_ends, few_taken}
 use Rattle.serv_top.proofs.ImportLemmas.{unread_ends}
 use Rattle.serv_top.proofs.WrittenLemmas.{written_ends}
+use Rattle.serv_top.specs.Ends.{Completes}
 
 -- a fact of a value, where one is there
 pub ok_map : {A E : Type 0} (r : Result A E) {P Q : A → Type 0} → ((a : A) → P a → Q a) → IfOk r P → IfOk r Q

@@ -180,13 +180,7 @@ none_pending waiting status.WriteFault s s' pending left left' held held' calm e
 none_pending waiting status.DiskFault s s' pending left left' held held' calm e = absurd (calm refl)
 none_pending waiting (status.TooMuch n) s s' pending left left' held held' calm e = record { taken = e.taken; written = e.written; took = e.took; wrote = e.wrote; says = (refl, e.says.1, e.says.2, e.says.3) }
 none_pending waiting status.OutOfMemory s s' pending left left' held held' calm e = record { taken = e.taken; written = e.written; took = e.took; wrote = e.wrote; says = (refl, e.says.1, e.says.2) }
-none_pending waiting status.Usage s s' pending left left' held held' calm e = absurd e.says
-none_pending waiting status.NotJournal s s' pending left left' held held' calm e = absurd e.says
-none_pending waiting status.AlreadyThere s s' pending left left' held held' calm e = absurd e.says
-none_pending waiting (status.Damaged place) s s' pending left left' held held' calm e = absurd e.says
-none_pending waiting status.NetFault s s' pending left left' held held' calm e = absurd e.says
-none_pending waiting (status.NoReport last) s s' pending left left' held held' calm e = absurd e.says
-none_pending waiting (status.JournalFull bytes) s s' pending left left' held held' calm e = absurd e.says
+none_pending waiting other s s' pending left left' held held' calm e = absurd e.says
 
 pub ran_serving : {D : Type 0} (images : D → List ℕ → Type 0) (moment : D → ℕ) (images_since : D → ℕ → List ℕ → Type 0) (old new : D) (waiting : ℕ) (st : Status) (h h' : History) (steps steps' : ℕ)
     (left left' held held' : Option (List ℕ)) → h ≡ nothing → st ≢ status.DiskFault → Ends images moment images_since old new waiting st (stand h steps) (stand h' steps') left left' held held'

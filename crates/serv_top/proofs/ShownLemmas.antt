@@ -23,25 +23,14 @@ use Rattle.serv_top.specs.Stop.{status_of_asking, status_of_refusal}
 use Rattle.serv_top.specs.Journal.{IsUnopened}
 use Rattle.serv_top.specs.Shown.{IsShown, IsShownAs, Shows, refusal_over}
 use Rattle.serv_top.specs.Words.{IsShowing}
-use Rattle.serv_top.proofs.Applied.{Completes, unopened_ends}
+use Rattle.serv_top.proofs.Applied.{unopened_ends}
+use Rattle.serv_top.specs.Ends.{Completes}
 
 pub is_query : (q : Query) → IsShowing q → IsQuery q
 is_query (query.Report m) is = is
 is_query (query.Trial m) is = is
 is_query query.Custodial is = is
-is_query (query.Books l) is = absurd is
-is_query (query.At l d) is = absurd is
-is_query (query.Payoff l d) is = absurd is
-is_query (query.Escrow l) is = absurd is
-is_query (query.Rows number) is = absurd is
-is_query (query.Loan l) is = absurd is
-is_query (query.History l) is = absurd is
-is_query (query.Quote l d) is = absurd is
-is_query (query.Arrears l) is = absurd is
-is_query query.Aging is = absurd is
-is_query query.Status is = absurd is
-is_query (query.Command number) is = absurd is
-is_query (query.Key key) is = absurd is
+is_query other is = absurd is
 
 -- no other rule refuses them
 only_cause : (b c : Bool) (r why : Refusal) → first_of (case b r ∷ case c r ∷ []) ≡ Some why → r ≡ why
@@ -58,19 +47,7 @@ unfolding refusal_from
 not_closed_only h (query.Report m) why is e = (last_month (world h).seals.reports, report_only (world h) m why e)
 not_closed_only h (query.Trial m) why is e = (last_month (world h).seals.reports, report_only (world h) m why e)
 not_closed_only h query.Custodial why is e = absurd (cc)
-not_closed_only h (query.Books l) why is e = absurd is
-not_closed_only h (query.At l d) why is e = absurd is
-not_closed_only h (query.Payoff l d) why is e = absurd is
-not_closed_only h (query.Escrow l) why is e = absurd is
-not_closed_only h (query.Rows number) why is e = absurd is
-not_closed_only h (query.Loan l) why is e = absurd is
-not_closed_only h (query.History l) why is e = absurd is
-not_closed_only h (query.Quote l d) why is e = absurd is
-not_closed_only h (query.Arrears l) why is e = absurd is
-not_closed_only h query.Aging why is e = absurd is
-not_closed_only h query.Status why is e = absurd is
-not_closed_only h (query.Command number) why is e = absurd is
-not_closed_only h (query.Key key) why is e = absurd is
+not_closed_only h other why is e = absurd is
 
 shows_refused : (h : List Accepted) (q : Query) (why : Refusal) (held : Option (List ℕ)) → IsShowing q → refusal_over h q ≡ Some why → Shows (status_of_refusal why) h q held held
 shows_refused h q why held is e =
@@ -92,15 +69,7 @@ shown_ends status.Done h q written calm is = inl (inl refl)
 shown_ends status.WriteFault h q written calm is = absurd (calm refl)
 shown_ends (status.NoReport last) h q written calm is = inr (last, refl)
 shown_ends status.OutOfMemory h q written calm is = inl (inr (inl refl))
-shown_ends status.Usage h q written calm is = absurd is
-shown_ends status.ReadFault h q written calm is = absurd is
-shown_ends status.DiskFault h q written calm is = absurd is
-shown_ends status.NotJournal h q written calm is = absurd is
-shown_ends status.AlreadyThere h q written calm is = absurd is
-shown_ends (status.Damaged place) h q written calm is = absurd is
-shown_ends status.NetFault h q written calm is = absurd is
-shown_ends (status.TooMuch bytes) h q written calm is = absurd is
-shown_ends (status.JournalFull bytes) h q written calm is = absurd is
+shown_ends other h q written calm is = absurd is
 
 pub complete_shown : {D A : Type 0} (seen : D → Option (List ℕ)) (images : D → List ℕ → Type 0) (moment : D → ℕ) (images_since : D → ℕ → List ℕ → Type 0) (faults : D → ℕ) (old new : D) (st : Status) (q : Query)
     (steps steps' : ℕ) (held held' : Option (List ℕ)) (s : List ℕ) (h : List Accepted) (a : Accepted) → seen old ≡ Some s → IsHistory (h ++ a ∷ []) → IsGoodFound h a s

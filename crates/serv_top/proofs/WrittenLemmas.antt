@@ -20,7 +20,8 @@ use Rattle.serv_top.specs.Journal.{IsUnopened}
 use Rattle.serv_top.specs.Written.{IsWrittenAs, Writes}
 use Rattle.serv_top.specs.Asked.{IsAsked}
 use Rattle.serv_top.specs.Extracts.{IsExtracted, lines_of_commands}
-use Rattle.serv_top.proofs.Applied.{Completes, unopened_ends}
+use Rattle.serv_top.proofs.Applied.{unopened_ends}
+use Rattle.serv_top.specs.Ends.{Completes}
 
 -- all lines of a list of commands
 pub all_lines_of : (i : ℕ) (ps : List (List ℕ × Command)) → length ps ≤ i → flat_map (λ (p : List ℕ × Command). ended (line_of_command (accepted p.0 p.1))) (take i ps) ≡ lines_of_commands (history_of ps)
@@ -33,16 +34,7 @@ written_of : (st : Status) (T : List ℕ → Type 0) (text written : List ℕ) �
 written_of status.Done T text written is says = subst T (sym says) is
 written_of status.WriteFault T text written is says = record { text = text; whole = is; cut = subst (IsProperPrefix written) says.whole says.cut }
 written_of status.OutOfMemory T text written is says = says
-written_of status.Usage T text written is says = absurd says
-written_of status.ReadFault T text written is says = absurd says
-written_of status.DiskFault T text written is says = absurd says
-written_of status.NotJournal T text written is says = absurd says
-written_of status.AlreadyThere T text written is says = absurd says
-written_of (status.Damaged place) T text written is says = absurd says
-written_of status.NetFault T text written is says = absurd says
-written_of (status.NoReport last) T text written is says = absurd says
-written_of (status.TooMuch bytes) T text written is says = absurd says
-written_of (status.JournalFull bytes) T text written is says = absurd says
+written_of other T text written is says = absurd says
 
 pub writes_of : (st : Status) (T : List ℕ → Type 0) (text : List ℕ) (held held' : Option (List ℕ)) → T text → Writes st (λ t. t ≡ text) held held' → Writes st T held held'
 writes_of st T text held held' is w = record { written = w.written; wrote = w.wrote; says = written_of st T text w.written is w.says }
@@ -57,16 +49,7 @@ pub written_ends : (st : Status) (T : List ℕ → Type 0) (written : List ℕ) 
 written_ends status.Done T written calm says = inl refl
 written_ends status.WriteFault T written calm says = absurd (calm refl)
 written_ends status.OutOfMemory T written calm says = inr (inl refl)
-written_ends status.Usage T written calm says = absurd says
-written_ends status.ReadFault T written calm says = absurd says
-written_ends status.DiskFault T written calm says = absurd says
-written_ends status.NotJournal T written calm says = absurd says
-written_ends status.AlreadyThere T written calm says = absurd says
-written_ends (status.Damaged place) T written calm says = absurd says
-written_ends status.NetFault T written calm says = absurd says
-written_ends (status.NoReport last) T written calm says = absurd says
-written_ends (status.TooMuch bytes) T written calm says = absurd says
-written_ends (status.JournalFull bytes) T written calm says = absurd says
+written_ends other T written calm says = absurd says
 
 pub complete_extract : {D A : Type 0} (seen : D → Option (List ℕ)) (images : D → List ℕ → Type 0) (moment : D → ℕ) (images_since : D → ℕ → List ℕ → Type 0) (faults : D → ℕ) (old new : D) (st : Status) (x : Extract)
     (steps steps' : ℕ) (held held' : Option (List ℕ)) (s : List ℕ) (h : List Accepted) (a : Accepted) → seen old ≡ Some s → IsHistory (h ++ a ∷ []) → IsGoodFound h a s

@@ -4,7 +4,7 @@ use Rattle.std.specs.Io.KnownBytes.{Appends}
 use Rattle.serv_disk.specs.Faults.{IsProperPrefix}
 use Rattle.serv_drill.specs.Summary.{summary}
 use Rattle.serv_top.specs.declared.status.Status.{Status}
-use Rattle.serv_top.specs.declared.status.Status.TheVariants.{Done, Usage, ReadFault, WriteFault, DiskFault, NotJournal, AlreadyThere, Damaged, NetFault, NoReport, TooMuch, OutOfMemory, JournalFull}
+use Rattle.serv_top.specs.declared.status.Status.TheVariants.{Done, WriteFault, OutOfMemory}
 
 -- what is written by the status: the summary of the year, a part of it that does not reach its end, or nothing. Other
 -- statuses do not come
@@ -12,16 +12,7 @@ abbrev pub IsDrilledAs : Status → ℕ → ℕ → List ℕ → Type 0
 IsDrilledAs Done loans number written = written ≡ summary loans number
 IsDrilledAs WriteFault loans number written = IsProperPrefix written (summary loans number)
 IsDrilledAs OutOfMemory loans number written = written ≡ []
-IsDrilledAs Usage loans number written = ⊥
-IsDrilledAs ReadFault loans number written = ⊥
-IsDrilledAs DiskFault loans number written = ⊥
-IsDrilledAs NotJournal loans number written = ⊥
-IsDrilledAs AlreadyThere loans number written = ⊥
-IsDrilledAs (Damaged place) loans number written = ⊥
-IsDrilledAs NetFault loans number written = ⊥
-IsDrilledAs (NoReport last) loans number written = ⊥
-IsDrilledAs (TooMuch bytes) loans number written = ⊥
-IsDrilledAs (JournalFull bytes) loans number written = ⊥
+IsDrilledAs other loans number written = ⊥
 
 pub record Drills (status : Status) (loans number : ℕ) (held held' : Option (List ℕ)) : Type 0 where
   pub written : List ℕ

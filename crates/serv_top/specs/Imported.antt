@@ -17,7 +17,7 @@ use Rattle.serv_machine.specs.OnDisk.{OnDisk}
 use Rattle.serv_top.specs.declared.serving.Stop.{Stop}
 use Rattle.serv_top.specs.declared.serving.Stop.TheVariants as stop
 use Rattle.serv_top.specs.declared.status.Status.{Status}
-use Rattle.serv_top.specs.declared.status.Status.TheVariants.{Done, Usage, ReadFault, WriteFault, DiskFault, NotJournal, AlreadyThere, Damaged, NetFault, NoReport, TooMuch, OutOfMemory, JournalFull}
+use Rattle.serv_top.specs.declared.status.Status.TheVariants.{Done, ReadFault, WriteFault, DiskFault, TooMuch, OutOfMemory}
 use Rattle.serv_top.specs.Machine.{Said, Asks, Unfit, reply_to, history_after, bound_of, Stand, Stays, Moves}
 use Rattle.serv_top.specs.Replies.{MovesAll, replies_to, before_last}
 use Rattle.serv_top.specs.Outcome.{input_limit}
@@ -142,15 +142,7 @@ IsRowsOutput Done saids s s' pending written = (pending ≡ []) × IsAnswered sa
 IsRowsOutput WriteFault saids s s' pending written = (pending ≡ []) × IsCutShort saids s s' written
 IsRowsOutput DiskFault saids s s' pending written = IsStranded saids s s' pending written
 IsRowsOutput OutOfMemory saids s s' pending written = (pending ≡ []) × IsGivenUp saids s s' written
-IsRowsOutput Usage saids s s' pending written = ⊥
-IsRowsOutput ReadFault saids s s' pending written = ⊥
-IsRowsOutput NotJournal saids s s' pending written = ⊥
-IsRowsOutput AlreadyThere saids s s' pending written = ⊥
-IsRowsOutput (Damaged place) saids s s' pending written = ⊥
-IsRowsOutput NetFault saids s s' pending written = ⊥
-IsRowsOutput (NoReport last) saids s s' pending written = ⊥
-IsRowsOutput (TooMuch bytes) saids s s' pending written = ⊥
-IsRowsOutput (JournalFull bytes) saids s s' pending written = ⊥
+IsRowsOutput other saids s s' pending written = ⊥
 
 -- ---- the file
 
@@ -159,16 +151,7 @@ abbrev pub IsUnread : Status → List ℕ → Type 0
 IsUnread ReadFault taken = length taken < input_limit
 IsUnread (TooMuch n) taken = (n ≡ length taken) × (n ≡ input_limit)
 IsUnread OutOfMemory taken = length taken ≤ input_limit
-IsUnread Done taken = ⊥
-IsUnread Usage taken = ⊥
-IsUnread WriteFault taken = ⊥
-IsUnread DiskFault taken = ⊥
-IsUnread NotJournal taken = ⊥
-IsUnread AlreadyThere taken = ⊥
-IsUnread (Damaged place) taken = ⊥
-IsUnread NetFault taken = ⊥
-IsUnread (NoReport last) taken = ⊥
-IsUnread (JournalFull bytes) taken = ⊥
+IsUnread other taken = ⊥
 
 -- no row is acted on, and nothing is written
 pub record IsIdle (s s' : Stand) (pending : List Accepted) (written : List ℕ) : Type 0 where

@@ -11,7 +11,7 @@ use Rattle.serv_engine.specs.Opening.{IsDamagedAt, IsTooLong, IsFound, IsClosed,
 use Rattle.serv_machine.specs.History.{in_journal}
 use Rattle.serv_machine.specs.OnDisk.{HasHistory, OnDisk}
 use Rattle.serv_top.specs.declared.status.Status.{Status}
-use Rattle.serv_top.specs.declared.status.Status.TheVariants.{Done, Usage, ReadFault, WriteFault, DiskFault, NotJournal, AlreadyThere, Damaged, NetFault, NoReport, TooMuch, OutOfMemory, JournalFull}
+use Rattle.serv_top.specs.declared.status.Status.TheVariants.{Done, DiskFault, NotJournal, AlreadyThere, Damaged, OutOfMemory, JournalFull}
 use Rattle.serv_top.specs.Machine.{Stand, stand}
 use Rattle.serv_top.specs.Outcome.{Ended}
 use Rattle.serv_top.specs.Sound.{StaySound}
@@ -29,16 +29,7 @@ abbrev pub IsInit : Status → Option (List ℕ) → Option (List ℕ) → (List
 IsInit Done told told' images faults faults' = Each images (HasHistory [])
 IsInit AlreadyThere told told' images faults faults' = ((s : List ℕ) → told ≡ Some s → 9 < length s) × (told' ≡ told)
 IsInit DiskFault told told' images faults faults' = HasRisen faults faults'
-IsInit Usage told told' images faults faults' = ⊥
-IsInit ReadFault told told' images faults faults' = ⊥
-IsInit WriteFault told told' images faults faults' = ⊥
-IsInit NotJournal told told' images faults faults' = ⊥
-IsInit (Damaged place) told told' images faults faults' = ⊥
-IsInit NetFault told told' images faults faults' = ⊥
-IsInit (NoReport last) told told' images faults faults' = ⊥
-IsInit (TooMuch bytes) told told' images faults faults' = ⊥
-IsInit OutOfMemory told told' images faults faults' = ⊥
-IsInit (JournalFull bytes) told told' images faults faults' = ⊥
+IsInit other told told' images faults faults' = ⊥
 
 -- ---- a journal is opened
 
@@ -51,17 +42,10 @@ KeepsGood seen images moment images_since old new = (s : List ℕ) → seen old 
 abbrev pub IsCause : Status → Option (List ℕ) → ℕ → ℕ → Type 0
 IsCause NotJournal told faults faults' = (s : List ℕ) → told ≡ Some s → IsNoJournal s
 IsCause (Damaged place) told faults faults' = (s : List ℕ) → told ≡ Some s → IsDamagedAt place s
-IsCause NetFault told faults faults' = ⊥
 IsCause (JournalFull bytes) told faults faults' = (s : List ℕ) → told ≡ Some s → IsTooLong journal_limit bytes s
 IsCause DiskFault told faults faults' = HasRisen faults faults'
 IsCause OutOfMemory told faults faults' = ⊤
-IsCause Done told faults faults' = ⊥
-IsCause Usage told faults faults' = ⊥
-IsCause ReadFault told faults faults' = ⊥
-IsCause WriteFault told faults faults' = ⊥
-IsCause AlreadyThere told faults faults' = ⊥
-IsCause (NoReport last) told faults faults' = ⊥
-IsCause (TooMuch bytes) told faults faults' = ⊥
+IsCause other told faults faults' = ⊥
 
 -- this status, want of memory, or a fault of the disk
 abbrev pub IsOnly : Status → Status → Type 0

@@ -18,3 +18,4 @@ pub mod Imported
 pub mod Drilled
 pub mod Served
 pub mod Upheld
+pub mod Ends

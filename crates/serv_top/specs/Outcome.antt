@@ -5,7 +5,7 @@ use Rattle.svc_world.specs.World.{Accepted}
 use Rattle.serv_machine.specs.History.{History, nothing}
 use Rattle.serv_machine.specs.OnDisk.{OnDisk}
 use Rattle.serv_top.specs.declared.status.Status.{Status}
-use Rattle.serv_top.specs.declared.status.Status.TheVariants.{Done, Usage, ReadFault, WriteFault, DiskFault, NotJournal, AlreadyThere, Damaged, NetFault, NoReport, TooMuch, OutOfMemory, JournalFull}
+use Rattle.serv_top.specs.declared.status.Status.TheVariants.{Done, ReadFault, WriteFault, DiskFault, TooMuch, OutOfMemory}
 use Rattle.serv_top.specs.Lines.{lines_of, ended_lines}
 use Rattle.serv_top.specs.Machine.{Stand, stand}
 use Rattle.serv_top.specs.Replies.{Answers, IsBegun, IsCutIn, IsHeldUp}
@@ -35,13 +35,7 @@ IsOutput waiting (TooMuch n) s s' pending taken left written =
     (pending ≡ []) × (n ≡ length taken) × (n ≡ input_limit) × Answers (ended_lines taken) s s' written
 IsOutput waiting OutOfMemory s s' pending taken left written =
     (pending ≡ []) × (length taken ≤ input_limit) × HoldsOfLines (λ lines. IsBegun waiting lines s s' written) taken left
-IsOutput waiting Usage s s' pending taken left written = ⊥
-IsOutput waiting NotJournal s s' pending taken left written = ⊥
-IsOutput waiting AlreadyThere s s' pending taken left written = ⊥
-IsOutput waiting (Damaged place) s s' pending taken left written = ⊥
-IsOutput waiting NetFault s s' pending taken left written = ⊥
-IsOutput waiting (NoReport last) s s' pending taken left written = ⊥
-IsOutput waiting (JournalFull bytes) s s' pending taken left written = ⊥
+IsOutput waiting other s s' pending taken left written = ⊥
 
 -- what is taken from the source, accepted and written to the sink, where these tell what is left and what is held
 pub record Ended (waiting : ℕ) (status : Status) (s s' : Stand) (pending : List Accepted) (left left' held held' : Option (List ℕ)) : Type 0 where

@@ -11,7 +11,7 @@ use Rattle.svc_world.specs.Answers.{answer_to, query_refusal}
 use Rattle.serv_disk.specs.Faults.{IsProperPrefix}
 use Rattle.serv_report.specs.AnswerTexts.{text_of_answer}
 use Rattle.serv_top.specs.declared.status.Status.{Status}
-use Rattle.serv_top.specs.declared.status.Status.TheVariants.{Done, Usage, ReadFault, WriteFault, DiskFault, NotJournal, AlreadyThere, Damaged, NetFault, NoReport, TooMuch, OutOfMemory, JournalFull}
+use Rattle.serv_top.specs.declared.status.Status.TheVariants.{Done, WriteFault, NoReport, OutOfMemory}
 use Rattle.serv_top.specs.Journal.{IsOpened}
 
 -- why a query is refused over these commands
@@ -38,15 +38,7 @@ IsShownAs Done h q written = IsTextOf h q written
 IsShownAs WriteFault h q written = IsCutText h q written
 IsShownAs (NoReport last) h q written = (written ≡ []) × (refusal_over h q ≡ Some (refusal.NotClosed last))
 IsShownAs OutOfMemory h q written = written ≡ []
-IsShownAs Usage h q written = ⊥
-IsShownAs ReadFault h q written = ⊥
-IsShownAs DiskFault h q written = ⊥
-IsShownAs NotJournal h q written = ⊥
-IsShownAs AlreadyThere h q written = ⊥
-IsShownAs (Damaged place) h q written = ⊥
-IsShownAs NetFault h q written = ⊥
-IsShownAs (TooMuch bytes) h q written = ⊥
-IsShownAs (JournalFull bytes) h q written = ⊥
+IsShownAs other h q written = ⊥
 
 pub record Shows (status : Status) (h : List Accepted) (q : Query) (held held' : Option (List ℕ)) : Type 0 where
   pub written : List ℕ

@@ -1,10 +1,9 @@
 -- Which bytes that are written answer which requests, and the commands that these bring.
 use Rattle.std.specs.Prelude.{◌≡◌, ℕ, List, ◌++◌, length, Option}
-use Rattle.std.specs.Io.KnownBytes.{Consumes}
 use Rattle.svc_world.specs.World.{Accepted}
 use Rattle.serv_disk.specs.Stamps.{Stamp}
 use Rattle.serv_machine.specs.History.{History}
-use Rattle.serv_machine.specs.Upheld.{Upholds}
+use Rattle.serv_machine.specs.Upheld as upheld
 use Rattle.serv_top.specs.Machine.{Said}
 use Rattle.serv_top.specs.Replies.{Say, replies_to, history_after_all}
 
@@ -23,7 +22,6 @@ pub record AreReplies (First : List Said → Type 0) (h : History) (bytes : ℕ)
   pub commands_are : commands ≡ (history_after_all h said).commands
 
 -- of a run that took its requests from a source, over a history: each write that it noted is upheld
-pub record IsAcknowledged (First : List ℕ → List Said → Type 0) (moment : ℕ) (since : ℕ → List ℕ → Type 0) (now : List Accepted) (h : History) (left left' held : Option (List ℕ)) (log log' : Option (List Stamp)) : Type 0 where
-  pub taken : List ℕ
-  pub took : Consumes left left' taken
-  pub upheld : Upholds (AreReplies (First taken) h) moment since now held log log'
+abbrev pub IsAcknowledged : (List ℕ → List Said → Type 0) → ℕ → (ℕ → List ℕ → Type 0) → List Accepted → History → Option (List ℕ) → Option (List ℕ) → Option (List ℕ) → Option (List Stamp) → Option (List Stamp) → Type 0
+IsAcknowledged First moment since now h left left' held log log' =
+    upheld.IsAcknowledged (λ taken. AreReplies (First taken) h) moment since now left left' held log log'

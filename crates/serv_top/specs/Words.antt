@@ -110,19 +110,7 @@ abbrev pub IsShowing : Query → Type 0
 IsShowing (query.Report m) = IsReadMonth m
 IsShowing (query.Trial m) = IsReadMonth m
 IsShowing query.Custodial = Unit {0}
-IsShowing (query.Books l) = ⊥
-IsShowing (query.At l d) = ⊥
-IsShowing (query.Payoff l d) = ⊥
-IsShowing (query.Escrow l) = ⊥
-IsShowing (query.Rows number) = ⊥
-IsShowing (query.Loan l) = ⊥
-IsShowing (query.History l) = ⊥
-IsShowing (query.Quote l d) = ⊥
-IsShowing (query.Arrears l) = ⊥
-IsShowing query.Aging = ⊥
-IsShowing query.Status = ⊥
-IsShowing (query.Command number) = ⊥
-IsShowing (query.Key key) = ⊥
+IsShowing other = ⊥
 
 -- words ask no other query, no year of more loans, no further port or connections, no range that goes down, and no span from 0
 abbrev pub IsTask : Task → Type 0

@@ -3,7 +3,7 @@ use Rattle.std.specs.Prelude.{◌≡◌, ℕ, List, [], Option}
 use Rattle.std.specs.Io.KnownBytes.{Appends}
 use Rattle.serv_disk.specs.Faults.{IsProperPrefix}
 use Rattle.serv_top.specs.declared.status.Status.{Status}
-use Rattle.serv_top.specs.declared.status.Status.TheVariants.{Done, Usage, ReadFault, WriteFault, DiskFault, NotJournal, AlreadyThere, Damaged, NetFault, NoReport, TooMuch, OutOfMemory, JournalFull}
+use Rattle.serv_top.specs.declared.status.Status.TheVariants.{Done, WriteFault, OutOfMemory}
 
 -- of such a text a part is written that does not reach its end
 pub record IsCutOf (IsText : List ℕ → Type 0) (written : List ℕ) : Type 0 where
@@ -16,16 +16,7 @@ abbrev pub IsWrittenAs : Status → (List ℕ → Type 0) → List ℕ → Type 
 IsWrittenAs Done IsText written = IsText written
 IsWrittenAs WriteFault IsText written = IsCutOf IsText written
 IsWrittenAs OutOfMemory IsText written = written ≡ []
-IsWrittenAs Usage IsText written = ⊥
-IsWrittenAs ReadFault IsText written = ⊥
-IsWrittenAs DiskFault IsText written = ⊥
-IsWrittenAs NotJournal IsText written = ⊥
-IsWrittenAs AlreadyThere IsText written = ⊥
-IsWrittenAs (Damaged place) IsText written = ⊥
-IsWrittenAs NetFault IsText written = ⊥
-IsWrittenAs (NoReport last) IsText written = ⊥
-IsWrittenAs (TooMuch bytes) IsText written = ⊥
-IsWrittenAs (JournalFull bytes) IsText written = ⊥
+IsWrittenAs other IsText written = ⊥
 
 pub record Writes (status : Status) (IsText : List ℕ → Type 0) (held held' : Option (List ℕ)) : Type 0 where
   pub written : List ℕ

@@ -18,7 +18,7 @@ use crate::over_journal::open_journal;
 use crate::serving::{Stop, stop_at};
 use crate::status::Status;
 use crate::stream::INPUT_LIMIT;
-use serv_disk::{Disk, Sink, Source, read_some, write_whole};
+use serv_disk::{Disk, Sink, Source, read_some, write_beside};
 use serv_import::{ImportFault, RowRequest, batch};
 use serv_machine::{Halt, Machine, answer_request};
 use serv_rows::push_bad_row;
@@ -210,13 +210,10 @@ fn answer_row<D: Disk, M: Machine<D>, K: Sink, L: Ledger>(
 {
     out.clear();
     match reply_to_row(row, out, machine, disk, steps) {
-        Ok(()) => {
-            snk.show(disk);
-            match write_whole(snk, out) {
-                Ok(()) => Ok(()),
-                Err(_) => Err(Stop::WriteFault),
-            }
-        }
+        Ok(()) => match write_beside(snk, disk, out) {
+            Ok(()) => Ok(()),
+            Err(_) => Err(Stop::WriteFault),
+        },
         Err(halt) => Err(stop_at(halt)),
     }
 }

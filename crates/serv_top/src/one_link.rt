@@ -4,6 +4,7 @@ ghost use Rattle.std.specs.Prelude.{◌≡◌, ◌≤◌, ◌<◌, ◌⊎◌, �
 ghost use Rattle.serv_disk.specs.Faults.{HasRisen};
 ghost use Rattle.serv_engine.specs.Engines.{IsDurable};
 ghost use Rattle.serv_machine.specs.Engines.{history_of};
+ghost use Rattle.serv_machine.specs.Upheld.{Upholds};
 ghost use Rattle.serv_links.specs.Responses.{stand};
 ghost use Rattle.serv_links.specs.Outcomes.{Writes};
 ghost use Rattle.serv_links.specs.Links.{IsDiskEnd, Serves, link_limit, number_in};
@@ -27,10 +28,13 @@ pub fn serve_one<D: Disk, C: Link, L: Ledger>(
 ) -> LinkEnd
     requires unspent { engine.old.journal.spent ≡ false }
     requires durable { IsDurable (D.images disk.old) engine.old }
-    // What was taken, acted on and written, with what a crash leaves on the disk now and at each moment.
+    // What was taken, acted on and written, with what a crash leaves on the disk now and at each moment; and from each
+    // write on, each image has every command that is answered by what is written so far.
     ensures served { Writes D.images D.moment D.images_since disk.old disk.new
         (Serves result (HasRisen (C.Source.faults link.old) (C.Source.faults link.new))
-        (HasRisen (C.Sink.faults link.old) (C.Sink.faults link.new)) (C.left link.old) (C.left link.new)
+        (HasRisen (C.Sink.faults link.old) (C.Sink.faults link.new))
+        (λ covers. Upholds covers (D.moment disk.new) (D.images_since disk.new) engine.new.history
+        (C.held link.old) (C.log link.old) (C.log link.new)) (C.left link.old) (C.left link.new)
         (stand (history_of engine.old) steps.old) (stand (history_of engine.new) steps.new))
         engine.old.history engine.new.history (C.held link.old) (C.held link.new) }
     ensures few { number_in result ≤ link_limit }

@@ -32,7 +32,8 @@ pub(crate) fn serve_over<K: Sink, D: Disk, G: Doors, L: Ledger>(
     ensures served { (IsUnopened D.seen D.images D.moment D.images_since D.faults disk.old disk.new result
         steps.old steps.new × (snk.new ≡ snk.old) × (doors.new ≡ doors.old))
         ⊎ IsServedOver D.seen D.images D.moment D.images_since disk.old disk.new
-        (ServedLink G.Conn.left G.Conn.held G.Conn.Source.faults G.Conn.Sink.faults) result most steps.old steps.new
+        (ServedLink G.Conn.left G.Conn.held G.Conn.log G.Conn.Source.faults G.Conn.Sink.faults
+        (D.moment disk.new) (D.images_since disk.new)) result most steps.old steps.new
         (G.coming doors.old) (G.coming doors.new) (G.backed doors.old) (G.backed doors.new)
         (K.held snk.old) (K.held snk.new) }
     ensures file { HasFileFaults (D.seen disk.old) result }
@@ -64,7 +65,8 @@ fn serve_by<D: Disk, M: Machine<D>, K: Sink, G: Doors, L: Ledger>(
     requires out { G.out doors.old ≡ 0 }
     requires ready { M.ready machine.old disk.old }
     ensures ends { LinksEnd D.images D.moment D.images_since disk.old disk.new
-        (ServedLink G.Conn.left G.Conn.held G.Conn.Source.faults G.Conn.Sink.faults) result most
+        (ServedLink G.Conn.left G.Conn.held G.Conn.log G.Conn.Source.faults G.Conn.Sink.faults
+        (D.moment disk.new) (D.images_since disk.new)) result most
         (G.coming doors.old) (G.coming doors.new) (G.backed doors.old) (G.backed doors.new)
         (K.held snk.old) (K.held snk.new)
         (stand (M.history machine.old) steps.old) (stand (M.history machine.new) steps.new) }

@@ -17,7 +17,7 @@ ghost use Rattle.serv_top.specs.Upheld.{AreReplies, AreSaidFirst};
 use crate::answering::answer_line;
 use crate::status::Status;
 use memchr::memchr;
-use serv_disk::{Disk, Failed, Sink, write_whole};
+use serv_disk::{Disk, Failed, Sink, write_beside};
 use serv_machine::{Halt, Machine};
 use std::alloc::Global;
 use std::sync::ledger::Ledger;
@@ -422,8 +422,7 @@ impl Serving {
             (length s + length self.old.replies.items) (K.log snk.old) (K.log snk.new) }
         ensures cause { HasCause (K.faults snk.old) (K.faults snk.new) result }
     {
-        snk.show(disk);
-        write_whole(snk, &self.replies)?;
+        write_beside(snk, disk, &self.replies)?;
         self.replies.clear();
         Ok(())
     }

@@ -1,16 +1,11 @@
 //! The program's top call.
 
-ghost use Rattle.std.specs.Prelude.{◌≡◌, ◌≢◌, ℕ, ◌+◌, ◌<◌, ◌≤◌, ◌⊎◌, ◌↔◌, ◌∷◌, ◌++◌, List, [], map, length, Option, None, Some};
+ghost use Rattle.std.specs.Prelude.{◌≡◌, ◌≢◌, ℕ, ◌+◌, ◌<◌, ◌≤◌, ◌⊎◌, ◌↔◌, List, map, length, Option, None, Some};
 ghost use Rattle.svc_types.specs.declared.requests.Query.{Query};
-ghost use Rattle.svc_world.specs.World.{Accepted};
-ghost use Rattle.svc_world.specs.Judging.{IsHistory};
 ghost use Rattle.serv_disk.specs.Disks.{Each, LeavesOnly};
 ghost use Rattle.serv_disk.specs.Faults.{HasRisen};
-ghost use Rattle.serv_journal.specs.Reading.{IsNoJournal};
-ghost use Rattle.serv_engine.specs.Histories.{IsGoodFound};
-ghost use Rattle.serv_engine.specs.Opening.{IsDamagedAt, IsTooLong};
 ghost use Rattle.serv_top.specs.declared.words.Task.TheVariants as task;
-ghost use Rattle.serv_top.specs.Journal.{IsInit, IsOnly, HasFileFaults, IsUnopened, IsApplied, journal_limit};
+ghost use Rattle.serv_top.specs.Journal.{IsInit, HasFileFaults, IsUnopened, IsApplied};
 ghost use Rattle.serv_top.specs.Imported.{IsImported};
 ghost use Rattle.serv_drill.specs.Machine.{cost_of_works, first_tally};
 ghost use Rattle.serv_drill.specs.Works.{year_works};
@@ -23,8 +18,9 @@ ghost use Rattle.serv_top.specs.Extracts.{IsExtracted};
 ghost use Rattle.serv_top.specs.declared.reviews.Review.{Review};
 ghost use Rattle.serv_top.specs.Reviews.{IsReviewed};
 ghost use Rattle.serv_top.specs.Served.{IsServedOver};
-ghost use Rattle.serv_top.specs.Outcome.{Ran, input_limit};
+ghost use Rattle.serv_top.specs.Outcome.{Ran};
 ghost use Rattle.serv_top.specs.Words.{IsAsking, IsUnknown, task_in};
+ghost use Rattle.serv_top.specs.Ends.{Order, IsGiven, IsOverJournal, ReadsInput, IsUndisturbed, MayEnd};
 
 use crate::asking::ask;
 use crate::drilling::write_year;
@@ -121,24 +117,14 @@ pub fn run<S: Source, K: Sink, D: Disk, G: Doors, L: Ledger>(
         → (IsUnopened D.seen D.images D.moment D.images_since D.faults disk.old disk.new result
         steps.old steps.new × (src.new ≡ src.old) × (snk.new ≡ snk.old))
         ⊎ IsApplied D.seen D.images D.moment D.images_since disk.old disk.new result steps.old steps.new
-        (S.left src.old) (S.left src.new) (K.held snk.old) (K.held snk.new)
-        (K.log snk.old) (K.log snk.new) }
-    ensures not_journal { (s : List ℕ) → D.seen disk.old ≡ Some s → IsNoJournal s
-        → task_in (map (λ w. w.now) words.now) ≡ Some task.Apply → IsOnly Status.NotJournal result }
-    ensures damaged { (s : List ℕ) (place : ℕ) → D.seen disk.old ≡ Some s → IsDamagedAt place s
-        → task_in (map (λ w. w.now) words.now) ≡ Some task.Apply → IsOnly (Status.Damaged place) result }
-    ensures full { (s : List ℕ) (bytes : ℕ) → D.seen disk.old ≡ Some s → IsTooLong journal_limit bytes s
-        → task_in (map (λ w. w.now) words.now) ≡ Some task.Apply → IsOnly (Status.JournalFull bytes) result }
+        (S.left src.old) (S.left src.new) (K.held snk.old) (K.held snk.new) (K.log snk.old) (K.log snk.new) }
 
     // The rows of a file over a journal: the whole file is taken first.
     ensures import { task_in (map (λ w. w.now) words.now) ≡ Some task.Import
         → (IsUnopened D.seen D.images D.moment D.images_since D.faults disk.old disk.new result
         steps.old steps.new × (src.new ≡ src.old) × (snk.new ≡ snk.old))
         ⊎ IsImported D.seen D.images D.moment D.images_since disk.old disk.new result steps.old steps.new
-        (S.left src.old) (S.left src.new) (K.held snk.old) (K.held snk.new)
-        (K.log snk.old) (K.log snk.new) }
-    ensures import_file { task_in (map (λ w. w.now) words.now) ≡ Some task.Import
-        → HasFileFaults (D.seen disk.old) result }
+        (S.left src.old) (S.left src.new) (K.held snk.old) (K.held snk.new) (K.log snk.old) (K.log snk.new) }
 
     // The answer to a query over a journal is written: the text of `? report`, `? trial` or `? custodial`.
     ensures show { (q : Query) → task_in (map (λ w. w.now) words.now) ≡ Some (task.Show q)
@@ -146,12 +132,8 @@ pub fn run<S: Source, K: Sink, D: Disk, G: Doors, L: Ledger>(
         steps.old steps.new × (snk.new ≡ snk.old))
         ⊎ IsShown D.seen D.images D.moment D.images_since disk.old disk.new result q
         steps.old steps.new (K.held snk.old) (K.held snk.new) }
-    ensures show_source { (q : Query) → task_in (map (λ w. w.now) words.now) ≡ Some (task.Show q)
-        → src.new ≡ src.old }
     ensures show_sink { (q : Query) (last : Option ℕ) → task_in (map (λ w. w.now) words.now) ≡ Some (task.Show q)
         → result ≡ Status.NoReport last → snk.new ≡ snk.old }
-    ensures show_file { (q : Query) → task_in (map (λ w. w.now) words.now) ≡ Some (task.Show q)
-        → HasFileFaults (D.seen disk.old) result }
 
     // The reply to any query over a journal is written, as its line has it: its answer, or its refusal.
     ensures ask { (q : Query) → IsAsking (map (λ w. w.now) words.now) q
@@ -159,9 +141,6 @@ pub fn run<S: Source, K: Sink, D: Disk, G: Doors, L: Ledger>(
         steps.old steps.new × (snk.new ≡ snk.old))
         ⊎ IsAsked D.seen D.images D.moment D.images_since disk.old disk.new result q
         steps.old steps.new (K.held snk.old) (K.held snk.new) }
-    ensures ask_source { (q : Query) → IsAsking (map (λ w. w.now) words.now) q → src.new ≡ src.old }
-    ensures ask_file { (q : Query) → IsAsking (map (λ w. w.now) words.now) q
-        → HasFileFaults (D.seen disk.old) result }
 
     // A text over the commands of a journal is written.
     ensures extract { (x : Extract) → task_in (map (λ w. w.now) words.now) ≡ Some (task.Extract x)
@@ -169,10 +148,6 @@ pub fn run<S: Source, K: Sink, D: Disk, G: Doors, L: Ledger>(
         steps.old steps.new × (snk.new ≡ snk.old))
         ⊎ IsExtracted D.seen D.images D.moment D.images_since disk.old disk.new result x
         steps.old steps.new (K.held snk.old) (K.held snk.new) }
-    ensures extract_source { (x : Extract) → task_in (map (λ w. w.now) words.now) ≡ Some (task.Extract x)
-        → src.new ≡ src.old }
-    ensures extract_file { (x : Extract) → task_in (map (λ w. w.now) words.now) ≡ Some (task.Extract x)
-        → HasFileFaults (D.seen disk.old) result }
 
     // A text about the input and the commands of a journal is written: the whole input is taken first.
     ensures review { (x : Review) → task_in (map (λ w. w.now) words.now) ≡ Some (task.Review x)
@@ -180,32 +155,33 @@ pub fn run<S: Source, K: Sink, D: Disk, G: Doors, L: Ledger>(
         steps.old steps.new × (src.new ≡ src.old) × (snk.new ≡ snk.old))
         ⊎ IsReviewed D.seen D.images D.moment D.images_since disk.old disk.new result x
         steps.old steps.new (S.left src.old) (S.left src.new) (K.held snk.old) (K.held snk.new) }
-    ensures review_file { (x : Review) → task_in (map (λ w. w.now) words.now) ≡ Some (task.Review x)
-        → HasFileFaults (D.seen disk.old) result }
 
     // The summary of a generated year is written, which is made in memory.
     ensures drill { (loans number : ℕ) → task_in (map (λ w. w.now) words.now) ≡ Some (task.Drill loans number)
         → Drills result loans number (K.held snk.old) (K.held snk.new)
         × (steps.new ≤ steps.old + cost_of_works first_tally (year_works loans number))
-        × (src.new ≡ src.old) × (disk.new ≡ disk.old) }
+        × (disk.new ≡ disk.old) }
 
     // Links are served over a journal, one after another, and handed back; and then their summary is written.
     ensures serve { (port most : ℕ) → task_in (map (λ w. w.now) words.now) ≡ Some (task.Serve port most)
         → (IsUnopened D.seen D.images D.moment D.images_since D.faults disk.old disk.new result
         steps.old steps.new × (snk.new ≡ snk.old) × (doors.new ≡ doors.old))
         ⊎ IsServedOver D.seen D.images D.moment D.images_since disk.old disk.new
-        (ServedLink G.Conn.left G.Conn.held G.Conn.Source.faults G.Conn.Sink.faults) result most steps.old steps.new
+        (ServedLink G.Conn.left G.Conn.held G.Conn.log G.Conn.Source.faults G.Conn.Sink.faults
+        (D.moment disk.new) (D.images_since disk.new)) result most steps.old steps.new
         (G.coming doors.old) (G.coming doors.new) (G.backed doors.old) (G.backed doors.new)
         (K.held snk.old) (K.held snk.new) }
-    ensures serve_source { (port most : ℕ) → task_in (map (λ w. w.now) words.now) ≡ Some (task.Serve port most)
-        → src.new ≡ src.old }
-    ensures serve_file { (port most : ℕ) → task_in (map (λ w. w.now) words.now) ≡ Some (task.Serve port most)
+
+    // Over a journal, a file that is none, is damaged or too long is answered so, but for want of memory or a fault of
+    // the disk. A word that reads no input leaves it as it was.
+    ensures file { (o : Order) → IsGiven (map (λ w. w.now) words.now) o → IsOverJournal o
         → HasFileFaults (D.seen disk.old) result }
+    ensures unread { (o : Order) → IsGiven (map (λ w. w.now) words.now) o → ¬ ReadsInput o → src.new ≡ src.old }
 
     // A journal is made of a file of at most 9 bytes, and nothing else is touched.
     ensures init { task_in (map (λ w. w.now) words.now) ≡ Some task.Init
         → IsInit result (D.seen disk.old) (D.seen disk.new) (D.images disk.new) (D.faults disk.old) (D.faults disk.new)
-        × (src.new ≡ src.old) × (snk.new ≡ snk.old) × (steps.new ≡ steps.old) }
+        × (snk.new ≡ snk.old) × (steps.new ≡ steps.old) }
     ensures init_moments { task_in (map (λ w. w.now) words.now) ≡ Some task.Init
         → Each (D.images disk.old) (λ c. length c ≤ 9)
         → LeavesOnly D.moment D.images_since disk.old disk.new (λ c. length c ≤ 9) }
@@ -224,68 +200,13 @@ pub fn run<S: Source, K: Sink, D: Disk, G: Doors, L: Ledger>(
     ensures net_later { G.faults doors.old ≤ G.faults doors.new }
     ensures out { G.out doors.new ≡ 0 }
 
-    // Where no count rises and the input is shorter than the limit, lines end in Done or for want of memory; over
-    // a disk that is good for a history and a command also where the journal cannot be written anew.
-    ensures complete { (input : List ℕ) → S.left src.old ≡ Some input → length input < input_limit
-        → ¬ HasRisen (S.faults src.old) (S.faults src.new) → ¬ HasRisen (K.faults snk.old) (K.faults snk.new)
-        → task_in (map (λ w. w.now) words.now) ≡ Some task.Session
-        → (result ≡ Status.Done) ⊎ (result ≡ Status.OutOfMemory) }
-    ensures complete_apply { (input s : List ℕ) (h : List Accepted) (a : Accepted)
-        → S.left src.old ≡ Some input → length input < input_limit
-        → D.seen disk.old ≡ Some s → IsHistory (h ++ a ∷ []) → Each (D.images disk.old) (IsGoodFound h a)
-        → ¬ HasRisen (S.faults src.old) (S.faults src.new) → ¬ HasRisen (K.faults snk.old) (K.faults snk.new)
-        → ¬ HasRisen (D.faults disk.old) (D.faults disk.new)
-        → task_in (map (λ w. w.now) words.now) ≡ Some task.Apply
-        → (result ≡ Status.Done) ⊎ ((result ≡ Status.OutOfMemory)
-        ⊎ ((bytes : ℕ) × (result ≡ Status.JournalFull bytes))) }
-    ensures complete_import { (input s : List ℕ) (h : List Accepted) (a : Accepted)
-        → S.left src.old ≡ Some input → length input < input_limit
-        → D.seen disk.old ≡ Some s → IsHistory (h ++ a ∷ []) → Each (D.images disk.old) (IsGoodFound h a)
-        → ¬ HasRisen (S.faults src.old) (S.faults src.new) → ¬ HasRisen (K.faults snk.old) (K.faults snk.new)
-        → ¬ HasRisen (D.faults disk.old) (D.faults disk.new)
-        → task_in (map (λ w. w.now) words.now) ≡ Some task.Import
-        → (result ≡ Status.Done) ⊎ ((result ≡ Status.OutOfMemory)
-        ⊎ ((bytes : ℕ) × (result ≡ Status.JournalFull bytes))) }
-    ensures complete_show { (q : Query) (s : List ℕ) (h : List Accepted) (a : Accepted)
-        → D.seen disk.old ≡ Some s → IsHistory (h ++ a ∷ []) → Each (D.images disk.old) (IsGoodFound h a)
-        → ¬ HasRisen (K.faults snk.old) (K.faults snk.new) → ¬ HasRisen (D.faults disk.old) (D.faults disk.new)
-        → task_in (map (λ w. w.now) words.now) ≡ Some (task.Show q)
-        → ((result ≡ Status.Done) ⊎ ((result ≡ Status.OutOfMemory)
-        ⊎ ((bytes : ℕ) × (result ≡ Status.JournalFull bytes))))
-        ⊎ ((last : Option ℕ) × (result ≡ Status.NoReport last)) }
-    ensures complete_ask { (q : Query) (s : List ℕ) (h : List Accepted) (a : Accepted)
-        → D.seen disk.old ≡ Some s → IsHistory (h ++ a ∷ []) → Each (D.images disk.old) (IsGoodFound h a)
-        → ¬ HasRisen (K.faults snk.old) (K.faults snk.new) → ¬ HasRisen (D.faults disk.old) (D.faults disk.new)
-        → IsAsking (map (λ w. w.now) words.now) q
-        → (result ≡ Status.Done) ⊎ ((result ≡ Status.OutOfMemory)
-        ⊎ ((bytes : ℕ) × (result ≡ Status.JournalFull bytes))) }
-    ensures complete_extract { (x : Extract) (s : List ℕ) (h : List Accepted) (a : Accepted)
-        → D.seen disk.old ≡ Some s → IsHistory (h ++ a ∷ []) → Each (D.images disk.old) (IsGoodFound h a)
-        → ¬ HasRisen (K.faults snk.old) (K.faults snk.new) → ¬ HasRisen (D.faults disk.old) (D.faults disk.new)
-        → task_in (map (λ w. w.now) words.now) ≡ Some (task.Extract x)
-        → (result ≡ Status.Done) ⊎ ((result ≡ Status.OutOfMemory)
-        ⊎ ((bytes : ℕ) × (result ≡ Status.JournalFull bytes))) }
-    ensures complete_review { (x : Review) (input s : List ℕ) (h : List Accepted) (a : Accepted)
-        → S.left src.old ≡ Some input → length input < input_limit
-        → D.seen disk.old ≡ Some s → IsHistory (h ++ a ∷ []) → Each (D.images disk.old) (IsGoodFound h a)
-        → ¬ HasRisen (S.faults src.old) (S.faults src.new) → ¬ HasRisen (K.faults snk.old) (K.faults snk.new)
-        → ¬ HasRisen (D.faults disk.old) (D.faults disk.new)
-        → task_in (map (λ w. w.now) words.now) ≡ Some (task.Review x)
-        → (result ≡ Status.Done) ⊎ ((result ≡ Status.OutOfMemory)
-        ⊎ ((bytes : ℕ) × (result ≡ Status.JournalFull bytes))) }
-    ensures complete_drill { (loans number : ℕ) → ¬ HasRisen (K.faults snk.old) (K.faults snk.new)
-        → task_in (map (λ w. w.now) words.now) ≡ Some (task.Drill loans number)
-        → (result ≡ Status.Done) ⊎ (result ≡ Status.OutOfMemory) }
-    ensures complete_serve { (port most : ℕ) (s : List ℕ) (h : List Accepted) (a : Accepted)
-        → D.seen disk.old ≡ Some s → IsHistory (h ++ a ∷ []) → Each (D.images disk.old) (IsGoodFound h a)
-        → ¬ HasRisen (K.faults snk.old) (K.faults snk.new) → ¬ HasRisen (D.faults disk.old) (D.faults disk.new)
-        → ¬ HasRisen (G.faults doors.old) (G.faults doors.new)
-        → task_in (map (λ w. w.now) words.now) ≡ Some (task.Serve port most)
-        → (result ≡ Status.Done) ⊎ ((result ≡ Status.OutOfMemory)
-        ⊎ ((bytes : ℕ) × (result ≡ Status.JournalFull bytes))) }
-    ensures complete_init { ¬ HasRisen (D.faults disk.old) (D.faults disk.new)
-        → task_in (map (λ w. w.now) words.now) ≡ Some task.Init
-        → (result ≡ Status.Done) ⊎ (result ≡ Status.AlreadyThere) }
+    // Where its input is short, its disk is good for a history and a command, and no object that it uses fails, a run
+    // is done, or memory is short, or the journal cannot be written anew; a journal may be there, a report not be.
+    ensures complete { (o : Order) → IsGiven (map (λ w. w.now) words.now) o
+        → IsUndisturbed o (S.left src.old) (D.seen disk.old) (D.images disk.old)
+        (HasRisen (S.faults src.old) (S.faults src.new)) (HasRisen (K.faults snk.old) (K.faults snk.new))
+        (HasRisen (D.faults disk.old) (D.faults disk.new)) (HasRisen (G.faults doors.old) (G.faults doors.new))
+        → MayEnd o result }
 {
     match read_words(words) {
         None => match read_asking(words) {

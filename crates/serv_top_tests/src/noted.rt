@@ -1,7 +1,8 @@
 //! From which moment of the disk on a reply counts.
 
-use crate::noting::{Noted, Noting};
-use crate::running::{NEW_JOURNAL, disk_of, over, run_in_memory, source_of};
+use crate::noting::{Noted, Noting, NotingDoors, NotingLink};
+use crate::one_link::{DAY, DAY_SAID};
+use crate::running::{NEW_JOURNAL, disk_of, over, run_in_memory, sink_of, source_of};
 use serv_disk::{CalmDoors, Disk};
 use serv_top::Status;
 use std::alloc::Global;
@@ -42,4 +43,30 @@ fn is_noted_behind(alloc: Global) -> Result<bool, OutOfMemory> {
 #[test]
 fn a_reply_counts_once_its_command_is_on_the_disk(rt: HostRuntime) {
     assert!(rt; matches!(is_noted_behind(rt.alloc()), Ok(true)));
+}
+
+/// Whether the response to a command counts from the moment at which the command's last sync had been made.
+fn is_answered_behind(alloc: Global) -> Result<bool, OutOfMemory> {
+    let given = over(&["j", "serve", "8080", "1"], NEW_JOURNAL, b"");
+    let mut src = source_of(alloc, &given)?;
+    let mut snk = sink_of(alloc, &given)?;
+    let mut disk = disk_of(alloc, &given)?;
+    let mut doors = NotingDoors::new(NotingLink::new(alloc, DAY.as_bytes().to_vec(alloc)?));
+    let begun = disk.clock();
+    let status = run_in_memory(alloc, &given, &mut src, &mut snk, &mut disk, &mut doors);
+    let at = disk.clock();
+    let upto = DAY_SAID.len() as u64;
+    let noted = match doors.backed() {
+        Some(link) => {
+            link.content() == DAY_SAID.as_bytes()
+                && link.writes() == [Noted { at, upto }].as_slice()
+        }
+        None => false,
+    };
+    Ok(status == Status::Done && begun < at && noted)
+}
+
+#[test]
+fn a_response_counts_once_its_command_is_on_the_disk(rt: HostRuntime) {
+    assert!(rt; matches!(is_answered_behind(rt.alloc()), Ok(true)));
 }

@@ -1,10 +1,10 @@
-//! A sink that notes its writes beside the disk.
+//! A sink, and a link with its doors, that note writes beside the disk.
 
-ghost use Rattle.std.specs.Prelude.{◌≡◌, ℕ, List, Some, map, length};
-ghost use Rattle.serv_disk.specs.Sides.{no_side};
+ghost use Rattle.std.specs.Prelude.{◌≡◌, ℕ, List, None, Some, map, length};
+ghost use Rattle.serv_disk.specs.Sides.{no_reading};
 ghost use Rattle.serv_disk.specs.Stamps.{stamp};
 
-use serv_disk::{Disk, Failed, Sink};
+use serv_disk::{CalmSource, Disk, Doors, Failed, Link, Sink, Source};
 use std::alloc::Global;
 
 /// A write: the moment of the disk from which it counts, and how many bytes were held after it.
@@ -49,7 +49,7 @@ impl Sink for Noting {
 
     ghost faults = { λ s. s.faults };
 
-    ghost beside = { λ _. no_side };
+    ghost beside = { λ _. no_reading };
 
     ghost log = { λ s. Some (map (λ w. stamp w.at w.upto) s.writes.items) };
 
@@ -72,5 +72,128 @@ impl Sink for Noting {
             })
             .unwrap();
         Ok(piece.len())
+    }
+}
+
+/// Bytes in memory to be read, and a sink that notes its writes.
+#[derive(Drop)]
+pub(crate) struct NotingLink {
+    bytes: CalmSource,
+    sink: Noting,
+}
+
+impl NotingLink {
+    pub(crate) fn new(alloc: Global, bytes: Vec<u8>) -> NotingLink {
+        NotingLink {
+            bytes: CalmSource::new(bytes),
+            sink: Noting::new(alloc),
+        }
+    }
+
+    /// The bytes that were written.
+    pub(crate) fn content(&self) -> &[u8] {
+        self.sink.content()
+    }
+
+    /// The writes, in order.
+    pub(crate) fn writes(&self) -> &[Noted] {
+        self.sink.writes()
+    }
+}
+
+impl Source for NotingLink {
+    ghost left = { λ x. Some x.bytes };
+
+    ghost faults = { λ _. 0 };
+
+    ghost beside = { λ x. record {
+      held = Some x.sink.content.items;
+      faults = x.sink.faults;
+      log = Some (map (λ w. stamp w.at w.upto) x.sink.writes.items);
+      mark = x.sink.mark;
+    } };
+
+    fn read(&mut self, buf: &mut [u8]) -> Result<usize, Failed> {
+        self.bytes.read(buf)
+    }
+}
+
+impl Sink for NotingLink {
+    ghost held = { λ x. Some x.sink.content.items };
+
+    ghost faults = { λ x. x.sink.faults };
+
+    ghost beside = { λ x. record { left = Some x.bytes; faults = 0 } };
+
+    ghost log = { λ x. Some (map (λ w. stamp w.at w.upto) x.sink.writes.items) };
+
+    ghost mark = { λ x. x.sink.mark };
+
+    fn show<D: Disk>(&mut self, disk: &D) {
+        self.sink.show(disk);
+    }
+
+    fn write(&mut self, piece: &[u8]) -> Result<usize, Failed> {
+        self.sink.write(piece)
+    }
+}
+
+impl Link for NotingLink {
+    ghost use Rattle.std.specs.Prelude.{refl};
+
+    ghost writing = { λ x. refl };
+
+    ghost reading = { λ x. refl };
+}
+
+/// Doors at which one such link comes.
+#[derive(Drop)]
+pub(crate) struct NotingDoors {
+    coming: Option<NotingLink>,
+    backed: Option<NotingLink>,
+    out: u64,
+}
+
+impl NotingDoors {
+    pub(crate) fn new(link: NotingLink) -> NotingDoors
+        ensures { result.out ≡ 0 }
+    {
+        NotingDoors {
+            coming: Some(link),
+            backed: None,
+            out: 0,
+        }
+    }
+
+    /// The link, once it was handed back.
+    pub(crate) fn backed(&self) -> Option<&NotingLink> {
+        self.backed.as_ref()
+    }
+}
+
+impl Doors for NotingDoors {
+    type Conn = NotingLink;
+
+    ghost coming = { λ _. None };
+
+    ghost backed = { λ _. None };
+
+    ghost out = { λ d. d.out };
+
+    ghost faults = { λ _. 0 };
+
+    fn next(&mut self) -> Result<Option<NotingLink>, Failed> {
+        match self.coming.take() {
+            Some(link) => {
+                self.out = 1;
+                Ok(Some(link))
+            }
+            None => Ok(None),
+        }
+    }
+
+    fn back(&mut self, conn: NotingLink) {
+        self.backed = Some(conn);
+        self.out = 0;
     }
 }

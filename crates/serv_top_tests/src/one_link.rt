@@ -36,10 +36,10 @@ const SAID: &str = "HTTP/1.1 200 OK\r\nContent-Length: 35\r\nContent-Type: appli
     HTTP/1.1 405 Method Not Allowed\r\nAllow: POST\r\nContent-Length: 0\r\n\r\n";
 
 /// A day is asked for, and what is said to it.
-const DAY: &str = "POST /v1/commands HTTP/1.1\r\nHost: a\r\nContent-Length: 42\r\n\r\n\
+pub(crate) const DAY: &str = "POST /v1/commands HTTP/1.1\r\nHost: a\r\nContent-Length: 42\r\n\r\n\
     {\"key\":\"k1\",\"do\":\"day\",\"day\":\"2024-02-01\"}";
 
-const DAY_SAID: &str =
+pub(crate) const DAY_SAID: &str =
     "HTTP/1.1 200 OK\r\nContent-Length: 35\r\nContent-Type: application/json\r\n\r\n\
     {\"code\":0,\"number\":1,\"text\":\"ok 1\"}";
 

@@ -109,7 +109,7 @@ pub(crate) fn source_of(alloc: Global, given: &Given) -> Result<MemSource, Alloc
 }
 
 /// A sink with room for some writes.
-fn sink_of(alloc: Global, given: &Given) -> Result<MemSink, OutOfMemory> {
+pub(crate) fn sink_of(alloc: Global, given: &Given) -> Result<MemSink, OutOfMemory> {
     let mut snk = MemSink::new(Vec::new(alloc), given.writes.to_vec(alloc)?);
     snk.reserve(8, 4096)?;
     Ok(snk)

@@ -1,5 +1,8 @@
-use Rattle.std.proofs.Common.{◌≡◌, refl, arith, ◌∙◌}
+use Rattle.std.proofs.Common.{◌≡◌, [], refl, arith, ◌∙◌}
 use Rattle.serv_machine.proofs.OnDiskLemmas.{disk_none}
+use Rattle.serv_machine.proofs.UpheldLemmas.{upheld_none}
+use Rattle.serv_links.specs.Answered.{AreAnswers}
+use Rattle.serv_links.proofs.AnsweredLemmas.{next_upheld, stop_upheld}
 use Rattle.serv_links.specs.Responses.{stand}
 use Rattle.serv_disk.specs.Faults.{HasRisen}
 use Rattle.serv_links.proofs.RoundLemmas.{risen_last, one_weaker, writes_as, round_none, round_goes_on, round_stops}
@@ -9,6 +12,7 @@ pub loop-ask-init : goal.loop-ask-init
 loop-ask-init g c = record {
   round = round_none g.D.Disk.images g.D.Disk.moment g.D.Disk.images_since ⊥ c.args.disk.now (stand (g.M.Machine.history c.args.machine.now) c.args.steps.now) (g.K.Sink.held c.args.link.now)
       (disk_none g.D.Disk.images g.D.Disk.moment g.D.Disk.images_since c.args.disk.now _ _ refl (g.met.M.Machine.keeps c.args.machine.now c.args.disk.now c.requires.ready) (g.met.D.Disk.only_now c.args.disk.now));
+  upheld = upheld_none (AreAnswers [] (g.M.Machine.history c.args.machine.now)) (g.D.Disk.moment c.args.disk.now) (g.D.Disk.images_since c.args.disk.now) _ _ _;
   count = refl;
   ready = c.requires.ready;
   later = omega arith;
@@ -27,6 +31,14 @@ returns-in_default-clause-round g c =
     c.loop-ask.invariant.round
     (writes_as g.D.Disk.images g.D.Disk.moment g.D.Disk.images_since c.loop-ask.disk c.answer_one.new.disk _ _ _ _ _ _
     (λ pending w. one_weaker _ _ c.answer_one.result c.ask-item.result _ _ pending w (risen_last _ _ _ c.loop-ask.invariant.later c.answer_one.ensures.later)) c.answer_one.ensures.one))
+
+pub returns-in_default-clause-upheld : goal.returns-in_default-clause-upheld
+returns-in_default-clause-upheld g c =
+    let i = c.loop-ask.ask-index in
+    stop_upheld g.D.Disk.images g.D.Disk.moment g.D.Disk.images_since c.loop-ask.disk c.answer_one.new.disk i
+    (stand (g.M.Machine.history c.args.machine.now) c.args.steps.now) (stand (g.M.Machine.history c.loop-ask.machine) c.loop-ask.steps) (stand (g.M.Machine.history c.answer_one.new.machine) c.answer_one.new.steps)
+    _ c.answer_one.ensures.one.disk _ _ _ c.loop-ask.invariant.round.appends _ _ _ i c.args.asks.now c.ask-item.result c.ask-item.result c.loop-ask-test.true c.ask-item.is
+    c.loop-ask.invariant.round.says_so.1 c.loop-ask.invariant.upheld c.answer_one.ensures.upheld
 
 pub returns-in_default-clause-broken : goal.returns-in_default-clause-broken
 returns-in_default-clause-broken g c = λ is.
@@ -47,6 +59,10 @@ loop-ask-preserved g c =
           (stand (g.M.Machine.history c.args.machine.now) c.args.steps.now) (stand (g.M.Machine.history c.loop-ask.machine) c.loop-ask.steps) (stand (g.M.Machine.history c.answer_one.new.machine) c.answer_one.new.steps)
           (g.K.Sink.held c.args.link.now) (g.K.Sink.held c.loop-ask.link) (g.K.Sink.held c.answer_one.new.link) c.loop-ask-test.true c.ask-item.is
           c.loop-ask.invariant.round c.in-Answered.ensures.one;
+      upheld = next_upheld g.D.Disk.images g.D.Disk.moment g.D.Disk.images_since c.loop-ask.disk c.answer_one.new.disk i
+          (stand (g.M.Machine.history c.args.machine.now) c.args.steps.now) (stand (g.M.Machine.history c.loop-ask.machine) c.loop-ask.steps) (stand (g.M.Machine.history c.answer_one.new.machine) c.answer_one.new.steps)
+          _ c.answer_one.ensures.one.disk _ _ _ c.loop-ask.invariant.round.appends _ _ _ i c.args.asks.now c.ask-item.result c.ask-item.result c.loop-ask-test.true c.ask-item.is
+          c.loop-ask.invariant.round.says_so.1 c.loop-ask.invariant.upheld c.answer_one.ensures.upheld;
       count = omega arith;
       ready = c.in-Answered.ensures.ready (λ is. cc);
       later = omega (arith, c.loop-ask.invariant.later, c.answer_one.ensures.later);

@@ -6,7 +6,7 @@ use Rattle.serv_links.proofs.doors.serve_doors.Given as goal
 -- so many links are served
 abbrev pub invariant-loop : goal.invariant-loop
 invariant-loop g l = record {
-  along : Along g.D.Disk.images g.D.Disk.moment g.D.Disk.images_since g.G.Conn.Source.left g.G.Conn.Sink.held g.G.Conn.Source.faults g.G.Conn.Sink.faults l.fn.disk l.disk l.summary l.counter
+  along : Along g.D.Disk.images g.D.Disk.moment g.D.Disk.images_since g.G.Conn.Source.left g.G.Conn.Sink.held g.G.Conn.Sink.log g.G.Conn.Source.faults g.G.Conn.Sink.faults l.fn.disk l.disk l.summary l.counter
       (g.G.Doors.coming l.fn.doors) (g.G.Doors.coming l.doors) (g.G.Doors.backed l.fn.doors) (g.G.Doors.backed l.doors)
       (stand (g.M.Machine.history l.fn.machine) l.fn.steps) (stand (g.M.Machine.history l.machine) l.steps);
   out : g.G.Doors.out l.doors ≡ 0;

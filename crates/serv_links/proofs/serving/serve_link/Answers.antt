@@ -1,22 +1,29 @@
-use Rattle.std.proofs.Common.{◌≡◌, ◌+◌, ◌≤◌, take, refl, sym, ◌∙◌, arith}
+use Rattle.std.proofs.Common.{◌≡◌, ◌+◌, ◌≤◌, [], take, refl, sym, ◌∙◌, arith, inr, append-nil}
 use Rattle.std.proofs.lemmas.Bool.{both_ways}
+use Rattle.serv_machine.specs.Upheld.{Upholds}
 use Rattle.serv_machine.proofs.OnDiskLemmas.{disk_none}
+use Rattle.serv_machine.proofs.UpheldLemmas.{commands_kept}
 use Rattle.serv_links.specs.Links.{link_limit}
-use Rattle.serv_links.specs.Responses.{stand}
-use Rattle.serv_links.proofs.GoingLemmas.{same_bytes, same_faults, starved_at_once, going_none, run_ends, run_breaks, run_broken, run_disk, run_memory, run_passes, run_cut, run_over, run_goes}
+use Rattle.serv_links.specs.Responses.{stand, response_503}
+use Rattle.serv_links.proofs.AnsweredLemmas.{none_taken}
+use Rattle.serv_links.proofs.GoingLemmas.{same_left, same_reads, same_held, same_writes, same_log, starved_at_once, going_none, run_ends, run_breaks, run_broken, run_disk, run_memory, run_passes, run_cut, run_over, run_goes}
 use Rattle.serv_links.proofs.RoundLemmas.{risen_last}
 use Rattle.serv_links.proofs.serving.serve_link.Goals as goal
 
 pub returns-in_default-clause-served : goal.returns-in_default-clause-served
 returns-in_default-clause-served g c =
     let kept : g.C.Source.left c.write_no_memory.new.link ≡ g.C.Source.left c.args.link.now =
-    same_bytes (g.C.Sink.beside c.args.link.now) (g.C.Sink.beside c.write_no_memory.new.link) _ _ _ _ (g.met.C.Link.reading c.args.link.now) (g.met.C.Link.reading c.write_no_memory.new.link) c.write_no_memory.ensures.beside in
-    starved_at_once g.D.Disk.images g.D.Disk.moment g.D.Disk.images_since c.args.disk.now _ _ _ _ _ _ (stand (g.M.Machine.history c.args.machine.now) c.args.steps.now) kept c.write_no_memory.ensures.front
+    same_left (g.C.Sink.beside c.args.link.now) (g.C.Sink.beside c.write_no_memory.new.link) _ _ _ _ (g.met.C.Link.reading c.args.link.now) (g.met.C.Link.reading c.write_no_memory.new.link) c.write_no_memory.ensures.beside in
+    let has = g.met.M.Machine.keeps c.args.machine.now c.args.disk.now c.requires in
+    let up =
+    none_taken g.D.Disk.images g.D.Disk.moment g.D.Disk.images_since c.args.disk.now (g.met.D.Disk.only_now c.args.disk.now) _ _ _ (g.M.Machine.history c.args.machine.now) _ [] response_503 (sym (append-nil _))
+    (commands_kept (g.D.Disk.images c.args.disk.now) _ has) (inr (inr refl)) c.write_no_memory.ensures.noted in
+    starved_at_once g.D.Disk.images g.D.Disk.moment g.D.Disk.images_since c.args.disk.now _ _ _ _ _ _ _ (stand (g.M.Machine.history c.args.machine.now) c.args.steps.now) up kept c.write_no_memory.ensures.front
     (disk_none g.D.Disk.images g.D.Disk.moment g.D.Disk.images_since c.args.disk.now _ _ refl (g.met.M.Machine.keeps c.args.machine.now c.args.disk.now c.requires) (g.met.D.Disk.only_now c.args.disk.now))
 
 pub pieces-init : goal.pieces-init
 pieces-init g c = record {
-  run = going_none g.D.Disk.images g.D.Disk.moment g.D.Disk.images_since c.args.disk.now _ _ c.in-Ok.conn (stand (g.M.Machine.history c.args.machine.now) c.args.steps.now) c.in-Ok.ensures
+  run = going_none g.D.Disk.images g.D.Disk.moment g.D.Disk.images_since c.args.disk.now _ _ _ c.in-Ok.conn (stand (g.M.Machine.history c.args.machine.now) c.args.steps.now) c.in-Ok.ensures
       (disk_none g.D.Disk.images g.D.Disk.moment g.D.Disk.images_since c.args.disk.now _ _ refl (g.met.M.Machine.keeps c.args.machine.now c.args.disk.now c.requires) (g.met.D.Disk.only_now c.args.disk.now));
   below = omega arith;
   few = omega arith;
@@ -29,33 +36,41 @@ pieces-init g c = record {
 pub returns-in-Ok-eq0-clause-served : goal.returns-in-Ok-eq0-clause-served
 returns-in-Ok-eq0-clause-served g c =
     let kept : g.C.Sink.held c.read_some.new.src ≡ g.C.Sink.held c.pieces.link =
-    same_bytes (g.C.Source.beside c.pieces.link) (g.C.Source.beside c.read_some.new.src) _ _ _ _ (g.met.C.Link.writing c.pieces.link) (g.met.C.Link.writing c.read_some.new.src) c.read_some.ensures.beside in
+    same_held (g.C.Source.beside c.pieces.link) (g.C.Source.beside c.read_some.new.src) _ _ _ _ _ _ _ _ (g.met.C.Link.writing c.pieces.link) (g.met.C.Link.writing c.read_some.new.src) c.read_some.ensures.beside in
+    let unnoted : g.C.Sink.log c.read_some.new.src ≡ g.C.Sink.log c.pieces.link =
+    same_log (g.C.Source.beside c.pieces.link) (g.C.Source.beside c.read_some.new.src) _ _ _ _ _ _ _ _ (g.met.C.Link.writing c.pieces.link) (g.met.C.Link.writing c.read_some.new.src) c.read_some.ensures.beside in
     let none : c.in-Ok-eq0.field-0 ≡ 0 = omega (arith, c.in-Ok-eq0.field-0-test) in
-    run_ends g.D.Disk.images g.D.Disk.moment g.D.Disk.images_since c.args.disk.now c.pieces.disk _ _ _ _ c.pieces.conn c.pieces.answered c.pieces.taken
+    run_ends g.D.Disk.images g.D.Disk.moment g.D.Disk.images_since c.args.disk.now c.pieces.disk
+    (λ log covers. Upholds covers (g.D.Disk.moment c.pieces.disk) (g.D.Disk.images_since c.pieces.disk) (g.M.Machine.history c.pieces.machine).commands (g.C.Sink.held c.args.link.now) (g.C.Sink.log c.args.link.now) log) _ _ unnoted _ _ _ _ c.pieces.conn c.pieces.answered c.pieces.taken
     (stand (g.M.Machine.history c.args.machine.now) c.args.steps.now) (stand (g.M.Machine.history c.pieces.machine) c.pieces.steps) c.pieces.invariant.run _ _ kept c.pieces.invariant.below _ _
     (rw none at c.in-Ok-eq0.ensures.taken) (c.in-Ok-eq0.ensures.end none)
 
 pub returns-in-Err-clause-served : goal.returns-in-Err-clause-served
 returns-in-Err-clause-served g c =
     let kept : g.C.Sink.held c.read_some.new.src ≡ g.C.Sink.held c.pieces.link =
-    same_bytes (g.C.Source.beside c.pieces.link) (g.C.Source.beside c.read_some.new.src) _ _ _ _ (g.met.C.Link.writing c.pieces.link) (g.met.C.Link.writing c.read_some.new.src) c.read_some.ensures.beside in
-    run_breaks g.D.Disk.images g.D.Disk.moment g.D.Disk.images_since c.args.disk.now c.pieces.disk _ _ _ _ c.pieces.conn c.pieces.answered c.pieces.taken
+    same_held (g.C.Source.beside c.pieces.link) (g.C.Source.beside c.read_some.new.src) _ _ _ _ _ _ _ _ (g.met.C.Link.writing c.pieces.link) (g.met.C.Link.writing c.read_some.new.src) c.read_some.ensures.beside in
+    let unnoted : g.C.Sink.log c.read_some.new.src ≡ g.C.Sink.log c.pieces.link =
+    same_log (g.C.Source.beside c.pieces.link) (g.C.Source.beside c.read_some.new.src) _ _ _ _ _ _ _ _ (g.met.C.Link.writing c.pieces.link) (g.met.C.Link.writing c.read_some.new.src) c.read_some.ensures.beside in
+    run_breaks g.D.Disk.images g.D.Disk.moment g.D.Disk.images_since c.args.disk.now c.pieces.disk
+    (λ log covers. Upholds covers (g.D.Disk.moment c.pieces.disk) (g.D.Disk.images_since c.pieces.disk) (g.M.Machine.history c.pieces.machine).commands (g.C.Sink.held c.args.link.now) (g.C.Sink.log c.args.link.now) log) _ _ unnoted _ _ _ _ c.pieces.conn c.pieces.answered c.pieces.taken
     (stand (g.M.Machine.history c.args.machine.now) c.args.steps.now) (stand (g.M.Machine.history c.pieces.machine) c.pieces.steps) c.pieces.invariant.run _ _ kept c.pieces.invariant.below _ _
     c.in-Err.ensures.kept (risen_last _ _ _ c.pieces.invariant.read_later c.read_some.ensures.cause.later c.in-Err.ensures.cause.failed)
 
 pub returns-in-Broken-clause-served : goal.returns-in-Broken-clause-served
 returns-in-Broken-clause-served g c =
     let kept : g.C.Sink.held c.read_some.new.src ≡ g.C.Sink.held c.pieces.link =
-    same_bytes (g.C.Source.beside c.pieces.link) (g.C.Source.beside c.read_some.new.src) _ _ _ _ (g.met.C.Link.writing c.pieces.link) (g.met.C.Link.writing c.read_some.new.src) c.read_some.ensures.beside in
+    same_held (g.C.Source.beside c.pieces.link) (g.C.Source.beside c.read_some.new.src) _ _ _ _ _ _ _ _ (g.met.C.Link.writing c.pieces.link) (g.met.C.Link.writing c.read_some.new.src) c.read_some.ensures.beside in
+    let unnoted : g.C.Sink.log c.read_some.new.src ≡ g.C.Sink.log c.pieces.link =
+    same_log (g.C.Source.beside c.pieces.link) (g.C.Source.beside c.read_some.new.src) _ _ _ _ _ _ _ _ (g.met.C.Link.writing c.pieces.link) (g.met.C.Link.writing c.read_some.new.src) c.read_some.ensures.beside in
     let stays : g.C.Source.left c.serve_piece-round.new.link ≡ g.C.Source.left c.read_some.new.src =
-    same_bytes (g.C.Sink.beside c.read_some.new.src) (g.C.Sink.beside c.serve_piece-round.new.link) _ _ _ _ (g.met.C.Link.reading c.read_some.new.src) (g.met.C.Link.reading c.serve_piece-round.new.link) c.serve_piece-round.ensures.beside in
+    same_left (g.C.Sink.beside c.read_some.new.src) (g.C.Sink.beside c.serve_piece-round.new.link) _ _ _ _ (g.met.C.Link.reading c.read_some.new.src) (g.met.C.Link.reading c.serve_piece-round.new.link) c.serve_piece-round.ensures.beside in
     let same : g.C.Sink.faults c.read_some.new.src ≡ g.C.Sink.faults c.pieces.link =
-    same_faults (g.C.Source.beside c.pieces.link) (g.C.Source.beside c.read_some.new.src) _ _ _ _ (g.met.C.Link.writing c.pieces.link) (g.met.C.Link.writing c.read_some.new.src) c.read_some.ensures.beside in
+    same_writes (g.C.Source.beside c.pieces.link) (g.C.Source.beside c.read_some.new.src) _ _ _ _ _ _ _ _ (g.met.C.Link.writing c.pieces.link) (g.met.C.Link.writing c.read_some.new.src) c.read_some.ensures.beside in
     let within : c.pieces.taken + c.in-Ok-read_some.count ≤ link_limit = omega (arith, c.in-Ok-read_some.ensures.bound, c.min-most.ensures, c.pieces.invariant.below) in
     run_broken g.D.Disk.images g.D.Disk.moment g.D.Disk.images_since c.args.disk.now c.pieces.disk c.serve_piece-round.new.disk _ _ _ _ _ _ _ _ c.pieces.conn c.serve_piece-round.new.conn c.pieces.answered c.pieces.taken
     (stand (g.M.Machine.history c.args.machine.now) c.args.steps.now) (stand (g.M.Machine.history c.pieces.machine) c.pieces.steps) (stand (g.M.Machine.history c.serve_piece-round.new.machine) c.serve_piece-round.new.steps)
-    c.pieces.invariant.run kept (take c.in-Ok-read_some.count c.read_some.new.room) c.in-Ok-read_some.count c.in-Ok-read_some.ensures.count (omega (arith, c.in-Ok-read_some.ensures.bound, c.min-most.ensures)) c.in-Ok-read_some.ensures.taken stays
-    _ c.serve_piece-round.result.outcome c.serve_piece-round.result.answered c.serve_piece-round.ensures.piece within _ _
+    (g.C.Sink.log c.args.link.now) (g.C.Sink.log c.pieces.link) (g.C.Sink.log c.read_some.new.src) (g.C.Sink.log c.serve_piece-round.new.link) unnoted c.pieces.invariant.run kept (take c.in-Ok-read_some.count c.read_some.new.room) c.in-Ok-read_some.count c.in-Ok-read_some.ensures.count (omega (arith, c.in-Ok-read_some.ensures.bound, c.min-most.ensures)) c.in-Ok-read_some.ensures.taken stays
+    _ c.serve_piece-round.result.outcome c.serve_piece-round.result.answered c.serve_piece-round.ensures.piece c.serve_piece-round.ensures.upheld within _ _
     (risen_last (g.C.Sink.faults c.args.link.now) (g.C.Sink.faults c.read_some.new.src) (g.C.Sink.faults c.serve_piece-round.new.link) (omega (arith, c.pieces.invariant.write_later, same)) c.serve_piece-round.ensures.later) c.in-Broken.is
     (risen_last (g.C.Sink.faults c.args.link.now) (g.C.Sink.faults c.read_some.new.src) (g.C.Sink.faults c.serve_piece-round.new.link) (omega (arith, c.pieces.invariant.write_later, same)) c.serve_piece-round.ensures.later
     (c.serve_piece-round.ensures.broken c.in-Broken.is))
@@ -63,79 +78,89 @@ returns-in-Broken-clause-served g c =
 pub returns-in-Disk-clause-served : goal.returns-in-Disk-clause-served
 returns-in-Disk-clause-served g c =
     let kept : g.C.Sink.held c.read_some.new.src ≡ g.C.Sink.held c.pieces.link =
-    same_bytes (g.C.Source.beside c.pieces.link) (g.C.Source.beside c.read_some.new.src) _ _ _ _ (g.met.C.Link.writing c.pieces.link) (g.met.C.Link.writing c.read_some.new.src) c.read_some.ensures.beside in
+    same_held (g.C.Source.beside c.pieces.link) (g.C.Source.beside c.read_some.new.src) _ _ _ _ _ _ _ _ (g.met.C.Link.writing c.pieces.link) (g.met.C.Link.writing c.read_some.new.src) c.read_some.ensures.beside in
+    let unnoted : g.C.Sink.log c.read_some.new.src ≡ g.C.Sink.log c.pieces.link =
+    same_log (g.C.Source.beside c.pieces.link) (g.C.Source.beside c.read_some.new.src) _ _ _ _ _ _ _ _ (g.met.C.Link.writing c.pieces.link) (g.met.C.Link.writing c.read_some.new.src) c.read_some.ensures.beside in
     let stays : g.C.Source.left c.serve_piece-round.new.link ≡ g.C.Source.left c.read_some.new.src =
-    same_bytes (g.C.Sink.beside c.read_some.new.src) (g.C.Sink.beside c.serve_piece-round.new.link) _ _ _ _ (g.met.C.Link.reading c.read_some.new.src) (g.met.C.Link.reading c.serve_piece-round.new.link) c.serve_piece-round.ensures.beside in
+    same_left (g.C.Sink.beside c.read_some.new.src) (g.C.Sink.beside c.serve_piece-round.new.link) _ _ _ _ (g.met.C.Link.reading c.read_some.new.src) (g.met.C.Link.reading c.serve_piece-round.new.link) c.serve_piece-round.ensures.beside in
     let same : g.C.Sink.faults c.read_some.new.src ≡ g.C.Sink.faults c.pieces.link =
-    same_faults (g.C.Source.beside c.pieces.link) (g.C.Source.beside c.read_some.new.src) _ _ _ _ (g.met.C.Link.writing c.pieces.link) (g.met.C.Link.writing c.read_some.new.src) c.read_some.ensures.beside in
+    same_writes (g.C.Source.beside c.pieces.link) (g.C.Source.beside c.read_some.new.src) _ _ _ _ _ _ _ _ (g.met.C.Link.writing c.pieces.link) (g.met.C.Link.writing c.read_some.new.src) c.read_some.ensures.beside in
     let within : c.pieces.taken + c.in-Ok-read_some.count ≤ link_limit = omega (arith, c.in-Ok-read_some.ensures.bound, c.min-most.ensures, c.pieces.invariant.below) in
     run_disk g.D.Disk.images g.D.Disk.moment g.D.Disk.images_since c.args.disk.now c.pieces.disk c.serve_piece-round.new.disk _ _ _ _ _ _ _ _ c.pieces.conn c.serve_piece-round.new.conn c.pieces.answered c.pieces.taken
     (stand (g.M.Machine.history c.args.machine.now) c.args.steps.now) (stand (g.M.Machine.history c.pieces.machine) c.pieces.steps) (stand (g.M.Machine.history c.serve_piece-round.new.machine) c.serve_piece-round.new.steps)
-    c.pieces.invariant.run kept (take c.in-Ok-read_some.count c.read_some.new.room) c.in-Ok-read_some.count c.in-Ok-read_some.ensures.count (omega (arith, c.in-Ok-read_some.ensures.bound, c.min-most.ensures)) c.in-Ok-read_some.ensures.taken stays
-    _ c.serve_piece-round.result.outcome c.serve_piece-round.result.answered c.serve_piece-round.ensures.piece within _ _
+    (g.C.Sink.log c.args.link.now) (g.C.Sink.log c.pieces.link) (g.C.Sink.log c.read_some.new.src) (g.C.Sink.log c.serve_piece-round.new.link) unnoted c.pieces.invariant.run kept (take c.in-Ok-read_some.count c.read_some.new.room) c.in-Ok-read_some.count c.in-Ok-read_some.ensures.count (omega (arith, c.in-Ok-read_some.ensures.bound, c.min-most.ensures)) c.in-Ok-read_some.ensures.taken stays
+    _ c.serve_piece-round.result.outcome c.serve_piece-round.result.answered c.serve_piece-round.ensures.piece c.serve_piece-round.ensures.upheld within _ _
     (risen_last (g.C.Sink.faults c.args.link.now) (g.C.Sink.faults c.read_some.new.src) (g.C.Sink.faults c.serve_piece-round.new.link) (omega (arith, c.pieces.invariant.write_later, same)) c.serve_piece-round.ensures.later) c.in-Disk.is
 
 pub returns-in-NoMemory-clause-served : goal.returns-in-NoMemory-clause-served
 returns-in-NoMemory-clause-served g c =
     let kept : g.C.Sink.held c.read_some.new.src ≡ g.C.Sink.held c.pieces.link =
-    same_bytes (g.C.Source.beside c.pieces.link) (g.C.Source.beside c.read_some.new.src) _ _ _ _ (g.met.C.Link.writing c.pieces.link) (g.met.C.Link.writing c.read_some.new.src) c.read_some.ensures.beside in
+    same_held (g.C.Source.beside c.pieces.link) (g.C.Source.beside c.read_some.new.src) _ _ _ _ _ _ _ _ (g.met.C.Link.writing c.pieces.link) (g.met.C.Link.writing c.read_some.new.src) c.read_some.ensures.beside in
+    let unnoted : g.C.Sink.log c.read_some.new.src ≡ g.C.Sink.log c.pieces.link =
+    same_log (g.C.Source.beside c.pieces.link) (g.C.Source.beside c.read_some.new.src) _ _ _ _ _ _ _ _ (g.met.C.Link.writing c.pieces.link) (g.met.C.Link.writing c.read_some.new.src) c.read_some.ensures.beside in
     let stays : g.C.Source.left c.serve_piece-round.new.link ≡ g.C.Source.left c.read_some.new.src =
-    same_bytes (g.C.Sink.beside c.read_some.new.src) (g.C.Sink.beside c.serve_piece-round.new.link) _ _ _ _ (g.met.C.Link.reading c.read_some.new.src) (g.met.C.Link.reading c.serve_piece-round.new.link) c.serve_piece-round.ensures.beside in
+    same_left (g.C.Sink.beside c.read_some.new.src) (g.C.Sink.beside c.serve_piece-round.new.link) _ _ _ _ (g.met.C.Link.reading c.read_some.new.src) (g.met.C.Link.reading c.serve_piece-round.new.link) c.serve_piece-round.ensures.beside in
     let same : g.C.Sink.faults c.read_some.new.src ≡ g.C.Sink.faults c.pieces.link =
-    same_faults (g.C.Source.beside c.pieces.link) (g.C.Source.beside c.read_some.new.src) _ _ _ _ (g.met.C.Link.writing c.pieces.link) (g.met.C.Link.writing c.read_some.new.src) c.read_some.ensures.beside in
+    same_writes (g.C.Source.beside c.pieces.link) (g.C.Source.beside c.read_some.new.src) _ _ _ _ _ _ _ _ (g.met.C.Link.writing c.pieces.link) (g.met.C.Link.writing c.read_some.new.src) c.read_some.ensures.beside in
     let within : c.pieces.taken + c.in-Ok-read_some.count ≤ link_limit = omega (arith, c.in-Ok-read_some.ensures.bound, c.min-most.ensures, c.pieces.invariant.below) in
     run_memory g.D.Disk.images g.D.Disk.moment g.D.Disk.images_since c.args.disk.now c.pieces.disk c.serve_piece-round.new.disk _ _ _ _ _ _ _ _ c.pieces.conn c.serve_piece-round.new.conn c.pieces.answered c.pieces.taken
     (stand (g.M.Machine.history c.args.machine.now) c.args.steps.now) (stand (g.M.Machine.history c.pieces.machine) c.pieces.steps) (stand (g.M.Machine.history c.serve_piece-round.new.machine) c.serve_piece-round.new.steps)
-    c.pieces.invariant.run kept (take c.in-Ok-read_some.count c.read_some.new.room) c.in-Ok-read_some.count c.in-Ok-read_some.ensures.count (omega (arith, c.in-Ok-read_some.ensures.bound, c.min-most.ensures)) c.in-Ok-read_some.ensures.taken stays
-    _ c.serve_piece-round.result.outcome c.serve_piece-round.result.answered c.serve_piece-round.ensures.piece within _ _
+    (g.C.Sink.log c.args.link.now) (g.C.Sink.log c.pieces.link) (g.C.Sink.log c.read_some.new.src) (g.C.Sink.log c.serve_piece-round.new.link) unnoted c.pieces.invariant.run kept (take c.in-Ok-read_some.count c.read_some.new.room) c.in-Ok-read_some.count c.in-Ok-read_some.ensures.count (omega (arith, c.in-Ok-read_some.ensures.bound, c.min-most.ensures)) c.in-Ok-read_some.ensures.taken stays
+    _ c.serve_piece-round.result.outcome c.serve_piece-round.result.answered c.serve_piece-round.ensures.piece c.serve_piece-round.ensures.upheld within _ _
     (risen_last (g.C.Sink.faults c.args.link.now) (g.C.Sink.faults c.read_some.new.src) (g.C.Sink.faults c.serve_piece-round.new.link) (omega (arith, c.pieces.invariant.write_later, same)) c.serve_piece-round.ensures.later) c.in-NoMemory.is
 
 pub returns-then-taken-eq-LINK_LIMIT-clause-served : goal.returns-then-taken-eq-LINK_LIMIT-clause-served
 returns-then-taken-eq-LINK_LIMIT-clause-served g c =
     let kept : g.C.Sink.held c.read_some.new.src ≡ g.C.Sink.held c.pieces.link =
-    same_bytes (g.C.Source.beside c.pieces.link) (g.C.Source.beside c.read_some.new.src) _ _ _ _ (g.met.C.Link.writing c.pieces.link) (g.met.C.Link.writing c.read_some.new.src) c.read_some.ensures.beside in
+    same_held (g.C.Source.beside c.pieces.link) (g.C.Source.beside c.read_some.new.src) _ _ _ _ _ _ _ _ (g.met.C.Link.writing c.pieces.link) (g.met.C.Link.writing c.read_some.new.src) c.read_some.ensures.beside in
+    let unnoted : g.C.Sink.log c.read_some.new.src ≡ g.C.Sink.log c.pieces.link =
+    same_log (g.C.Source.beside c.pieces.link) (g.C.Source.beside c.read_some.new.src) _ _ _ _ _ _ _ _ (g.met.C.Link.writing c.pieces.link) (g.met.C.Link.writing c.read_some.new.src) c.read_some.ensures.beside in
     let stays : g.C.Source.left c.serve_piece-round.new.link ≡ g.C.Source.left c.read_some.new.src =
-    same_bytes (g.C.Sink.beside c.read_some.new.src) (g.C.Sink.beside c.serve_piece-round.new.link) _ _ _ _ (g.met.C.Link.reading c.read_some.new.src) (g.met.C.Link.reading c.serve_piece-round.new.link) c.serve_piece-round.ensures.beside in
+    same_left (g.C.Sink.beside c.read_some.new.src) (g.C.Sink.beside c.serve_piece-round.new.link) _ _ _ _ (g.met.C.Link.reading c.read_some.new.src) (g.met.C.Link.reading c.serve_piece-round.new.link) c.serve_piece-round.ensures.beside in
     let passed =
     run_passes g.D.Disk.images g.D.Disk.moment g.D.Disk.images_since c.args.disk.now c.pieces.disk c.serve_piece-round.new.disk _ _ _ _ _ _ _ _ c.pieces.conn c.serve_piece-round.new.conn c.pieces.answered c.pieces.taken
     (stand (g.M.Machine.history c.args.machine.now) c.args.steps.now) (stand (g.M.Machine.history c.pieces.machine) c.pieces.steps) (stand (g.M.Machine.history c.serve_piece-round.new.machine) c.serve_piece-round.new.steps)
-    c.pieces.invariant.run kept (take c.in-Ok-read_some.count c.read_some.new.room) c.in-Ok-read_some.count c.in-Ok-read_some.ensures.count (omega (arith, c.in-Ok-read_some.ensures.bound, c.min-most.ensures)) c.in-Ok-read_some.ensures.taken stays
-    _ c.serve_piece-round.result.outcome c.serve_piece-round.result.answered c.serve_piece-round.ensures.piece c.in-Answered.is in
-    run_cut g.D.Disk.images g.D.Disk.moment g.D.Disk.images_since c.args.disk.now c.serve_piece-round.new.disk _ _ _ _ _ _ _ _ _ passed _ _ (omega (arith, c.if-taken-eq-LINK_LIMIT.true))
+    (g.C.Sink.log c.args.link.now) (g.C.Sink.log c.pieces.link) (g.C.Sink.log c.read_some.new.src) (g.C.Sink.log c.serve_piece-round.new.link) unnoted c.pieces.invariant.run kept (take c.in-Ok-read_some.count c.read_some.new.room) c.in-Ok-read_some.count c.in-Ok-read_some.ensures.count (omega (arith, c.in-Ok-read_some.ensures.bound, c.min-most.ensures)) c.in-Ok-read_some.ensures.taken stays
+    _ c.serve_piece-round.result.outcome c.serve_piece-round.result.answered c.serve_piece-round.ensures.piece c.serve_piece-round.ensures.upheld c.in-Answered.is in
+    run_cut g.D.Disk.images g.D.Disk.moment g.D.Disk.images_since c.args.disk.now c.serve_piece-round.new.disk _ _ _ _ _ _ _ _ _ _ passed _ _ (omega (arith, c.if-taken-eq-LINK_LIMIT.true))
 
 pub returns-then-is_over-clause-served : goal.returns-then-is_over-clause-served
 returns-then-is_over-clause-served g c =
     let kept : g.C.Sink.held c.read_some.new.src ≡ g.C.Sink.held c.pieces.link =
-    same_bytes (g.C.Source.beside c.pieces.link) (g.C.Source.beside c.read_some.new.src) _ _ _ _ (g.met.C.Link.writing c.pieces.link) (g.met.C.Link.writing c.read_some.new.src) c.read_some.ensures.beside in
+    same_held (g.C.Source.beside c.pieces.link) (g.C.Source.beside c.read_some.new.src) _ _ _ _ _ _ _ _ (g.met.C.Link.writing c.pieces.link) (g.met.C.Link.writing c.read_some.new.src) c.read_some.ensures.beside in
+    let unnoted : g.C.Sink.log c.read_some.new.src ≡ g.C.Sink.log c.pieces.link =
+    same_log (g.C.Source.beside c.pieces.link) (g.C.Source.beside c.read_some.new.src) _ _ _ _ _ _ _ _ (g.met.C.Link.writing c.pieces.link) (g.met.C.Link.writing c.read_some.new.src) c.read_some.ensures.beside in
     let stays : g.C.Source.left c.serve_piece-round.new.link ≡ g.C.Source.left c.read_some.new.src =
-    same_bytes (g.C.Sink.beside c.read_some.new.src) (g.C.Sink.beside c.serve_piece-round.new.link) _ _ _ _ (g.met.C.Link.reading c.read_some.new.src) (g.met.C.Link.reading c.serve_piece-round.new.link) c.serve_piece-round.ensures.beside in
+    same_left (g.C.Sink.beside c.read_some.new.src) (g.C.Sink.beside c.serve_piece-round.new.link) _ _ _ _ (g.met.C.Link.reading c.read_some.new.src) (g.met.C.Link.reading c.serve_piece-round.new.link) c.serve_piece-round.ensures.beside in
     let within : c.pieces.taken + c.in-Ok-read_some.count ≤ link_limit = omega (arith, c.in-Ok-read_some.ensures.bound, c.min-most.ensures, c.pieces.invariant.below) in
     let passed =
     run_passes g.D.Disk.images g.D.Disk.moment g.D.Disk.images_since c.args.disk.now c.pieces.disk c.serve_piece-round.new.disk _ _ _ _ _ _ _ _ c.pieces.conn c.serve_piece-round.new.conn c.pieces.answered c.pieces.taken
     (stand (g.M.Machine.history c.args.machine.now) c.args.steps.now) (stand (g.M.Machine.history c.pieces.machine) c.pieces.steps) (stand (g.M.Machine.history c.serve_piece-round.new.machine) c.serve_piece-round.new.steps)
-    c.pieces.invariant.run kept (take c.in-Ok-read_some.count c.read_some.new.room) c.in-Ok-read_some.count c.in-Ok-read_some.ensures.count (omega (arith, c.in-Ok-read_some.ensures.bound, c.min-most.ensures)) c.in-Ok-read_some.ensures.taken stays
-    _ c.serve_piece-round.result.outcome c.serve_piece-round.result.answered c.serve_piece-round.ensures.piece c.in-Answered.is in
-    run_over g.D.Disk.images g.D.Disk.moment g.D.Disk.images_since c.args.disk.now c.serve_piece-round.new.disk _ _ _ _ _ _ _ _ _ passed _ _ (omega (arith, within, c.if-taken-eq-LINK_LIMIT.false))
+    (g.C.Sink.log c.args.link.now) (g.C.Sink.log c.pieces.link) (g.C.Sink.log c.read_some.new.src) (g.C.Sink.log c.serve_piece-round.new.link) unnoted c.pieces.invariant.run kept (take c.in-Ok-read_some.count c.read_some.new.room) c.in-Ok-read_some.count c.in-Ok-read_some.ensures.count (omega (arith, c.in-Ok-read_some.ensures.bound, c.min-most.ensures)) c.in-Ok-read_some.ensures.taken stays
+    _ c.serve_piece-round.result.outcome c.serve_piece-round.result.answered c.serve_piece-round.ensures.piece c.serve_piece-round.ensures.upheld c.in-Answered.is in
+    run_over g.D.Disk.images g.D.Disk.moment g.D.Disk.images_since c.args.disk.now c.serve_piece-round.new.disk _ _ _ _ _ _ _ _ _ _ passed _ _ (omega (arith, within, c.if-taken-eq-LINK_LIMIT.false))
     (λ r stands. both_ways c.is_over.result (c.is_over.ensures.stands r stands) c.if-is_over.true)
 
 pub pieces-preserved : goal.pieces-preserved
 pieces-preserved g c =
     let kept : g.C.Sink.held c.read_some.new.src ≡ g.C.Sink.held c.pieces.link =
-    same_bytes (g.C.Source.beside c.pieces.link) (g.C.Source.beside c.read_some.new.src) _ _ _ _ (g.met.C.Link.writing c.pieces.link) (g.met.C.Link.writing c.read_some.new.src) c.read_some.ensures.beside in
+    same_held (g.C.Source.beside c.pieces.link) (g.C.Source.beside c.read_some.new.src) _ _ _ _ _ _ _ _ (g.met.C.Link.writing c.pieces.link) (g.met.C.Link.writing c.read_some.new.src) c.read_some.ensures.beside in
+    let unnoted : g.C.Sink.log c.read_some.new.src ≡ g.C.Sink.log c.pieces.link =
+    same_log (g.C.Source.beside c.pieces.link) (g.C.Source.beside c.read_some.new.src) _ _ _ _ _ _ _ _ (g.met.C.Link.writing c.pieces.link) (g.met.C.Link.writing c.read_some.new.src) c.read_some.ensures.beside in
     let stays : g.C.Source.left c.serve_piece-round.new.link ≡ g.C.Source.left c.read_some.new.src =
-    same_bytes (g.C.Sink.beside c.read_some.new.src) (g.C.Sink.beside c.serve_piece-round.new.link) _ _ _ _ (g.met.C.Link.reading c.read_some.new.src) (g.met.C.Link.reading c.serve_piece-round.new.link) c.serve_piece-round.ensures.beside in
+    same_left (g.C.Sink.beside c.read_some.new.src) (g.C.Sink.beside c.serve_piece-round.new.link) _ _ _ _ (g.met.C.Link.reading c.read_some.new.src) (g.met.C.Link.reading c.serve_piece-round.new.link) c.serve_piece-round.ensures.beside in
     let same : g.C.Sink.faults c.read_some.new.src ≡ g.C.Sink.faults c.pieces.link =
-    same_faults (g.C.Source.beside c.pieces.link) (g.C.Source.beside c.read_some.new.src) _ _ _ _ (g.met.C.Link.writing c.pieces.link) (g.met.C.Link.writing c.read_some.new.src) c.read_some.ensures.beside in
+    same_writes (g.C.Source.beside c.pieces.link) (g.C.Source.beside c.read_some.new.src) _ _ _ _ _ _ _ _ (g.met.C.Link.writing c.pieces.link) (g.met.C.Link.writing c.read_some.new.src) c.read_some.ensures.beside in
     let unread : g.C.Source.faults c.serve_piece-round.new.link ≡ g.C.Source.faults c.read_some.new.src =
-    same_faults (g.C.Sink.beside c.read_some.new.src) (g.C.Sink.beside c.serve_piece-round.new.link) _ _ _ _ (g.met.C.Link.reading c.read_some.new.src) (g.met.C.Link.reading c.serve_piece-round.new.link) c.serve_piece-round.ensures.beside in
+    same_reads (g.C.Sink.beside c.read_some.new.src) (g.C.Sink.beside c.serve_piece-round.new.link) _ _ _ _ (g.met.C.Link.reading c.read_some.new.src) (g.met.C.Link.reading c.serve_piece-round.new.link) c.serve_piece-round.ensures.beside in
     let within : c.pieces.taken + c.in-Ok-read_some.count ≤ link_limit = omega (arith, c.in-Ok-read_some.ensures.bound, c.min-most.ensures, c.pieces.invariant.below) in
     let passed =
     run_passes g.D.Disk.images g.D.Disk.moment g.D.Disk.images_since c.args.disk.now c.pieces.disk c.serve_piece-round.new.disk _ _ _ _ _ _ _ _ c.pieces.conn c.serve_piece-round.new.conn c.pieces.answered c.pieces.taken
     (stand (g.M.Machine.history c.args.machine.now) c.args.steps.now) (stand (g.M.Machine.history c.pieces.machine) c.pieces.steps) (stand (g.M.Machine.history c.serve_piece-round.new.machine) c.serve_piece-round.new.steps)
-    c.pieces.invariant.run kept (take c.in-Ok-read_some.count c.read_some.new.room) c.in-Ok-read_some.count c.in-Ok-read_some.ensures.count (omega (arith, c.in-Ok-read_some.ensures.bound, c.min-most.ensures)) c.in-Ok-read_some.ensures.taken stays
-    _ c.serve_piece-round.result.outcome c.serve_piece-round.result.answered c.serve_piece-round.ensures.piece c.in-Answered.is in
+    (g.C.Sink.log c.args.link.now) (g.C.Sink.log c.pieces.link) (g.C.Sink.log c.read_some.new.src) (g.C.Sink.log c.serve_piece-round.new.link) unnoted c.pieces.invariant.run kept (take c.in-Ok-read_some.count c.read_some.new.room) c.in-Ok-read_some.count c.in-Ok-read_some.ensures.count (omega (arith, c.in-Ok-read_some.ensures.bound, c.min-most.ensures)) c.in-Ok-read_some.ensures.taken stays
+    _ c.serve_piece-round.result.outcome c.serve_piece-round.result.answered c.serve_piece-round.ensures.piece c.serve_piece-round.ensures.upheld c.in-Answered.is in
     record {
-      run = run_goes g.D.Disk.images g.D.Disk.moment g.D.Disk.images_since c.args.disk.now c.serve_piece-round.new.disk _ _ _ _ _ _ _ _ _ passed (sym c.is_over.ensures.value ∙ c.if-is_over.false);
+      run = run_goes g.D.Disk.images g.D.Disk.moment g.D.Disk.images_since c.args.disk.now c.serve_piece-round.new.disk _ _ _ _ _ _ _ _ _ _ passed (sym c.is_over.ensures.value ∙ c.if-is_over.false);
       below = omega (arith, within, c.if-taken-eq-LINK_LIMIT.false);
       few = omega (arith, c.pieces.invariant.few, c.serve_piece-round.ensures.few, c.in-Ok-read_some.ensures.count);
       ready = c.serve_piece-round.ensures.ready (λ is. let answered = c.in-Answered.is in cc);

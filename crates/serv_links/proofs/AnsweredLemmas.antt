@@ -1,0 +1,164 @@
+-- What is written to a link in answer to its requests, and the commands that these bring.
+use Rattle.std.proofs.Common.{◌≡◌, ◌⊎◌, ℕ, ◌+◌, ◌<◌, List, [], ◌∷◌, ◌++◌, length, take, drop, get_or, refl, sym, ap, subst, ◌∙◌, inl, ⊎_elim, arith, append-nil, append_assoc, length-append}
+use Rattle.std.specs.Prelude.{Option, Some}
+use Rattle.std.specs.Io.KnownBytes.{Appends}
+use Rattle.std.proofs.KnownBytes.{Appends-nil}
+use Rattle.std.proofs.lemmas.List.{take_more}
+use Rattle.svc_world.specs.World.{Accepted}
+use Rattle.serv_disk.specs.Disks.{Each}
+use Rattle.serv_disk.specs.Stamps.{Stamp, Notes}
+use Rattle.serv_http.specs.declared.ask.Ask.{Ask}
+use Rattle.serv_http.specs.Streams.{AsksTo}
+use Rattle.serv_http.proofs.StepLemmas.{nothing-more, nothing-open}
+use Rattle.serv_http.proofs.StreamLemmas.{asks-grow}
+use Rattle.serv_machine.specs.History.{History}
+use Rattle.serv_machine.specs.OnDisk.{HasHistory, OnDisk}
+use Rattle.serv_machine.specs.Upheld.{HasCommands, Upholds}
+use Rattle.serv_machine.proofs.UpheldLemmas.{commands_kept, upheld_none, upheld_wider, upheld_later, upheld_then, upheld_written}
+use Rattle.serv_links.specs.Responses.{Stand, responses_to, after_all}
+use Rattle.serv_links.specs.Outcomes.{IsReplied, IsAnswered}
+use Rattle.serv_links.specs.Answered.{AreAnswers, AreAnswersIn, AreAnswersOf, IsLastText}
+use Rattle.serv_links.proofs.RoundLemmas.{mean_append, after_append, parted, responses_append}
+
+-- ---- requests after others
+
+-- no bytes have no request
+pub asks_none : AsksTo [] [] (Some [])
+asks_none = (inl (nothing-more, nothing-open), refl)
+
+pub answers_more : (asks more : List Ask) (h : History) (bytes : ℕ) (commands : List Accepted) → AreAnswers asks h bytes commands → AreAnswers (asks ++ more) h bytes commands
+answers_more asks more h bytes commands is = record {
+  done = is.done;
+  others = is.others ++ more;
+  asks_are = ap (λ l. l ++ more) is.asks_are ∙ append_assoc is.done is.others more;
+  meant = is.meant;
+  mean = is.mean;
+  last = is.last;
+  last_is = is.last_is;
+  bytes_are = is.bytes_are;
+  commands_are = is.commands_are;
+}
+
+pub answers_then : (n : ℕ) (xs ys : List Ask) (s t : Stand) (wrote : List ℕ) (bytes : ℕ) (commands : List Accepted) → IsAnswered n xs s t wrote → AreAnswers ys t.history bytes commands
+    → AreAnswers (xs ++ ys) s.history (length wrote + bytes) commands
+answers_then n xs ys s t wrote bytes commands first is =
+    let stands : t.history ≡ after_all s.history first.meant = first.moved.0 in
+    let texts : responses_to s.history (first.meant ++ is.meant) ++ is.last ≡ wrote ++ (responses_to t.history is.meant ++ is.last) =
+    ap (λ x. x ++ is.last) (responses_append first.meant s.history is.meant ∙ ap (λ x. x ++ responses_to (after_all s.history first.meant) is.meant) (sym first.wrote_is) ∙ ap (λ h. wrote ++ responses_to h is.meant) (sym stands))
+    ∙ append_assoc wrote (responses_to t.history is.meant) is.last in
+    let long = length-append wrote (responses_to t.history is.meant ++ is.last) in
+    record {
+      done = xs ++ is.done;
+      others = is.others;
+      asks_are = ap (λ l. xs ++ l) is.asks_are ∙ sym (append_assoc xs is.done is.others);
+      meant = first.meant ++ is.meant;
+      mean = mean_append xs is.done first.meant is.meant first.mean is.mean;
+      last = is.last;
+      last_is = is.last_is;
+      bytes_are = ap (λ k. length wrote + k) is.bytes_are ∙ sym (ap (λ (l : List ℕ). length l) texts ∙ long);
+      commands_are = is.commands_are ∙ ap (λ h. (after_all h is.meant).commands) stands ∙ ap (λ (h : History). h.commands) (sym (after_append first.meant s.history is.meant));
+    }
+
+-- of a piece: with the requests of the bytes before it
+pub answers_of : (n : ℕ) (asks : List Ask) (s t : Stand) (wrote taken rest piece : List ℕ) (bytes : ℕ) (commands : List Accepted) → AsksTo taken asks (Some rest) → IsAnswered n asks s t wrote
+    → AreAnswersIn t.history (rest ++ piece) bytes commands → AreAnswersOf s.history (taken ++ piece) (length wrote + bytes) commands
+answers_of n asks s t wrote taken rest piece bytes commands asked first is =
+    record {
+      asks = asks ++ is.asks;
+      first = ⊎_elim
+          (λ none. record { front = taken; more = piece; parted = refl; left = Some rest; asked = subst (λ l. AsksTo taken l (Some rest)) (sym (ap (λ l. asks ++ l) none ∙ append-nil asks)) asked })
+          (λ all. record { front = taken ++ piece; more = []; parted = sym (append-nil (taken ++ piece)); left = all.0; asked = asks-grow asks is.asks taken rest piece all.0 asked all.1 })
+          is.known;
+      answers = answers_then n asks is.asks s t wrote bytes commands first is.answers;
+    }
+
+-- of more bytes these are the first too
+pub answers_before : (h : History) (taken more : List ℕ) (bytes : ℕ) (commands : List Accepted) → AreAnswersOf h taken bytes commands → AreAnswersOf h (taken ++ more) bytes commands
+answers_before h taken more bytes commands is = record {
+  asks = is.asks;
+  first = record { front = is.first.front; more = is.first.more ++ more; parted = ap (λ l. l ++ more) is.first.parted ∙ append_assoc is.first.front is.first.more more; left = is.first.left; asked = is.first.asked };
+  answers = is.answers;
+}
+
+-- ---- what is written while the disk is as it is
+
+module _ {D : Type 0} (images : D → List ℕ → Type 0) (moment : D → ℕ) (images_since : D → ℕ → List ℕ → Type 0) (d : D) (only : (c : List ℕ) → images_since d (moment d) c → images d c) (held : Option (List ℕ)) (log log' : Option (List Stamp)) where
+  -- the response to a request, or a front part of it
+  pub response_upheld : (a : Ask) (s s' : Stand) (text : List ℕ) → IsReplied a s s' text → Each (images d) (HasHistory s'.history.commands)
+      → ((x : List ℕ) → held ≡ Some x → Notes (moment d) (length x + length text) log log') → Upholds (AreAnswers (a ∷ []) s.history) (moment d) (images_since d) s'.history.commands held log log'
+  response_upheld a s s' text r has notes =
+      let now : List Accepted = s'.history.commands in
+      upheld_written images moment images_since d only (AreAnswers (a ∷ []) s.history) now now [] (sym (append-nil now)) (commands_kept (images d) now has) (length text)
+      (record {
+        done = a ∷ [];
+        others = [];
+        asks_are = refl;
+        meant = r.meant ∷ [];
+        mean = (r.means, tt);
+        last = [];
+        last_is = inl refl;
+        bytes_are = ap (λ (l : List ℕ). length l) (r.text_is ∙ sym (append-nil _) ∙ sym (append-nil _));
+        commands_are = ap (λ (h : History). h.commands) r.moved.0;
+      })
+      held held [] text log log log' (Appends-nil held) (omega arith) (upheld_none (AreAnswers (a ∷ []) s.history) (moment d) (images_since d) now held log) notes
+
+  -- that the disk failed, or that no memory was there
+  pub last_upheld : (asks : List Ask) (h : History) (now list : List Accepted) (last : List ℕ) → now ≡ h.commands ++ list → Each (images d) (HasCommands h.commands) → IsLastText last
+      → ((x : List ℕ) → held ≡ Some x → Notes (moment d) (length x + length last) log log') → Upholds (AreAnswers asks h) (moment d) (images_since d) now held log log'
+  last_upheld asks h now list last now_is has last_is notes =
+      upheld_written images moment images_since d only (AreAnswers asks h) now h.commands list now_is has (length last)
+      (record { done = []; others = asks; asks_are = refl; meant = []; mean = tt; last = last; last_is = last_is; bytes_are = refl; commands_are = refl })
+      held held [] last log log log' (Appends-nil held) (omega arith) (upheld_none (AreAnswers asks h) (moment d) (images_since d) now held log) notes
+
+  -- no request was read
+  pub none_read : (h : History) (now list : List Accepted) (taken last : List ℕ) → now ≡ h.commands ++ list → Each (images d) (HasCommands h.commands) → IsLastText last
+      → ((x : List ℕ) → held ≡ Some x → Notes (moment d) (length x + length last) log log') → Upholds (AreAnswersIn h taken) (moment d) (images_since d) now held log log'
+  none_read h now list taken last now_is has last_is notes =
+      upheld_wider (AreAnswers [] h) (AreAnswersIn h taken) (moment d) (images_since d) now (λ bytes commands x. record { asks = []; known = inl refl; answers = x }) held log log'
+      (last_upheld [] h now list last now_is has last_is notes)
+
+  -- no byte was taken
+  pub none_taken : (h : History) (now list : List Accepted) (last : List ℕ) → now ≡ h.commands ++ list → Each (images d) (HasCommands h.commands) → IsLastText last
+      → ((x : List ℕ) → held ≡ Some x → Notes (moment d) (length x + length last) log log') → Upholds (AreAnswersOf h []) (moment d) (images_since d) now held log log'
+  none_taken h now list last now_is has last_is notes =
+      upheld_wider (AreAnswers [] h) (AreAnswersOf h []) (moment d) (images_since d) now
+      (λ bytes commands x. record { asks = []; first = record { front = []; more = []; parted = refl; left = Some []; asked = asks_none }; answers = x }) held log log'
+      (last_upheld [] h now list last now_is has last_is notes)
+
+-- ---- one run after another
+
+module _ {D : Type 0} (images : D → List ℕ → Type 0) (moment : D → ℕ) (images_since : D → ℕ → List ℕ → Type 0) (mid new : D) (n : ℕ) (s t t' : Stand) (pending : List Accepted)
+    (disk : OnDisk images moment images_since mid new t.history.commands t'.history.commands pending) (held held' : Option (List ℕ)) (wrote : List ℕ) (appends : Appends held held' wrote) (log log' log'' : Option (List Stamp)) where
+  -- requests that are answered, and others after them, which are the first ones of some
+  pub round_upheld : (xs ys more asks : List Ask) → asks ≡ (xs ++ ys) ++ more → IsAnswered n xs s t wrote
+      → Upholds (AreAnswers xs s.history) (moment mid) (images_since mid) t.history.commands held log log' → Upholds (AreAnswers ys t.history) (moment new) (images_since new) t'.history.commands held' log' log''
+      → Upholds (AreAnswers asks s.history) (moment new) (images_since new) t'.history.commands held log log''
+  round_upheld xs ys more asks is first before after =
+      upheld_then (AreAnswers xs s.history) (AreAnswers ys t.history) (AreAnswers asks s.history) (moment new) (images_since new) t'.history.commands wrote
+      (λ bytes commands x. subst (λ l. AreAnswers l s.history bytes commands) (sym (is ∙ append_assoc xs ys more)) (answers_more xs (ys ++ more) s.history bytes commands x))
+      (λ bytes commands x. subst (λ l. AreAnswers l s.history (length wrote + bytes) commands) (sym is) (answers_more (xs ++ ys) more s.history (length wrote + bytes) commands (answers_then n xs ys s t wrote bytes commands first x)))
+      held held' log log' log'' appends (upheld_later images moment images_since mid new t.history.commands t'.history.commands pending disk (AreAnswers xs s.history) held log log' before) after
+
+  -- one request more is answered
+  pub next_upheld : (i : ℕ) (asks : List Ask) (a d : Ask) → i < length asks → a ≡ get_or asks i d → IsAnswered n (take i asks) s t wrote
+      → Upholds (AreAnswers (take i asks) s.history) (moment mid) (images_since mid) t.history.commands held log log' → Upholds (AreAnswers (a ∷ []) t.history) (moment new) (images_since new) t'.history.commands held' log' log''
+      → Upholds (AreAnswers (take (i + 1) asks) s.history) (moment new) (images_since new) t'.history.commands held log log''
+  next_upheld i asks a d lt is first before after =
+      round_upheld (take i asks) (a ∷ []) [] (take (i + 1) asks) (take_more asks i d lt ∙ ap (λ x. take i asks ++ x ∷ []) (sym is) ∙ sym (append-nil (take i asks ++ a ∷ []))) first before after
+
+  -- it is the last one that is acted on
+  pub stop_upheld : (i : ℕ) (asks : List Ask) (a d : Ask) → i < length asks → a ≡ get_or asks i d → IsAnswered n (take i asks) s t wrote
+      → Upholds (AreAnswers (take i asks) s.history) (moment mid) (images_since mid) t.history.commands held log log' → Upholds (AreAnswers (a ∷ []) t.history) (moment new) (images_since new) t'.history.commands held' log' log''
+      → Upholds (AreAnswers asks s.history) (moment new) (images_since new) t'.history.commands held log log''
+  stop_upheld i asks a d lt is first before after =
+      round_upheld (take i asks) (a ∷ []) (drop (i + 1) asks) asks (parted i asks a d lt is ∙ sym (append_assoc (take i asks) (a ∷ []) (drop (i + 1) asks))) first before after
+
+  -- the requests of a piece after those of the bytes before it
+  pub piece_upheld : (asks : List Ask) (taken rest piece : List ℕ) → AsksTo taken asks (Some rest) → IsAnswered n asks s t wrote
+      → Upholds (AreAnswersOf s.history taken) (moment mid) (images_since mid) t.history.commands held log log' → Upholds (AreAnswersIn t.history (rest ++ piece)) (moment new) (images_since new) t'.history.commands held' log' log''
+      → Upholds (AreAnswersOf s.history (taken ++ piece)) (moment new) (images_since new) t'.history.commands held log log''
+  piece_upheld asks taken rest piece asked first before after =
+      upheld_then (AreAnswersOf s.history taken) (AreAnswersIn t.history (rest ++ piece)) (AreAnswersOf s.history (taken ++ piece)) (moment new) (images_since new) t'.history.commands wrote
+      (λ bytes commands x. answers_before s.history taken piece bytes commands x)
+      (λ bytes commands x. answers_of n asks s t wrote taken rest piece bytes commands asked first x)
+      held held' log log' log'' appends (upheld_later images moment images_since mid new t.history.commands t'.history.commands pending disk (AreAnswersOf s.history taken) held log log' before) after

@@ -1,0 +1,36 @@
+-- How runs that open no journal end where nothing fails.
+use Rattle.std.proofs.Common.{◌≡◌, ◌⊎◌, ℕ, ◌<◌, List, length, refl, inl, inr, arith}
+use Rattle.std.specs.Prelude.{Option, Some}
+use Rattle.svc_world.specs.World.{Accepted}
+use Rattle.serv_disk.specs.Faults.{HasRisen}
+use Rattle.serv_top.specs.declared.status.Status.{Status}
+use Rattle.serv_top.specs.declared.status.Status.TheVariants as status
+use Rattle.serv_top.specs.Drilled.{IsDrilledAs}
+use Rattle.serv_top.specs.Ends.{Finishes}
+use Rattle.serv_top.specs.Journal.{IsInit}
+use Rattle.serv_top.specs.Machine.{Stand}
+use Rattle.serv_top.specs.Outcome.{Ended, input_limit}
+use Rattle.serv_top.proofs.Applied.{few_taken}
+
+pub init_ends : (st : Status) (told told' : Option (List ℕ)) (images : List ℕ → Type 0) (faults faults' : ℕ) → (HasRisen faults faults' → ⊥) → IsInit st told told' images faults faults' → (st ≡ status.Done) ⊎ (st ≡ status.AlreadyThere)
+init_ends status.Done told told' images faults faults' calm is = inl refl
+init_ends status.AlreadyThere told told' images faults faults' calm is = inr refl
+init_ends status.DiskFault told told' images faults faults' calm is = absurd (calm is)
+init_ends other told told' images faults faults' calm is = absurd is
+
+pub drill_ends : (st : Status) (loans number : ℕ) (written : List ℕ) → (st ≡ status.WriteFault → ⊥) → IsDrilledAs st loans number written → Finishes st
+drill_ends status.Done loans number written writes is = inl refl
+drill_ends status.WriteFault loans number written writes is = absurd (writes refl)
+drill_ends status.OutOfMemory loans number written writes is = inr refl
+drill_ends other loans number written writes is = absurd is
+
+pub session_ends : (waiting : ℕ) (st : Status) (s s' : Stand) (pending : List Accepted) (left left' held held' : Option (List ℕ)) (input : List ℕ) → left ≡ Some input → length input < input_limit
+    → (st ≡ status.ReadFault → ⊥) → (st ≡ status.WriteFault → ⊥) → (st ≡ status.DiskFault → ⊥) → Ended waiting st s s' pending left left' held held' → Finishes st
+session_ends waiting status.Done s s' pending left left' held held' input is short reads writes disks e = inl refl
+session_ends waiting status.ReadFault s s' pending left left' held held' input is short reads writes disks e = absurd (reads refl)
+session_ends waiting status.WriteFault s s' pending left left' held held' input is short reads writes disks e = absurd (writes refl)
+session_ends waiting status.DiskFault s s' pending left left' held held' input is short reads writes disks e = absurd (disks refl)
+session_ends waiting (status.TooMuch n) s s' pending left left' held held' input is short reads writes disks e =
+    absurd (omega (arith, few_taken left left' input e.taken is e.took, short, e.says.1, e.says.2))
+session_ends waiting status.OutOfMemory s s' pending left left' held held' input is short reads writes disks e = inr refl
+session_ends waiting other s s' pending left left' held held' input is short reads writes disks e = absurd e.says
