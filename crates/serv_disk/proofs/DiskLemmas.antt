@@ -1,10 +1,11 @@
 -- What a crash leaves of one call more of a disk in memory.
 use Rattle.std.proofs.Common.{◌≡◌, ℕ, ◌+◌, ◌≤◌, List, ◌∷◌, ◌++◌, length, take, drop, sym, ap, subst, ◌∙◌, inl, inr, length-append, length-take-le}
 use Rattle.std.proofs.lemmas.List.{append_assoc, take_at, drop_at}
-use Rattle.serv_disk.specs.Disks.{TornAt, Cut, Each, After}
-use Rattle.serv_disk.specs.DiskCalls.{DiskCall, Wrote, Shortened, Synced, written, now_of, IsImage}
+use Rattle.serv_disk.specs.Disks.{Each, After}
+use Rattle.serv_images.specs.CutShort.{TornAt, Cut}
+use Rattle.serv_images.specs.DiskCalls.{DiskCall, Wrote, Shortened, Synced, written, now_of, IsImage}
 use Rattle.serv_disk.specs.DiskLaws.{now_image}
-use Rattle.serv_disk.proofs.TearLemmas.{length_written}
+use Rattle.serv_images.proofs.TearLemmas.{length_written}
 
 -- a whole write is one that may have been cut short
 pub written_torn : (at : ℕ) (bytes file : List ℕ) → at ≤ length file → TornAt at (length bytes) file (written at bytes file)

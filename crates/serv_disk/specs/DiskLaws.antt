@@ -1,7 +1,7 @@
 -- What the trait asks of a disk in memory.
 use Rattle.std.specs.Prelude.{None, ◌≡◌, ℕ, List, [], ◌∷◌, length, refl, Some}
 use Rattle.std.proofs.Common.{inl, inr, subst, arith}
-use Rattle.serv_disk.specs.DiskCalls.{DiskCall, Wrote, Shortened, Synced, now_of, IsImage, IsSince}
+use Rattle.serv_images.specs.DiskCalls.{DiskCall, Wrote, Shortened, Synced, now_of, IsImage, IsSince}
 
 -- this moment is one of those since an earlier one
 pub since_now : (first : List ℕ) (calls : List DiskCall) (t : ℕ) (c : List ℕ) → IsImage first calls c → IsSince first calls t c

@@ -1,20 +1,9 @@
 -- What the calls of a disk do to its content, and what a crash may leave.
-use Rattle.std.specs.Prelude.{◌≡◌, ◌⊎◌, ℕ, ◌+◌, ◌≤◌, max, List, ◌++◌, length, take, drop, Option, Some, None}
+use Rattle.std.specs.Prelude.{◌≡◌, ◌⊎◌, ℕ, ◌+◌, ◌≤◌, List, ◌++◌, length, take, drop, Option, Some, None}
 
 -- new is old with these bytes from this place on
 abbrev pub Holds : ℕ → List ℕ → List ℕ → List ℕ → Type 0
 Holds at bytes old new = new ≡ take at old ++ bytes ++ drop (at + length bytes) old
-
--- after a write of n bytes that a crash or a fault may cut short: any bytes in its range, the same elsewhere, and the
--- old length or the new one
-pub record TornAt (at n : ℕ) (old new : List ℕ) : Type 0 where
-  pub before : take at new ≡ take at old
-  pub after : drop (at + n) new ≡ drop (at + n) old
-  pub size : (length new ≡ length old) ⊎ (length new ≡ max (length old) (at + n))
-
--- after a cut to n bytes that a crash or a fault may leave out
-abbrev pub Cut : ℕ → List ℕ → List ℕ → Type 0
-Cut n old new = (new ≡ old) ⊎ (new ≡ take n old)
 
 -- what reads give goes from old to new by this step, where the disk tells it; what it tells, and whether, stays told
 abbrev pub Told : Option (List ℕ) → Option (List ℕ) → (List ℕ → List ℕ → Type 0) → Type 0

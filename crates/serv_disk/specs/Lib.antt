@@ -4,8 +4,5 @@ pub mod Sides
 pub mod Stamps
 pub mod Listening
 pub mod Disks
-pub mod DiskCalls
 pub mod DiskLaws
-pub mod Kept
 pub mod MemDisks
-pub mod Crashes

@@ -1,6 +1,6 @@
 -- What contracts see of a disk in memory.
 use Rattle.std.specs.Prelude.{ℕ, ◌<◌, ◌⊎◌, List, Option, Some, MatchOption, Contains, length}
-use Rattle.serv_disk.specs.DiskCalls.{DiskCall, now_of, IsImage, IsSince}
+use Rattle.serv_images.specs.DiskCalls.{DiskCall, now_of, IsImage, IsSince}
 use Rattle.serv_disk.specs.Disks.{Elapses}
 
 -- the content at first and the calls that were made, the newest first; the room that is reserved for further calls

@@ -2,7 +2,8 @@
 
 ghost use Rattle.std.specs.Prelude.{◌≡◌, ℕ, ◌+◌, ◌≤◌, List, Option, None, Some, IsSome, IfOk, OnOk, OnErr, length, take, drop};
 ghost use Rattle.serv_disk.specs.Faults.{HasCause};
-ghost use Rattle.serv_disk.specs.Disks.{Holds, TornAt, Cut, Told, Each, After, Only, Elapses};
+ghost use Rattle.serv_images.specs.CutShort.{TornAt, Cut};
+ghost use Rattle.serv_disk.specs.Disks.{Holds, Told, Each, After, Only, Elapses};
 
 use crate::failed::Failed;
 

@@ -1,17 +1,17 @@
 //! A disk in memory.
 
 ghost use Rattle.std.specs.Prelude.{◌≡◌, ℕ, ◌+◌, ◌-◌, ◌^◌, ◌≤◌, ◌<◌, ◌⊎◌, ◌↔◌, List, Option, None, Some, [], ◌∷◌, IsTrue, IsOk, IsErr, is_ok, OnOk, OnErr, IfOk, MatchOption, length, take, drop, max, min, if◌then◌else◌, Contains};
-ghost use Rattle.serv_disk.specs.DiskCalls.{DiskCall, Wrote, Shortened, Synced};
-ghost use Rattle.serv_disk.specs.Crashes.{crashed};
-ghost use Rattle.serv_disk.specs.Disks.{Holds, TornAt, Cut, Told, Each, After, Only};
+ghost use Rattle.serv_images.specs.DiskCalls.{DiskCall, Wrote, Shortened, Synced};
+ghost use Rattle.serv_images.specs.CutShort.{TornAt, Cut};
+ghost use Rattle.serv_images.specs.Crashes.{crashed};
+ghost use Rattle.serv_disk.specs.Disks.{Holds, Told, Each, After, Only};
 ghost use Rattle.serv_disk.specs.Faults.{HasCause, HasRisen};
 ghost use Rattle.serv_disk.specs.Objects.{raised};
 ghost use Rattle.serv_disk.specs.MemDisks.{DiskState, IsLetFail, TimeElapses, content_of, images_of, told};
 
 use crate::disk::Disk;
 use crate::failed::{Failed, is_among};
-use crate::kept::Kept;
-use crate::torn::Torn;
+use serv_images::{Kept, Torn};
 use std::marker::Model;
 use svc_base::OutOfMemory;
 
@@ -157,7 +157,7 @@ impl MemDisk {
 
 impl Disk for MemDisk {
     ghost use Rattle.std.specs.Prelude.{ℕ, length, Some, List, refl};
-    ghost use Rattle.serv_disk.specs.DiskCalls.{IsImage, IsSince, now_of};
+    ghost use Rattle.serv_images.specs.DiskCalls.{IsImage, IsSince, now_of};
     ghost use Rattle.serv_disk.specs.MemDisks.{IsLetFail, TimeElapses, content_of, images_of, told};
     ghost use Rattle.serv_disk.specs.Objects.{raised};
     ghost use Rattle.serv_disk.specs.DiskLaws.{since_now, now_only, now_image, some_image};

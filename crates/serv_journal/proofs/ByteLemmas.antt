@@ -1,7 +1,8 @@
 -- What a write leaves of a file of which the beginning is known.
 use Rattle.std.proofs.Common.{◌≡◌, ◌⊎◌, ℕ, ◌+◌, ◌<◌, ◌≤◌, List, [], ◌∷◌, ◌++◌, length, take, drop, get_or, max, refl, sym, ap, subst, ◌∙◌, ⊎_elim, arith, append_assoc, length-append}
 use Rattle.std.proofs.lemmas.List.{take_at, drop_at, take-append-drop, take-take, drop_more}
-use Rattle.serv_disk.specs.Disks.{Holds, TornAt}
+use Rattle.serv_images.specs.CutShort.{TornAt}
+use Rattle.serv_disk.specs.Disks.{Holds}
 use Rattle.serv_journal.specs.Bytes.{Starts, Between}
 
 -- the first bytes of a file that begins with a list

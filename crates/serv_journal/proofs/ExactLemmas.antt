@@ -1,7 +1,8 @@
 -- A file is read, or is damaged at one place, or is no journal; and what is read of a file that is good for some lines.
 use Rattle.std.proofs.Common.{◌≡◌, ◌≢◌, ◌⊎◌, ℕ, ◌+◌, ◌*◌, ◌<◌, ◌≤◌, List, [], ◌∷◌, ◌++◌, Option, Some, None, length, drop, refl, sym, ap, subst, ◌∙◌, inl, inr, ⊎_elim, arith, append_assoc, length-append}
 use Rattle.std.proofs.lemmas.List.{drop_at, append-nil}
-use Rattle.serv_disk.specs.Disks.{TornAt, Only, After}
+use Rattle.serv_images.specs.CutShort.{TornAt}
+use Rattle.serv_disk.specs.Disks.{Only, After}
 use Rattle.serv_journal.specs.declared.format.Version.{Version}
 use Rattle.serv_journal.specs.declared.format.Version.TheVariants.{One, Two}
 use Rattle.serv_journal.specs.Bytes.{Starts, Between}

@@ -6,7 +6,3 @@ pub told_from : (old new : Option (List ℕ)) (step : List ℕ → List ℕ → 
 told_from None new step s is told = absurd (cc)
 told_from (Some l) None step s is told = absurd told
 told_from (Some l) (Some t) step s is told = let same : l ≡ s = cc in (t, refl, subst (λ x. step x t) same told)
-
-pub told_none : (old new : Option (List ℕ)) (step : List ℕ → List ℕ → Type 0) → old ≡ None → Told old new step → new ≡ None
-told_none None new step is told = told
-told_none (Some l) new step is told = absurd (cc)

@@ -1,6 +1,6 @@
 -- Records read one after the other.
-use Rattle.std.proofs.Common.{◌≡◌, ℕ, ◌+◌, ◌*◌, ◌≤◌, List, [], ◌∷◌, ◌++◌, length, take, drop, refl, sym, ap, subst, ◌∙◌, arith, append_assoc, length-append, take-add}
-use Rattle.std.proofs.lemmas.List.{append-nil, map_push, length-map, length-drop}
+use Rattle.std.proofs.Common.{◌≡◌, ℕ, ◌+◌, ◌*◌, ◌≤◌, List, [], ◌∷◌, ◌++◌, length, take, drop, sym, ap, subst, ◌∙◌, arith, append_assoc, length-append, take-add}
+use Rattle.std.proofs.lemmas.List.{map_push, length-map, length-drop}
 use Rattle.serv_journal.specs.declared.format.Version.{Version}
 use Rattle.serv_journal.specs.Bytes.{Starts}
 use Rattle.serv_journal.specs.Format.{IsLine, AreLines, body, records, head_size}
@@ -14,9 +14,6 @@ lines_in_push frames place line = map_push (λ (f : ℕ × List ℕ). f.1) frame
 
 pub length_lines_in : (frames : List (ℕ × List ℕ)) → length (lines_in frames) ≡ length frames
 length_lines_in frames = length-map frames (λ (f : ℕ × List ℕ). f.1)
-
-pub placed_start : (version : Version) (at : ℕ) → IsPlaced version at [] at
-placed_start version at = record { fit = tt; places = refl; end = omega arith }
 
 placed_push : (version : Version) (at number : ℕ) (lines : List (List ℕ)) (line : List ℕ)
     → placed version at number (lines ++ line ∷ []) ≡ placed version at number lines ++ (at + length (records version number lines), line) ∷ []
@@ -50,9 +47,6 @@ placed_more version at place next frames line so_far is_line next_is =
         length_of_body version (1 + length lines) line,
       );
     }
-
-pub scanned_start : (version : Version) (at : ℕ) (s : List ℕ) → at ≤ length s → IsScanned version at [] at s
-scanned_start version at s within = record { within = within; is = sym (append-nil (take at s)) }
 
 pub scanned_push : (version : Version) (at place next number : ℕ) (frames : List (ℕ × List ℕ)) (line s : List ℕ) → IsScanned version at frames place s → number ≡ length frames + 1
     → Starts (1 ∷ body version number line) (drop place s) → next ≡ place + 1 + head_size version + length line → IsScanned version at (frames ++ (place, line) ∷ []) next s

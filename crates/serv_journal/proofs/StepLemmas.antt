@@ -1,6 +1,6 @@
 -- What was read at a place, as a step.
-use Rattle.std.proofs.Common.{◌≡◌, ◌≢◌, ℕ, ◌+◌, ◌<◌, ◌≤◌, List, ◌∷◌, ◌++◌, length, get_or, take, drop, sym, ap, subst, ◌∙◌, inl, inr, arith, Option, Some, None, MatchOption}
-use Rattle.std.proofs.lemmas.List.{drop_more, drop_all, drop-drop}
+use Rattle.std.proofs.Common.{◌≡◌, ◌≢◌, ℕ, ◌+◌, ◌<◌, ◌≤◌, List, ◌∷◌, ◌++◌, length, get_or, take, drop, sym, ap, subst, ◌∙◌, inr, arith, Option, Some, None, MatchOption}
+use Rattle.std.proofs.lemmas.List.{drop_more, drop-drop}
 use Rattle.serv_journal.specs.declared.format.Version.{Version}
 use Rattle.serv_journal.specs.declared.format.Version.TheVariants.{One, Two}
 use Rattle.serv_journal.specs.Bytes.{Starts, piece}
@@ -37,9 +37,6 @@ step_record version number count s place commit within is open_is starts =
 pub step_bad : (version : Version) (number : ℕ) (s : List ℕ) (place commit : ℕ) → place < length s → commit ≡ get_or s place 0 → commit ≡ 1
     → IsBadRecord version number (drop (place + 1) s) → IsBadEnd version number (drop place s)
 step_bad version number s place commit within is open_is bad = inr (drop (place + 1) s, tail_is s place 1 within (sym open_is ∙ is), bad)
-
-pub step_past : (version : Version) (number : ℕ) (s : List ℕ) (place : ℕ) → place ≡ length s → IsBadEnd version number (drop place s)
-step_past version number s place end = inl (drop_all place s (omega arith))
 
 -- a record of version 1, read as its line
 pub one_found : (version : Version) (number : ℕ) (rest : List ℕ) (found : Option ℕ) → version ≡ One → (Starts (header Two) rest → ⊥)

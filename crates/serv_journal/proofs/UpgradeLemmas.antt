@@ -1,7 +1,7 @@
 -- Records of version 2, written after a part of version 1.
 use Rattle.std.proofs.Common.{◌≡◌, ◌≢◌, ◌⊎◌, ℕ, ◌+◌, ◌<◌, ◌≤◌, List, [], ◌∷◌, ◌++◌, Option, Some, None, length, get_or, take, drop, refl, sym, ap, subst, ◌∙◌, inl, inr, ⊎_elim, arith, append_assoc, length-append, zero, suc}
 use Rattle.std.proofs.lemmas.Bool.Decides.{nat_tests}
-use Rattle.std.proofs.lemmas.List.{append-nil, take_all, take_more, length-take-le}
+use Rattle.std.proofs.lemmas.List.{append-nil, take_more, length-take-le}
 use Rattle.serv_disk.specs.Disks.{Holds, Told, Each, LeavesOnly}
 use Rattle.serv_disk.proofs.Moments.{joined}
 use Rattle.serv_journal.specs.declared.format.Version.{Version}
@@ -57,9 +57,6 @@ records_more_long lines i less =
 commit_open : (i count : ℕ) → i < count → commit_at i count ≡ 1
 commit_open i count less = grind (arith, nat_tests)
 
-commit_closed : (i count : ℕ) → count ≤ i → commit_at i count ≡ 0
-commit_closed i count less = grind (arith, nat_tests)
-
 -- one record more after an open commit byte
 pub laid_more : (lines : List (List ℕ)) (line : List ℕ) (i number next : ℕ) → i < length lines → line ≡ get_or lines i [] → number ≡ i + 1 → next ≡ commit_at (i + 1) (length lines)
     → laid lines i ++ (body Two number line ++ next ∷ []) ≡ laid lines (i + 1)
@@ -76,10 +73,6 @@ laid_more lines line i number next less line_at number_at next_at =
     ap (λ x. x ++ (body Two number line ++ next ∷ [])) opened ∙ (ap (λ x. (header Two ++ now ++ 1 ∷ []) ++ x) content ∙ (spread
     ∙ ap (λ x. header Two ++ x ++ last ∷ []) (sym (records_more lines i less)))) in
     joined
-
-pub laid_all : (lines : List (List ℕ)) (i : ℕ) → length lines ≤ i → laid lines i ≡ rewritten lines
-laid_all lines i all =
-    ap (λ x. header Two ++ records Two 1 x ++ commit_at i (length lines) ∷ []) (take_all i lines all) ∙ ap (λ b. header Two ++ records Two 1 lines ++ b ∷ []) (commit_closed i (length lines) all)
 
 pub records_part : (lines : List (List ℕ)) (number i : ℕ) → length (records Two number (take i lines)) ≤ length (records Two number lines)
 records_part [] number zero = omega arith
@@ -162,9 +155,6 @@ pub too_long : (lines : List (List ℕ)) (i total start next limit : ℕ) → i 
     → next ≡ total + (7 + length (get_or lines i [])) → limit < next → limit < start + length (records Two 1 lines)
 too_long lines i total start next limit less so_far next_is past =
     omega (arith, past, total_more lines i total start next less so_far next_is, records_part lines 1 (i + 1))
-
-pub total_all : (lines : List (List ℕ)) (i total start : ℕ) → length lines ≤ i → total ≡ start + length (records Two 1 (take i lines)) → total ≡ start + length (records Two 1 lines)
-total_all lines i total start all so_far = so_far ∙ ap (λ x. start + length (records Two 1 x)) (take_all i lines all)
 
 -- a disk that has so many bytes of a part of version 2 laid, as the loop that lays them keeps it
 pub record IsLaying {D : Type 0} (seen : D → Option (List ℕ)) (images : D → List ℕ → Type 0) (moment : D → ℕ) (images_since : D → ℕ → List ℕ → Type 0) (faults : D → ℕ)

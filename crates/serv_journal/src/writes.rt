@@ -2,7 +2,8 @@
 
 ghost use Rattle.std.specs.Prelude.{◌≡◌, ◌≢◌, ◌⊎◌, ℕ, ◌+◌, ◌-◌, ◌≤◌, ◌<◌, List, [], ◌∷◌, ◌++◌, length, Some, None, OnOk};
 ghost use Rattle.serv_disk.specs.Faults.{HasCause};
-ghost use Rattle.serv_disk.specs.Disks.{Holds, TornAt, Told, Each, After, Only, LeavesOnly};
+ghost use Rattle.serv_images.specs.CutShort.{TornAt};
+ghost use Rattle.serv_disk.specs.Disks.{Holds, Told, Each, After, Only, LeavesOnly};
 ghost use Rattle.serv_journal.specs.Bytes.{Starts, Between, IsOpening};
 ghost use Rattle.serv_journal.specs.Outcomes.{Reaches};
 

@@ -1,9 +1,9 @@
 -- The calls that a disk in memory keeps: where each write began and how long it was, and the bytes of all writes one
 -- after the other.
 use Rattle.std.specs.Prelude.{◌≡◌, ℕ, ◌+◌, List, [], ◌∷◌, length, take, drop}
-use Rattle.serv_disk.specs.DiskCalls.{DiskCall, Wrote, Shortened, Synced, now_of, synced_of, AreWithin}
-use Rattle.serv_disk.specs.declared.kept.Step.{Step}
-use Rattle.serv_disk.specs.declared.kept.Step.TheVariants.{Write, Cut, Sync}
+use Rattle.serv_images.specs.DiskCalls.{DiskCall, Wrote, Shortened, Synced, now_of, synced_of, AreWithin}
+use Rattle.serv_images.specs.declared.kept.Step.{Step}
+use Rattle.serv_images.specs.declared.kept.Step.TheVariants.{Write, Cut, Sync}
 
 -- how many bytes a call wrote, and the call with these bytes
 abbrev pub bytes_of : Step → ℕ

@@ -1,10 +1,10 @@
 -- One call more of those that a disk in memory keeps.
 use Rattle.std.proofs.Common.{◌≡◌, ℕ, ◌+◌, ◌≤◌, List, [], ◌∷◌, ◌++◌, length, take, drop, sym, ap, subst, ◌∙◌, refl, arith, length-drop, length-append}
 use Rattle.std.proofs.lemmas.List.{append-nil, take-append-le, drop-append-le, take_all, nil_from_length}
-use Rattle.serv_disk.specs.DiskCalls.{DiskCall, Wrote, Shortened, Synced, now_of, synced_of, written, AreWithin}
-use Rattle.serv_disk.specs.Kept.{bytes_of, call_of, calls_of, bytes_in, IsKept}
-use Rattle.serv_disk.specs.declared.kept.Step.{Step}
-use Rattle.serv_disk.specs.declared.kept.Step.TheVariants.{Write, Cut, Sync}
+use Rattle.serv_images.specs.DiskCalls.{DiskCall, Wrote, Shortened, Synced, now_of, synced_of, written, AreWithin}
+use Rattle.serv_images.specs.Kept.{bytes_of, call_of, calls_of, bytes_in, IsKept}
+use Rattle.serv_images.specs.declared.kept.Step.{Step}
+use Rattle.serv_images.specs.declared.kept.Step.TheVariants.{Write, Cut, Sync}
 
 calls_push : (steps : List Step) (pool : List ℕ) (older : List DiskCall) (step : Step) (bytes : List ℕ) → bytes_in steps ≡ length pool → bytes_of step ≡ length bytes
     → calls_of (steps ++ step ∷ []) (pool ++ bytes) older ≡ call_of step bytes ∷ calls_of steps pool older

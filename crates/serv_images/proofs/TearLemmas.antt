@@ -1,9 +1,9 @@
 -- Bytes laid over a file within its length, by places.
-use Rattle.std.proofs.Common.{◌≡◌, ℕ, ◌+◌, ◌-◌, ◌<◌, ◌≤◌, min, max, List, ◌++◌, length, get_or, take, drop, sym, ap, ◌∙◌, arith, length-append, length-drop, length-take}
+use Rattle.std.proofs.Common.{◌≡◌, ℕ, ◌+◌, ◌-◌, ◌<◌, ◌≤◌, min, max, List, ◌++◌, length, get_or, take, drop, ap, ◌∙◌, arith, length-append, length-drop, length-take}
 use Rattle.std.proofs.lemmas.List.{places, same_lists, length-replicate}
 use borrow.Rule.Slice.PartMut.{put_mid}
-use Rattle.serv_disk.specs.Crashes.{laid, sized}
-use Rattle.serv_disk.specs.DiskCalls.{written}
+use Rattle.serv_images.specs.Crashes.{laid, sized}
+use Rattle.serv_images.specs.DiskCalls.{written}
 
 pub length_written : (at : ℕ) (bytes file : List ℕ) → at ≤ length file → length (written at bytes file) ≡ max (length file) (at + length bytes)
 length_written at bytes file within = simp (length-append, length-take, length-drop) (omega arith)
@@ -38,7 +38,3 @@ part_laid at n bytes file within count =
 pub put_laid : (at k n : ℕ) (bytes new file : List ℕ) → at ≤ length file → k ≡ n → n ≡ min (length bytes) (length file - at) → new ≡ take n bytes → put_mid at k file new ≡ laid at bytes file
 put_laid at k n bytes new file within part count is =
     ap (λ ys. put_mid at k file ys) is ∙ ap (λ m. put_mid at m file (take n bytes)) part ∙ part_laid at n bytes file within count
-
--- a place past the end
-pub laid_past : (at : ℕ) (bytes file : List ℕ) → length file ≤ at → file ≡ laid at bytes file
-laid_past at bytes file past = same_lists _ _ (sym (length_laid at bytes file)) (λ j d h. sym (laid_before at bytes file j d (omega arith) h))

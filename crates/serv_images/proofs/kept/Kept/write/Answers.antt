@@ -1,8 +1,8 @@
 use Rattle.std.proofs.Common.{◌≡◌, ◌≤◌, ◌∷◌, length, ap, sym, refl, ◌∙◌, arith}
-use Rattle.serv_disk.specs.DiskCalls.{Wrote, now_of}
-use Rattle.serv_disk.specs.Kept.{KeptState}
-use Rattle.serv_disk.proofs.KeptLemmas.{kept_write, made_write}
-use Rattle.serv_disk.proofs.kept.Kept.write.Goals as goal
+use Rattle.serv_images.specs.DiskCalls.{Wrote, now_of}
+use Rattle.serv_images.specs.Kept.{KeptState}
+use Rattle.serv_images.proofs.KeptLemmas.{kept_write, made_write}
+use Rattle.serv_images.proofs.kept.Kept.write.Goals as goal
 
 pub invariant_of-self : goal.invariant_of-self
 invariant_of-self c =

@@ -1,8 +1,8 @@
 use Rattle.std.proofs.Common.{◌∷◌, ◌++◌, ap, ◌∙◌, arith}
-use Rattle.serv_disk.specs.DiskCalls.{Synced}
-use Rattle.serv_disk.specs.Kept.{KeptState}
-use Rattle.serv_disk.proofs.KeptLemmas.{kept_sync, made_sync}
-use Rattle.serv_disk.proofs.kept.Kept.sync.Goals as goal
+use Rattle.serv_images.specs.DiskCalls.{Synced}
+use Rattle.serv_images.specs.Kept.{KeptState}
+use Rattle.serv_images.proofs.KeptLemmas.{kept_sync, made_sync}
+use Rattle.serv_images.proofs.kept.Kept.sync.Goals as goal
 
 pub invariant_of-self : goal.invariant_of-self
 invariant_of-self c =

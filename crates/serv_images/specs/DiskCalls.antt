@@ -1,6 +1,6 @@
 -- A disk in memory: what its calls made of the content that was there at first, and what a crash may leave.
 use Rattle.std.specs.Prelude.{◌≡◌, ◌⊎◌, ℕ, ◌+◌, ◌≤◌, List, [], ◌∷◌, ◌++◌, length, take, drop}
-use Rattle.serv_disk.specs.Disks.{TornAt, Cut}
+use Rattle.serv_images.specs.CutShort.{TornAt, Cut}
 
 -- a call that was made; lists of them have the newest first
 pub data DiskCall : Type 0 where

@@ -1,8 +1,8 @@
 -- The content that a crash of a disk in memory leaves, by its choice.
 use Rattle.std.specs.Prelude.{ℕ, ◌-◌, Bool, List, [], ◌∷◌, ◌++◌, length, take, min, max, if◌then◌else◌, replicate}
-use Rattle.serv_disk.specs.DiskCalls.{DiskCall, Wrote, Shortened, Synced, written, now_of, synced_of}
-use Rattle.serv_disk.specs.declared.torn.Torn.{Torn}
-use Rattle.serv_disk.specs.declared.torn.Torn.TheVariants.{Old, New, Zero, Ones}
+use Rattle.serv_images.specs.DiskCalls.{DiskCall, Wrote, Shortened, Synced, written, now_of, synced_of}
+use Rattle.serv_images.specs.declared.torn.Torn.{Torn}
+use Rattle.serv_images.specs.declared.torn.Torn.TheVariants.{Old, New, Zero, Ones}
 
 -- bytes over a file, within its length
 abbrev pub laid : ℕ → List ℕ → List ℕ → List ℕ

@@ -1,8 +1,8 @@
 //! What a disk in memory keeps of its calls.
 
 ghost use Rattle.std.specs.Prelude.{◌≡◌, ℕ, ◌+◌, ◌-◌, ◌≤◌, ◌<◌, List, [], ◌∷◌, ◌++◌, IsOk, OnOk, OnErr, IfOk, length, vec_len, vec_capacity};
-ghost use Rattle.serv_disk.specs.DiskCalls.{DiskCall, Wrote, Shortened, Synced, IsImage, now_of, synced_of, written};
-ghost use Rattle.serv_disk.specs.Crashes.{crashed};
+ghost use Rattle.serv_images.specs.DiskCalls.{DiskCall, Wrote, Shortened, Synced, IsImage, now_of, synced_of, written};
+ghost use Rattle.serv_images.specs.Crashes.{crashed};
 
 use crate::tearing::{size_of_crash, tear_all};
 use crate::torn::Torn;
@@ -11,7 +11,7 @@ use svc_base::OutOfMemory;
 
 /// A call that was made. The bytes of all writes stand one after the other in a pool.
 #[derive(Clone, Copy)]
-pub(crate) enum Step {
+pub enum Step {
     Write(u64, u64),
     Cut(u64),
     Sync,
@@ -19,7 +19,7 @@ pub(crate) enum Step {
 
 /// A content, what it was at first and at the last sync, and the calls that made it.
 #[derive(Drop)]
-pub(crate) struct Kept {
+pub struct Kept {
     first: Vec<u8>,
     synced: Vec<u8>,
     content: Vec<u8>,
@@ -29,7 +29,7 @@ pub(crate) struct Kept {
 
 impl Model for Kept {
     ghost use Rattle.std.specs.Prelude.{◌-◌, ◌≤◌, min, [], vec_len, vec_capacity};
-    ghost use Rattle.serv_disk.specs.Kept.{KeptState, IsKept, calls_of};
+    ghost use Rattle.serv_images.specs.Kept.{KeptState, IsKept, calls_of};
 
     ghost Value = { KeptState };
 
@@ -79,7 +79,7 @@ fn lay(file: &mut Vec<u8>, at: usize, bytes: &[u8])
 
 impl Kept {
     /// This content, and no call was made.
-    pub(crate) fn new(content: Vec<u8>) -> Result<Kept, OutOfMemory>
+    pub fn new(content: Vec<u8>) -> Result<Kept, OutOfMemory>
         ensures first { IfOk result (λ k. k.first ≡ content.items) }
         ensures made { IfOk result (λ k. k.made ≡ []) }
     {
@@ -96,7 +96,7 @@ impl Kept {
     }
 
     /// Makes room for that many calls with that many bytes in all.
-    pub(crate) fn reserve(&mut self, calls: usize, bytes: usize) -> Result<(), OutOfMemory>
+    pub fn reserve(&mut self, calls: usize, bytes: usize) -> Result<(), OutOfMemory>
         ensures first { self.new.first ≡ self.old.first }
         ensures made { self.new.made ≡ self.old.made }
         ensures no_less_calls { self.old.room_calls ≤ self.new.room_calls }
@@ -115,7 +115,7 @@ impl Kept {
     }
 
     /// Writes, where there is room.
-    pub(crate) fn write(&mut self, at: usize, bytes: &[u8])
+    pub fn write(&mut self, at: usize, bytes: &[u8])
         requires within { at ≤ length (now_of self.old.first self.old.made) }
         requires calls { 1 ≤ self.old.room_calls }
         requires room { length bytes.now ≤ self.old.room }
@@ -130,7 +130,7 @@ impl Kept {
     }
 
     /// Cuts the content to a length, where there is room.
-    pub(crate) fn cut(&mut self, len: usize)
+    pub fn cut(&mut self, len: usize)
         requires { 1 ≤ self.old.room_calls }
         ensures first { self.new.first ≡ self.old.first }
         ensures made { self.new.made ≡ Shortened len ∷ self.old.made }
@@ -142,7 +142,7 @@ impl Kept {
     }
 
     /// A crash leaves the content from here on, where there is room.
-    pub(crate) fn sync(&mut self)
+    pub fn sync(&mut self)
         requires { 1 ≤ self.old.room_calls }
         ensures first { self.new.first ≡ self.old.first }
         ensures made { self.new.made ≡ Synced ∷ self.old.made }
@@ -155,7 +155,7 @@ impl Kept {
     }
 
     /// The content after a crash.
-    pub(crate) fn crash(&self, torn: Torn, longer: bool) -> Result<Vec<u8>, OutOfMemory>
+    pub fn crash(&self, torn: Torn, longer: bool) -> Result<Vec<u8>, OutOfMemory>
         ensures content { IfOk result (λ file. file.items ≡ crashed torn longer self.now.first self.now.made) }
         ensures image { OnOk result (IsImage self.now.first self.now.made (crashed torn longer self.now.first self.now.made)) }
     {
@@ -167,14 +167,14 @@ impl Kept {
     }
 
     /// How many calls were made.
-    pub(crate) fn count(&self) -> usize
+    pub fn count(&self) -> usize
         ensures { result ≡ length self.now.made }
     {
         self.steps.len()
     }
 
     /// The content.
-    pub(crate) fn content(&self) -> &[u8]
+    pub fn content(&self) -> &[u8]
         ensures { result.now ≡ now_of self.now.first self.now.made }
     {
         &self.content

@@ -3,12 +3,12 @@ use Rattle.std.proofs.Common.{◌≡◌, ℕ, ◌+◌, ◌-◌, ◌<◌, ◌≤�
 use Rattle.std.specs.Prelude.{replicate}
 use Rattle.std.proofs.lemmas.List.{same_lists, get_or-take, get_or-drop, take-take, take_all, take_min, drop_all, length-replicate, length-take-le}
 use Rattle.std.proofs.lemmas.Bool.{cases_lt}
-use Rattle.serv_disk.specs.declared.torn.Torn.{Torn}
-use Rattle.serv_disk.specs.declared.torn.Torn.TheVariants.{Old, New, Zero, Ones}
-use Rattle.serv_disk.specs.Disks.{TornAt}
-use Rattle.serv_disk.specs.DiskCalls.{DiskCall, Wrote, Shortened, Synced, written, now_of, synced_of, AreWithin, IsImage}
-use Rattle.serv_disk.specs.Crashes.{laid, torn_write, torn_file, crash_size, crashed}
-use Rattle.serv_disk.proofs.TearLemmas.{length_written, length_laid, laid_before, laid_inside, laid_after, length_sized, sized_same, take_sized}
+use Rattle.serv_images.specs.declared.torn.Torn.{Torn}
+use Rattle.serv_images.specs.declared.torn.Torn.TheVariants.{Old, New, Zero, Ones}
+use Rattle.serv_images.specs.CutShort.{TornAt}
+use Rattle.serv_images.specs.DiskCalls.{DiskCall, Wrote, Shortened, Synced, written, now_of, synced_of, AreWithin, IsImage}
+use Rattle.serv_images.specs.Crashes.{laid, torn_write, torn_file, crash_size, crashed}
+use Rattle.serv_images.proofs.TearLemmas.{length_written, length_laid, laid_before, laid_inside, laid_after, length_sized, sized_same, take_sized}
 
 -- bytes that are laid leave the same before and after them
 laid_torn : (at : ℕ) (bytes file : List ℕ) → TornAt at (length bytes) file (laid at bytes file)

@@ -1,9 +1,9 @@
 //! What a crash leaves of writes that were not synced.
 
 ghost use Rattle.std.specs.Prelude.{◌≡◌, ℕ, List, [], ◌∷◌, length, max, min, if◌then◌else◌, replicate};
-ghost use Rattle.serv_disk.specs.DiskCalls.{DiskCall};
-ghost use Rattle.serv_disk.specs.Kept.{bytes_of, bytes_in, call_of, calls_of};
-ghost use Rattle.serv_disk.specs.Crashes.{laid, sized, torn_write, torn_file};
+ghost use Rattle.serv_images.specs.DiskCalls.{DiskCall};
+ghost use Rattle.serv_images.specs.Kept.{bytes_of, bytes_in, call_of, calls_of};
+ghost use Rattle.serv_images.specs.Crashes.{laid, sized, torn_write, torn_file};
 
 use crate::kept::Step;
 use crate::torn::Torn;

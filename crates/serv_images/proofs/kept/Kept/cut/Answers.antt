@@ -1,8 +1,8 @@
 use Rattle.std.proofs.Common.{◌∷◌, ap, ◌∙◌, arith}
-use Rattle.serv_disk.specs.DiskCalls.{Shortened}
-use Rattle.serv_disk.specs.Kept.{KeptState}
-use Rattle.serv_disk.proofs.KeptLemmas.{kept_cut, made_cut}
-use Rattle.serv_disk.proofs.kept.Kept.cut.Goals as goal
+use Rattle.serv_images.specs.DiskCalls.{Shortened}
+use Rattle.serv_images.specs.Kept.{KeptState}
+use Rattle.serv_images.proofs.KeptLemmas.{kept_cut, made_cut}
+use Rattle.serv_images.proofs.kept.Kept.cut.Goals as goal
 
 pub invariant_of-self : goal.invariant_of-self
 invariant_of-self c =

@@ -1,8 +1,8 @@
 use Rattle.std.proofs.Common.{◌≡◌, List, [], length, drop}
-use Rattle.serv_disk.specs.DiskCalls.{DiskCall}
-use Rattle.serv_disk.specs.Kept.{bytes_in, calls_of}
-use Rattle.serv_disk.specs.Crashes.{torn_file}
-use Rattle.serv_disk.proofs.tearing.tear_all.Given as goal
+use Rattle.serv_images.specs.DiskCalls.{DiskCall}
+use Rattle.serv_images.specs.Kept.{bytes_in, calls_of}
+use Rattle.serv_images.specs.Crashes.{torn_file}
+use Rattle.serv_images.proofs.tearing.tear_all.Given as goal
 
 -- the calls so far are older than those that are left, and what is left of their writes is laid
 abbrev pub invariant-loop-step : goal.invariant-loop-step

@@ -1,9 +1,9 @@
 use Rattle.std.proofs.Common.{subst}
-use Rattle.serv_disk.specs.DiskCalls.{IsImage}
-use Rattle.serv_disk.specs.Crashes.{crashed}
-use Rattle.serv_disk.specs.Kept.{KeptState}
-use Rattle.serv_disk.proofs.CrashLemmas.{crash_image}
-use Rattle.serv_disk.proofs.kept.Kept.crash.Goals as goal
+use Rattle.serv_images.specs.DiskCalls.{IsImage}
+use Rattle.serv_images.specs.Crashes.{crashed}
+use Rattle.serv_images.specs.Kept.{KeptState}
+use Rattle.serv_images.proofs.CrashLemmas.{crash_image}
+use Rattle.serv_images.proofs.kept.Kept.crash.Goals as goal
 
 pub returns-clause-image : goal.returns-clause-image
 returns-clause-image c =

@@ -1,8 +1,8 @@
 use Rattle.std.proofs.Common.{◌≤◌, arith, sym, ap, ◌∙◌, length-take, length-drop}
 use Rattle.std.specs.Prelude.{replicate}
 use Rattle.std.proofs.lemmas.List.{length-replicate, take-replicate}
-use Rattle.serv_disk.proofs.TearLemmas.{put_laid}
-use Rattle.serv_disk.proofs.tearing.fill_within.Goals as goal
+use Rattle.serv_images.proofs.TearLemmas.{put_laid}
+use Rattle.serv_images.proofs.tearing.fill_within.Goals as goal
 
 pub returns : goal.returns
 returns c =

@@ -1,7 +1,7 @@
 use Rattle.std.proofs.Common.{rules, ◌≡◌, ◌∙◌, ap, length}
-use Rattle.serv_disk.specs.Kept.{KeptState, calls_of}
-use Rattle.serv_disk.proofs.KeptLemmas.{calls_long}
-use Rattle.serv_disk.proofs.kept.Kept.count.Goals as goal
+use Rattle.serv_images.specs.Kept.{KeptState}
+use Rattle.serv_images.proofs.KeptLemmas.{calls_long}
+use Rattle.serv_images.proofs.kept.Kept.count.Goals as goal
 
 pub returns : goal.returns
 returns c =

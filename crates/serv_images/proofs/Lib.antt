@@ -1,0 +1,3 @@
+pub mod CrashLemmas
+pub mod KeptLemmas
+pub mod TearLemmas

@@ -1,0 +1,4 @@
+pub mod CutShort
+pub mod DiskCalls
+pub mod Kept
+pub mod Crashes
