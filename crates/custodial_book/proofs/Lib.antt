@@ -1,2 +1,3 @@
 pub mod CashLemmas
 pub mod RowLemmas
+pub mod SameLemmas

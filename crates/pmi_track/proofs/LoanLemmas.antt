@@ -7,13 +7,12 @@ use Rattle.svc_base.specs.Calendar.{IsDay, IsReadDay, month_of, first_day}
 use Rattle.svc_base.specs.DayLemmas.{month_length_least}
 use Rattle.svc_types.specs.declared.terms.Terms.{Terms}
 use Rattle.svc_types.specs.declared.books.Books.{Books}
-use Rattle.svc_types.specs.declared.replies.Refusal.TheVariants.{NoSuchLoan, FutureDated, BeforeBoarding}
+use Rattle.svc_types.specs.declared.replies.Refusal.TheVariants.{NoSuchLoan, FutureDated}
 use Rattle.svc_types.specs.declared.requests.Query.TheVariants as query
 use Rattle.svc_types.specs.Terms.{IsSound}
-use Rattle.svc_spec.specs.Accounts.{Account, IsAccount, books_of}
+use Rattle.svc_spec.specs.Accounts.{IsAccount, books_of}
 use Rattle.svc_spec.specs.Books.{AreBooks}
 use Rattle.svc_spec.proofs.AccountLemmas.{account_books}
-use Rattle.custodial_book.specs.declared.row.Row.{Row}
 use Rattle.svc_world.specs.declared.answer.Answer.{Answer}
 use Rattle.svc_world.specs.Answers.{answer_from, answer_to, books_answer, query_refusal, refusal_from}
 use Rattle.svc_world.specs.Held.{Held, find_loan}
@@ -51,9 +50,6 @@ has_loan h id t is e =
 -- it is the only one that is found
 pub only_loan : (h : List Accepted) (id : ℕ) (l k : Held) → find_loan id (world h).loans ≡ Some l → find_loan id (world h).loans ≡ Some k → l ≡ k
 only_loan h id l k a b = let e : Some l ≡ Some k = sym a ∙ b in cc
-
-pub loan_is : (h : List Accepted) (id : ℕ) (t : Terms) (k : HasLoan h id t) (P : Account → Type 0) → P k.held.account → OfLoan h id P
-loan_is h id t k P is = λ l found. subst (λ (x : Held). P x.account) (only_loan h id k.held l k.found found) is
 
 pub loan_sound : (h : List Accepted) (id : ℕ) (t : Terms) → HasLoan h id t → IsSound t
 loan_sound h id t k = subst IsSound k.terms k.account.terms
@@ -118,14 +114,6 @@ late_refused h id t day k after =
     let late : nat_lt w.today day ≡ true = grind (arith, nat_tests) in
     ap (λ o. first_of (option_map_or (day_cases w day) o (case true NoSuchLoan ∷ []))) k.found ∙ (rw late refl)
 
-pub early_refused : (h : List Accepted) (id : ℕ) (t : Terms) (day : ℕ) → HasLoan h id t → day ≤ (world h).today → day < t.boarded → day_refusal h id day ≡ Some (BeforeBoarding t.boarded)
-early_refused h id t day k until before =
-    let w = world h in
-    let e = ap (λ (x : Terms). x.boarded) k.terms in
-    let late : nat_lt w.today day ≡ false = grind (arith, nat_tests) in
-    let early : nat_lt day k.held.account.terms.boarded ≡ true = grind (arith, nat_tests, e) in
-    ap (λ o. first_of (option_map_or (day_cases w day) o (case true NoSuchLoan ∷ []))) k.found ∙ (rw (late, early) refl) ∙ ap (λ d. Some (BeforeBoarding d)) e
-
 -- between them each day is one that a request can name
 pub day_between : (h : List Accepted) (id : ℕ) (t : Terms) (day : ℕ) → HasLoan h id t → IsDay day → day ≤ (world h).today → t.boarded ≤ day → IsReadDay day
 day_between h id t day k exists until since =
@@ -134,12 +122,6 @@ day_between h id t day k exists until since =
     record { exists = exists; first = omega arith; last = omega arith }
 
 -- ---- first days
-
-pub first_told : (h : List Accepted) (id : ℕ) (t : Terms) (month : ℕ) → HasLoan h id t → IsLater h t month → day_refusal h id (first_day month) ≡ None
-first_told h id t month k later =
-    let since = later.since in
-    let until = later.until in
-    day_told h id t (first_day month) k (omega arith) (omega arith)
 
 pub first_read : (h : List Accepted) (id : ℕ) (t : Terms) (month : ℕ) → HasLoan h id t → IsLater h t month → IsReadDay (first_day month)
 first_read h id t month k later =

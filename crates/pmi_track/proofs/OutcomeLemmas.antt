@@ -1,6 +1,6 @@
 -- What is said of an insured loan, from what was found of it.
-use Rattle.std.proofs.Common.{◌≡◌, ℕ, ◌+◌, ◌≤◌, List, [], ◌∷◌, arith, refl, sym, ap, ◌∙◌}
-use Rattle.std.specs.Prelude.{true, Option, Some, None}
+use Rattle.std.proofs.Common.{◌≡◌, ℕ, ◌+◌, ◌≤◌, List, [], ◌∷◌, arith, refl, ap, ◌∙◌}
+use Rattle.std.specs.Prelude.{true, Some, None}
 use Rattle.std.specs.List.{sum_by}
 use Rattle.std.specs.Option.{option_map, option_map_or}
 use Rattle.svc_types.specs.declared.terms.Terms.{Terms}
@@ -9,24 +9,16 @@ use Rattle.svc_spec.specs.Accounts.{Account}
 use Rattle.svc_world.specs.Held.{Held, find_loan}
 use Rattle.svc_world.specs.World.{World, Accepted, world}
 use Rattle.svc_world.specs.Refusals.{case, first_of, on_loan}
-use Rattle.svc_core.specs.Costs.{asking_month}
 use Rattle.pmi_track.specs.declared.insured_loan.InsuredLoan.{InsuredLoan}
-use Rattle.pmi_track.specs.declared.pmi_outcome.PmiOutcome.{PmiOutcome}
-use Rattle.pmi_track.specs.declared.pmi_outcome.Cause.{Cause}
-use Rattle.pmi_track.specs.declared.pmi_outcome.Denial.{Denial}
-use Rattle.pmi_track.specs.Insurance.{months_since, denial_of, automatic_end, outcome_by, outcome_of}
+use Rattle.pmi_track.specs.Insurance.{months_since}
 use Rattle.pmi_track.specs.Loans.{OfLoan, terms_in, day_refusal}
-use Rattle.pmi_track.specs.Insured.{asked_cases, insurance_refusal, outcome_in, asked_cost, account_cost, outcome_cost}
+use Rattle.pmi_track.specs.Insured.{asked_cases, insurance_refusal, asked_cost, account_cost, outcome_cost}
 use Rattle.pmi_track.proofs.LoanLemmas.{HasLoan}
 
 -- ---- refusals
 
 pub not_there : (w : World) (i : InsuredLoan) → find_loan i.loan w.loans ≡ None → insurance_refusal w i ≡ Some NoSuchLoan
 not_there w i e = ap (λ o. first_of (option_map_or (asked_cases w i.asked) o (case true NoSuchLoan ∷ []))) e
-
-pub unasked : (w : World) (i : InsuredLoan) (l : Held) → find_loan i.loan w.loans ≡ Some l → i.asked ≡ None → insurance_refusal w i ≡ None
-unasked w i l found e =
-    ap (λ o. first_of (option_map_or (asked_cases w i.asked) o (case true NoSuchLoan ∷ []))) found ∙ ap (λ a. first_of (asked_cases w a l)) e
 
 pub asked_refusal : (h : List Accepted) (i : InsuredLoan) (day : ℕ) → i.asked ≡ Some day → insurance_refusal (world h) i ≡ day_refusal h i.loan day
 asked_refusal h i day e = ap (λ a. first_of (on_loan (world h) i.loan (asked_cases (world h) a))) e
@@ -41,32 +33,11 @@ no_terms w id e =
 
 -- ---- outcomes
 
-pub outcome_told : (h : List Accepted) (i : InsuredLoan) (t : Terms) (d : Option Denial) (e : Option (ℕ × Cause)) (o : PmiOutcome) → HasLoan h i.loan t → o ≡ outcome_by i.asked d e
-    → OfLoan h i.loan (λ a. d ≡ denial_of a i.value i.asked) → OfLoan h i.loan (λ a. e ≡ automatic_end a i.value) → outcome_in (world h) i ≡ Some o
-outcome_told h i t d e o k is denial automatic =
-    let f = λ (l : Held). outcome_of l.account i.value i.asked in
-    ap (option_map f) k.found
-    ∙ ap Some (sym (is ∙ ap (λ x. outcome_by i.asked x e) (denial k.held k.found)
-    ∙ ap (outcome_by i.asked (denial_of k.held.account i.value i.asked)) (automatic k.held k.found)))
-
 -- ---- steps
-
-pub month_steps : (cost : Account → ℕ → ℕ) (w : World) (id month : ℕ) (l : Held) → find_loan id w.loans ≡ Some l → asking_month cost w id month ≡ cost l.account month
-month_steps cost w id month l found = ap (λ o. option_map_or (λ (k : Held). cost k.account month) o 0) found
 
 pub outcome_steps : (cost : Account → ℕ → ℕ) (h : List Accepted) (i : InsuredLoan) (t : Terms) (k : HasLoan h i.loan t)
     → outcome_cost cost (world h) i ≡ asked_cost cost i.asked k.held.account + sum_by (cost k.held.account) (months_since k.held.account)
 outcome_steps cost h i t k = ap (λ o. option_map_or (λ (l : Held). account_cost cost i.asked l.account) o 0) k.found
-
--- the steps of the request and of the walk
-pub both_steps : (cost : Account → ℕ → ℕ) (h : List Accepted) (i : InsuredLoan) (t : Terms) (old mid new : ℕ) → HasLoan h i.loan t
-    → OfLoan h i.loan (λ a. mid ≤ old + asked_cost cost i.asked a) → OfLoan h i.loan (λ a. new ≤ mid + sum_by (cost a) (months_since a))
-    → new ≤ old + outcome_cost cost (world h) i
-both_steps cost h i t old mid new k first second =
-    let e = outcome_steps cost h i t k in
-    let one = first k.held k.found in
-    let two = second k.held k.found in
-    omega (arith, e, one, two)
 
 -- those of the request alone
 pub first_steps : (cost : Account → ℕ → ℕ) (h : List Accepted) (i : InsuredLoan) (t : Terms) (old new : ℕ) → HasLoan h i.loan t

@@ -1,6 +1,6 @@
 -- From the clauses of the parser to what the bytes so far are, as a head.
 use Rattle.std.proofs.Common.{◌≡◌, ◌≢◌, ℕ, ◌≤◌, ◌↔◌, inr, Bool, true, false, List, [], length, map, take, drop, refl, sym, ap, ◌∙◌, subst, arith, append-nil, length-take, None}
-use Rattle.std.specs.Prelude.{IsTrue, IsUtf8, is_some}
+use Rattle.std.specs.Prelude.{IsTrue, is_some}
 use Rattle.std.proofs.lemmas.Bool.{false≢true}
 use Rattle.std.proofs.lemmas.List.{length-map}
 use Rattle.httparse.specs.declared.Error.{Error}
@@ -30,10 +30,6 @@ fields-fit s headers spans h w x =
       length-take spans.headers headers,
       w.section.count_fits,
     )
-
--- the target of a head that the parser found is text
-pub text-found : (s : List ℕ) (headers : List HeaderSpan) (spans : RequestSpans) → IsRequestOf s headers spans → IsUtf8 (target_at s spans)
-text-found s headers spans x = subst IsUtf8 (sym x.1.path) x.1.reads.0.target_text
 
 plan-is : (s : List ℕ) (headers : List HeaderSpan) (spans : RequestSpans) (h : RequestHead) (p : Plan) → IsRequestAt s headers spans h
     → IsPlanOf (map (header_bytes s) (take spans.headers headers)) spans.version (method_at s spans) (target_at s spans) p → IsPlan h p

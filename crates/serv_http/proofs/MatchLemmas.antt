@@ -91,15 +91,6 @@ rest-text (b ∷ p) x = elim (eqb b 47) as (λ v. IsText (cond v (b ∷ p) (rest
   | false ↦ rest-text p x.1
 ]
 
-rest-shorter : (p : List ℕ) → length (rest_of p) ≤ length p
-rest-shorter [] = omega arith
-rest-shorter (b ∷ p) =
-    let l = rest-shorter p in
-    elim (eqb b 47) as (λ v. length (cond v (b ∷ p) (rest_of p)) ≤ suc (length p)) [
-      | true ↦ omega arith
-      | false ↦ omega arith
-    ]
-
 -- the suffix that stands for the end of a segment cuts a path where a part stands before it
 no-cut : (d : List ℕ) → IsSlashless d → pointwise nat_eq (47 ∷ []) d ≡ false
 no-cut [] all = refl

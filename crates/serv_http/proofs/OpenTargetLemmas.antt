@@ -1,10 +1,9 @@
 -- What the scan for a target found, and whether the stream ends inside one.
-use Rattle.std.proofs.Common.{◌≡◌, ◌≢◌, ℕ, ◌+◌, ◌<◌, ◌≤◌, ◌↔◌, inl, inr, Bool, true, false, eqb, not, ◌&&◌, List, [], ◌∷◌, ◌++◌, length, take, drop, get_or, refl, sym, ap, ◌∙◌, subst, arith, append_assoc, length-take, get_or-take}
+use Rattle.std.proofs.Common.{◌≡◌, ◌≢◌, ℕ, ◌+◌, ◌<◌, ◌≤◌, ◌↔◌, inl, inr, Bool, true, false, eqb, not, ◌&&◌, List, [], ◌∷◌, ◌++◌, length, refl, sym, ap, ◌∙◌, subst, append_assoc}
 use Rattle.std.specs.Prelude.{IsTrue}
 use Rattle.std.specs.List.{list_all}
-use Rattle.std.proofs.lemmas.Bool.{cases_Bool, both_ways, eqb-true, ne_eqb, ltb-true, lt-ltb, and_parts, and_from}
-use Rattle.std.proofs.lemmas.List.{drop_more, take-append-drop}
-use Rattle.std.proofs.lemmas.List.Elements.{All-nil, All-cons, All-head, All-tail, All-weaker, All-from_get_or}
+use Rattle.std.proofs.lemmas.Bool.{cases_Bool, both_ways, eqb-true, ltb-true, lt-ltb, and_parts, and_from}
+use Rattle.std.proofs.lemmas.List.Elements.{All-nil, All-cons, All-head, All-tail, All-weaker}
 use Rattle.httparse.specs.Grammar.{is_token_byte, is_token, is_uri_byte, AllPass, LineEnd, print_end, print_blank, EndsInTarget}
 use Rattle.httparse.specs.Pieces.{Begins, Newline, Stops, is_newline}
 use Rattle.httparse.proofs.RunLemmas.{run_unique, run_unstopped}
@@ -75,21 +74,6 @@ open-parts {rest} x (blank, method, target, token, passes, e) = record {
 pub record IsCut (rest word more : List ℕ) : Type 0 where
   pub other : AllPass (is_other 32) word
   pub cut : rest ≡ word ++ 32 ∷ more
-
-pub cut-at : (buf : List ℕ) (i : ℕ) → i < length buf → ((k : ℕ) → k < i → get_or buf k 0 ≢ 32) → get_or buf i 0 ≡ 32
-    → IsCut buf (take i buf) (drop (i + 1) buf)
-cut-at buf i inside before here = record {
-  other = All-from_get_or (λ b. is_other 32 b ≡ true) (take i buf) 0 λ k l.
-      let small : k < i = omega (arith, length-take i buf) in
-      ap not (ne_eqb (get_or (take i buf) k 0) 32 (λ e. before k small (sym (get_or-take i buf k 0 small) ∙ e)));
-  cut = sym (take-append-drop i buf)
-      ∙ ap (λ (t : List ℕ). take i buf ++ t) (drop_more buf i 0 inside ∙ ap (λ (b : ℕ). b ∷ drop (i + 1) buf) here);
-}
-
-pub all-other : (buf : List ℕ) (i : ℕ) → length buf ≤ i → ((k : ℕ) → k < i → get_or buf k 0 ≢ 32) → AllPass (is_other 32) buf
-all-other buf i past before =
-    All-from_get_or (λ b. is_other 32 b ≡ true) buf 0 λ k l.
-    ap not (ne_eqb (get_or buf k 0) 32 (before k (omega arith)))
 
 -- the word is the method, and what follows it the target
 pub word-decides : {rest word more : List ℕ} → IsCut rest word more

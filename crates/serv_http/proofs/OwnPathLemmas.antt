@@ -3,10 +3,12 @@ use Rattle.std.proofs.Common.{◌≡◌, ◌≢◌, ℕ, ◌+◌, ◌/◌, ◌%�
 use Rattle.std.specs.Prelude.{All}
 use Rattle.std.specs.List.{list_any, list_all}
 use Rattle.std.proofs.lemmas.Bool.{ne_eqb, and_parts}
-use Rattle.std.proofs.lemmas.Fmt.{decimal_by_steps, decimal_nonempty}
+use Rattle.std.proofs.lemmas.List.Sums.{AllPass-from_list_all}
+use Rattle.std.proofs.lemmas.Fmt.{decimal_nonempty}
 use Rattle.std.proofs.lemmas.List.Elements.{All-nil, All-cons, All-append, All-head, All-tail, All-weaker}
 use Rattle.svc_base.specs.Calendar.{IsReadDay}
 use Rattle.svc_base.specs.Text.{two_digits, four_digits, text_of_number, text_of_day, text_of_month, IsReadMonth}
+use Rattle.svc_base.proofs.ByteLemmas.{OfDigits, each_of_number, each_of_month, each_of_day}
 use Rattle.svc_types.specs.Keys.{IsKey, is_key_byte}
 use Rattle.svc_types.specs.Requests.{IsQuery}
 use Rattle.svc_types.specs.declared.requests.Query.{Query}
@@ -29,59 +31,32 @@ record IsOwn (text : List ℕ) : Type 0 where
 plain : (b : ℕ) → b < 256 → b ≢ 47 → b ≢ 63 → IsPlain b
 plain b l m n = record { byte = l; one = m; path = n }
 
-digit : (n : ℕ) → n < 10 → IsPlain (48 + n)
-digit n l = plain (48 + n) (omega arith) (λ e. omega arith) (λ e. omega arith)
+digits : OfDigits IsPlain 9
+digits d l = plain (48 + d) (omega arith) (λ e. omega arith) (λ e. omega arith)
 
 dash : IsPlain 45
 dash = plain 45 (omega arith) (λ e. omega arith) (λ e. omega arith)
 
-pair : (n : ℕ) → n < 100 → All IsPlain (two_digits n)
-pair n l =
-    All-cons IsPlain (48 + n / 10) ((48 + n % 10) ∷ []) (digit (n / 10) (omega arith))
-    (All-cons IsPlain (48 + n % 10) [] (digit (n % 10) (omega arith)) (All-nil IsPlain))
-
 number-own : (n : ℕ) → n < 2 ^ 32 → IsOwn (text_of_number n)
-number-own n l =
-    record {
-      some = decimal_nonempty n (omega arith);
-      each = decimal_by_steps (λ _ ds. All IsPlain ds)
-          (λ m small. All-cons IsPlain (48 + m) [] (digit m small) (All-nil IsPlain))
-          (λ m ds large all. All-append IsPlain ds ((48 + m % 10) ∷ []) all
-          (All-cons IsPlain (48 + m % 10) [] (digit (m % 10) (omega arith)) (All-nil IsPlain)))
-          n (omega arith);
-    }
-
-month-each : (m : ℕ) → m / 12 ≤ 2099 → All IsPlain (text_of_month m)
-unfolding text_of_month
-month-each m l =
-    All-append IsPlain (four_digits (m / 12)) (45 ∷ two_digits (m % 12 + 1))
-    (All-append IsPlain (two_digits (m / 12 / 100)) (two_digits (m / 12 % 100)) (pair (m / 12 / 100) (omega arith)) (pair (m / 12 % 100) (omega arith)))
-    (All-cons IsPlain 45 (two_digits (m % 12 + 1)) dash (pair (m % 12 + 1) (omega arith)))
+number-own n l = record { some = decimal_nonempty n (omega arith); each = each_of_number IsPlain n digits (omega arith) }
 
 month-own : (m : ℕ) → IsReadMonth m → IsOwn (text_of_month m)
 unfolding text_of_month
-month-own m is = record { some = omega arith; each = month-each m is.last }
+month-own m is = record { some = omega arith; each = each_of_month IsPlain 9 m digits dash (omega arith) (let y = is.last in omega arith) }
 
 day-own : (d : ℕ) → IsReadDay d → IsOwn (text_of_day d)
 unfolding text_of_day text_of_month
-day-own d is =
-    record {
-      some = omega arith;
-      each = All-append IsPlain (text_of_month (d / 31)) (45 ∷ two_digits (d % 31 + 1)) (month-each (d / 31) (let y = is.last in omega arith))
-          (All-cons IsPlain 45 (two_digits (d % 31 + 1)) dash (pair (d % 31 + 1) (omega arith)));
-    }
+day-own d is = record { some = omega arith; each = each_of_day IsPlain 9 d digits dash (omega arith) (let y = is.last in omega arith) }
 
 key-byte : (b : ℕ) → is_key_byte b ≡ true → IsPlain b
 key-byte b h = plain b (grind arith) (λ e. grind arith) (λ e. grind arith)
 
-key-bytes : (text : List ℕ) → list_all is_key_byte text ≡ true → All IsPlain text
-key-bytes [] h = All-nil IsPlain
-key-bytes (b ∷ text) h =
-    let parts = and_parts (is_key_byte b) (list_all is_key_byte text) h in
-    All-cons IsPlain b text (key-byte b parts.0) (key-bytes text parts.1)
-
 key-own : (key : List ℕ) → IsKey key → IsOwn key
-key-own key k = record { some = (let l = k.low in omega arith); each = key-bytes key k.each }
+key-own key k =
+    record {
+      some = (let l = k.low in omega arith);
+      each = All-weaker (λ b. is_key_byte b ≡ true) IsPlain key-byte key (AllPass-from_list_all is_key_byte key k.each);
+    }
 
 part : (text : List ℕ) → IsOwn text → IsPart text
 part text x = record { some = x.some; one = All-weaker IsPlain (λ b. b ≢ 47) (λ b h. h.one) text x.each }

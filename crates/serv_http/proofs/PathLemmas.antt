@@ -47,12 +47,6 @@ pub with-day : (path before number middle day : List ℕ) → path ≡ before ++
 with-day path before number middle day e =
     e ∙ ap (λ (t : List ℕ). before ++ t) (sym (append_assoc number middle day)) ∙ sym (append_assoc before (number ++ middle) day)
 
-pub day-with : (path front before number middle day : List ℕ) → path ≡ front ++ day → front ≡ before ++ (number ++ middle)
-    → path ≡ before ++ (number ++ (middle ++ day))
-day-with path front before number middle day e f =
-    e ∙ ap (λ (t : List ℕ). t ++ day) f ∙ append_assoc before (number ++ middle) day
-    ∙ ap (λ (t : List ℕ). before ++ t) (append_assoc number middle day)
-
 pub books-spell : (path : List ℕ) (l : ℕ) → l < 2 ^ 32 → path ≡ codes "/v1/loans/" ++ (text_of_number l ++ codes "/books")
     → Spells route.Books path (Books l)
 unfolding path_of_query
@@ -250,7 +244,3 @@ pub no-key : (path : List ℕ) → ((key : List ℕ) → IsKey key → path ≢ 
 unfolding path_of_query
 no-key path h (Key key) x = h key x.formed x.spelled
 no-key path h q x = absurd (let e = x.routed in cc e)
-
-pub no-commands : (path : List ℕ) (q : Query) → ¬ (Spells route.Commands path q)
-no-commands path (Books l) x = absurd (let e = x.routed in cc e)
-no-commands path q x = absurd (let e = x.routed in cc e)

@@ -42,10 +42,6 @@ nothing-over = refl
 no-feed : (b : ℕ) → is_newline b ≡ false → b ≢ 10
 no-feed b other e = false≢true (sym other ∙ ap is_newline e)
 
--- nothing is counted of nothing
-pub counted-nothing : (head : List ℕ) → IsCounted (take 0 head) Blank
-counted-nothing head = record { within = refl; goes_on = λ more. refl }
-
 module _ (s : List ℕ) (b : ℕ) where
   more-of : (lines : LineCount) → IsCounted s lines → (more : List ℕ) → lines_over ((s ++ b ∷ []) ++ more) ≡ lines_on lines s (b ∷ more)
   more-of lines x more = ap lines_over (append_assoc s (b ∷ []) more) ∙ x.goes_on (b ∷ more)

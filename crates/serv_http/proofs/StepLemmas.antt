@@ -139,15 +139,6 @@ not-awaited s piece k a t first awaited =
     first-not-awaited (s ++ piece) a (t ++ drop k piece)
     (subst (λ (x : List ℕ). IsFirst x a (t ++ drop k piece)) cut (first-grows (s ++ take k piece) (drop k piece) a t first)) awaited
 
--- what is written of a piece to the room of the head
-pub head-text : (head head' s more : List ℕ) (filled : ℕ) → s ≡ take filled head → filled ≤ length head
-    → head' ≡ take filled head ++ more ++ drop (filled + length more) head → take (filled + length more) head' ≡ s ++ more
-head-text head head' s more filled e l f =
-    ap (take (filled + length more)) f
-    ∙ take_at (take filled head ++ more) (drop (filled + length more) head) (filled + length more)
-    (omega (arith, length-append (take filled head) more, length-take filled head))
-    ∙ ap (λ (t : List ℕ). t ++ more) (sym e)
-
 -- a head alone is a head
 head-exact : (s : List ℕ) (h : RequestHead) → HasHead s h → length (print_request h) ≤ head_limit → HasHead (print_request h) h
 head-exact s h x short = head-in-limits h x.reads.0 x.lines short
@@ -187,10 +178,6 @@ pub whole-pass : (s : List ℕ) (h : RequestHead) (n : ℕ) (due : Due) → IsWh
 whole-pass s h n due x p =
     record { head = h; here = x.here; total = n; planned = p; count = omega (arith, ap length x.alone) }
 
-pub whole-keep : (room s : List ℕ) (h : RequestHead) (n : ℕ) (last : Bool) → IsWhole s h → IsPlan h (Keep n last) → IsKeeping room 0 n last s
-whole-keep room s h n last x p =
-    record { head = h; here = x.here; planned = p; text = x.alone; count = ap length x.alone }
-
 -- where the head may go on, all of the piece was added
 pub all-added : (s piece : List ℕ) (filled count : ℕ) → length s ≡ filled → filled < head_limit
     → count ≡ min (length piece) (head_limit - filled) → ¬ (IsClosed (s ++ take count piece))
@@ -225,9 +212,6 @@ step-fault s piece c used status l first stage filled = (l, (s ++ take used piec
 pub begun-keeping : (c : Conn) (have need : ℕ) (last : Bool) (s : List ℕ) → c.stage ≡ Keeping have need last → BegunFor c s
     → IsKeeping c.body have need last s
 begun-keeping c have need last s e x = subst (λ (g : Stage). BegunAt c g s) e x
-
-pub begun-passing : (c : Conn) (left : ℕ) (due : Due) (s : List ℕ) → c.stage ≡ Passing left due → BegunFor c s → IsPassing left due s
-begun-passing c left due s e x = subst (λ (g : Stage). BegunAt c g s) e x
 
 stands-begun-at : (c : Conn) (g : Stage) (s : List ℕ) → (g ≡ Heading → ⊥) → StandsAt c g s → BegunAt c g s
 stands-begun-at c Heading s other x = absurd (other refl)

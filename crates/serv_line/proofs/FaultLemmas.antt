@@ -36,13 +36,6 @@ pub opening_misfit : (first : List ℕ) (words : List (List ℕ)) (left : ℕ) �
 opening_misfit first words left not e =
     record { place = 0; first = record { before = λ k h. absurd (omega arith); here = not }; bytes = e }
 
-pub no_name : (first : List ℕ) → IsOpening first → IsLeftAt (Fits (first ∷ [])) (first ∷ []) 0
-no_name first opening =
-    record { place = 1; first = record { before = before; here = λ h. h }; bytes = refl } where
-      before : (k : ℕ) → k < 1 → Fits (first ∷ []) k
-      before zero h = opening
-      before (suc k) h = absurd (omega arith)
-
 pub name_misfit : (first name : List ℕ) (words : List (List ℕ)) (left : ℕ) → IsOpening first → (NamesForm first name → ⊥) → left ≡ length (joined (name ∷ words))
     → IsLeftAt (Fits (first ∷ name ∷ words)) (first ∷ name ∷ words) left
 name_misfit first name words left opening not e =
@@ -70,9 +63,6 @@ fields_misfit first name fields words left opening named one l =
 
 -- ---- commands
 
-pub command_no_name : (key : List ℕ) → IsKey key → IsLeftAt (Fits (key ∷ [])) (key ∷ []) 0
-command_no_name key k = no_name key (inr k)
-
 pub command_name_misfit : (key : List ℕ) (text : Bor (List ℕ)) (name : List ℕ) (rest : Option (Bor (List ℕ))) → IsKey key → words_of text.now ≡ name ∷ words_left rest
     → ((f : Form) → name ≢ word_of f) → IsLeftAt (Fits (key ∷ words_of text.now)) (key ∷ words_of text.now) (length text.now)
 command_name_misfit key text name rest k split none =
@@ -94,9 +84,6 @@ command_fields_misfit key words name rest f left k split e l =
     subst P are (fields_misfit key (word_of f) (fields_of f) (words_left rest) left (inr k) (command f k refl) (λ g n. command_named key f g k n) l)
 
 -- ---- queries
-
-pub query_no_name : IsLeftAt (Fits (codes "?" ∷ [])) (codes "?" ∷ []) 0
-query_no_name = no_name (codes "?") (inl refl)
 
 pub query_name_misfit : (text : Bor (List ℕ)) (name : List ℕ) (rest : Option (Bor (List ℕ))) → words_of text.now ≡ name ∷ words_left rest
     → ((q : Question) → name ≢ word_of_question q) → IsLeftAt (Fits (codes "?" ∷ words_of text.now)) (codes "?" ∷ words_of text.now) (length text.now)

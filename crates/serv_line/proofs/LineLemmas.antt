@@ -4,11 +4,14 @@ use Rattle.std.specs.Prelude.{map, slice_get, codes, ◌==◌, ◌&&◌, nat_lt}
 use Rattle.std.specs.List.{All, list_all}
 use Rattle.std.proofs.lemmas.List.Splits.{slice_split_none, slice_split_at}
 use Rattle.std.proofs.lemmas.List.Elements.{All-cons, All-nil, All-append, All-weaker}
+use Rattle.std.proofs.lemmas.List.Sums.{AllPass-from_list_all}
 use Rattle.std.proofs.lemmas.Option.{slice_get-map}
-use Rattle.std.proofs.lemmas.Fmt.{length-decimal-le, decimal_by_steps}
+use Rattle.std.proofs.lemmas.Fmt.{length-decimal-le}
 use Rattle.std.proofs.lemmas.Int.{ints}
 use Rattle.std.specs.Fmt.{decimal}
-use Rattle.svc_base.specs.Text.{two_digits, four_digits, text_of_number, text_of_cents, text_of_amount, text_of_month, text_of_day, IsReadAmount}
+use Rattle.svc_base.specs.Text.{two_digits, four_digits, text_of_number, text_of_cents, text_of_amount, text_of_month, text_of_day, IsReadAmount, IsReadMonth}
+use Rattle.svc_base.specs.Calendar.{IsReadDay}
+use Rattle.svc_base.proofs.ByteLemmas.{OfDigits, each_of_cents, each_of_day, each_of_month, each_of_number}
 use Rattle.svc_types.specs.Keys.{IsKey, is_key_byte}
 use Rattle.svc_types.specs.Requests.{IsRequest}
 use Rattle.svc_types.specs.Words.{text_of_type, text_of_kind, text_of_surplus, text_of_part, text_of_designation, IsReadPart, IsNamed}
@@ -58,23 +61,13 @@ is_visible b = nat_lt 32 b
 
 visible_bytes : (text : List ℕ) → list_all is_visible text ≡ true → AreVisible text
 unfolding is_visible
-visible_bytes [] h = All-nil (λ b. 32 < b)
-visible_bytes (b ∷ text) h =
-    elim (nat_lt 32 b) as (λ v. nat_lt 32 b ≡ v → (v && list_all is_visible text) ≡ true → AreVisible (b ∷ text)) [
-      | true ↦ λ e k. All-cons (λ b. 32 < b) b text (grind arith) (visible_bytes text k)
-      | false ↦ λ e k. absurd cc
-    ] refl h
+visible_bytes text h = All-weaker (λ b. is_visible b ≡ true) (λ b. 32 < b) (λ b e. grind arith) text (AllPass-from_list_all is_visible text h)
 
 key_byte : (b : ℕ) → is_key_byte b ≡ true → 32 < b
 key_byte b h = grind arith
 
 key_bytes : (text : List ℕ) → list_all is_key_byte text ≡ true → AreVisible text
-key_bytes [] h = All-nil (λ b. 32 < b)
-key_bytes (b ∷ text) h =
-    elim (is_key_byte b) as (λ v. is_key_byte b ≡ v → (v && list_all is_key_byte text) ≡ true → AreVisible (b ∷ text)) [
-      | true ↦ λ e k. All-cons (λ b. 32 < b) b text (key_byte b e) (key_bytes text k)
-      | false ↦ λ e k. absurd cc
-    ] refl h
+key_bytes text h = All-weaker (λ b. is_key_byte b ≡ true) (λ b. 32 < b) key_byte text (AllPass-from_list_all is_key_byte text h)
 
 key_word : (key : List ℕ) → IsKey key → IsWord key
 key_word key k = record { visible = key_bytes key k.each; short = k.high }
@@ -84,36 +77,23 @@ plain word h short = record { visible = visible_bytes word h; short = short }
 
 -- ---- numbers, amounts, months and days
 
-visible_pair : (n : ℕ) → AreVisible (two_digits n)
-visible_pair n = All-cons (λ b. 32 < b) (48 + n / 10) ((48 + n % 10) ∷ []) (omega arith) (All-cons (λ b. 32 < b) (48 + n % 10) [] (omega arith) (All-nil (λ b. 32 < b)))
-
-visible_marked : (text : List ℕ) (mark n : ℕ) → AreVisible text → 32 < mark → AreVisible (text ++ mark ∷ two_digits n)
-visible_marked text mark n all h = All-append (λ b. 32 < b) text (mark ∷ two_digits n) all (All-cons (λ b. 32 < b) mark (two_digits n) h (visible_pair n))
+digits : OfDigits (λ b. 32 < b) 9
+digits d h = omega arith
 
 visible_number : (n : ℕ) → n < 2 ^ 64 → AreVisible (text_of_number n)
-visible_number n h =
-    let P : ℕ → List ℕ → Type 0 = λ _ ds. AreVisible ds in
-    decimal_by_steps P
-    (λ m small. All-cons (λ b. 32 < b) (48 + m) [] (omega arith) (All-nil (λ b. 32 < b)))
-    (λ m ds large all. All-append (λ b. 32 < b) ds ((48 + m % 10) ∷ []) all (All-cons (λ b. 32 < b) (48 + m % 10) [] (omega arith) (All-nil (λ b. 32 < b))))
-    n h
+visible_number n h = each_of_number (λ b. 32 < b) n digits h
 
 visible_amount : (z : ℤ) → IsReadAmount z → AreVisible (text_of_amount z)
-unfolding text_of_cents
 visible_amount (pos n) read =
     let small : n < 10 ^ 13 = (let h : pos n <ℤ pos (10 ^ 13) = read.high in grind (arith, ints)) in
-    visible_marked (decimal (n / 100)) 46 (n % 100) (visible_number (n / 100) (omega arith)) (omega arith)
+    each_of_cents (λ b. 32 < b) n digits (omega arith) (omega arith)
 visible_amount (negsuc n) read = absurd (let h : pos 0 ≤ℤ negsuc n = read.low in grind (arith, ints))
 
-visible_month : (m : ℕ) → AreVisible (text_of_month m)
-unfolding text_of_month
-visible_month m =
-    visible_marked (four_digits (m / 12)) 45 (m % 12 + 1)
-    (All-append (λ b. 32 < b) (two_digits (m / 12 / 100)) (two_digits (m / 12 % 100)) (visible_pair (m / 12 / 100)) (visible_pair (m / 12 % 100))) (omega arith)
+visible_month : (m : ℕ) → IsReadMonth m → AreVisible (text_of_month m)
+visible_month m is = each_of_month (λ b. 32 < b) 9 m digits (omega arith) (omega arith) (let y = is.last in omega arith)
 
-visible_day : (d : ℕ) → AreVisible (text_of_day d)
-unfolding text_of_day
-visible_day d = visible_marked (text_of_month (d / 31)) 45 (d % 31 + 1) (visible_month (d / 31)) (omega arith)
+visible_day : (d : ℕ) → IsReadDay d → AreVisible (text_of_day d)
+visible_day d is = each_of_day (λ b. 32 < b) 9 d digits (omega arith) (omega arith) (let y = is.last in omega arith)
 
 -- ---- the other values
 
@@ -178,8 +158,8 @@ day_length_is d = refl
 value_word : (v : Value) → IsReadValue v → IsWord (text_of_value v)
 value_word (value.Number n) h = let w = number_word n h in record { visible = w.0; short = (let s = w.1 in omega arith) }
 value_word (value.Amount z) h = record { visible = visible_amount z h; short = amount_short z h }
-value_word (value.Day d) h = record { visible = visible_day d; short = omega (arith, day_length_is d) }
-value_word (value.Month m) h = record { visible = visible_month m; short = omega (arith, month_length_is m) }
+value_word (value.Day d) h = record { visible = visible_day d h; short = omega (arith, day_length_is d) }
+value_word (value.Month m) h = record { visible = visible_month m h; short = omega (arith, month_length_is m) }
 value_word (value.Type t) h = type_word t
 value_word (value.Kind k) h = kind_word k
 value_word (value.Surplus s) h = surplus_word s

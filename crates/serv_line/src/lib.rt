@@ -21,4 +21,5 @@ pub use replies::{
     push_bad, push_found, push_full, push_parts, push_reply, write_bad, write_full, write_reply,
 };
 pub use values::{push_value, push_values};
+pub use words::next_word;
 pub use writing::{push_line, write_line};

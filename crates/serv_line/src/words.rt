@@ -6,7 +6,7 @@ ghost use Rattle.serv_line.specs.Lines.{words_of, words_left};
 
 /// The first word of a text, and what is left after the space that ends it.
 #[tactic(auto, using(crate::proofs::WordLemmas::one_word))]
-pub(crate) fn next_word(text: &[u8]) -> (&[u8], Option<&[u8]>)
+pub fn next_word(text: &[u8]) -> (&[u8], Option<&[u8]>)
     ensures { words_of text.now ≡ result.0.now ∷ words_left result.1 }
 {
     match first_space(text) {

@@ -1,8 +1,6 @@
 -- Amounts and months of a statement, from their texts.
-use Rattle.std.proofs.Common.{◌≡◌, ◌≢◌, ℕ, ◌/◌, ◌*◌, ◌^◌, ◌<◌, ◌≤◌, List, arith, sym, ◌∙◌, ◌⊎◌, inl, inr, IfSome, IfNone, ℤ, pos, ◌<ℤ◌, Option, Some, None, to_z, of_z}
-use Rattle.std.specs.Int.{w128}
-use Rattle.std.proofs.lemmas.Int.{ints, to_z-of_z}
-use Rattle.std.specs.Prelude.{FitsSigned}
+use Rattle.std.proofs.Common.{◌≡◌, ◌≢◌, ℕ, ◌/◌, ◌*◌, ◌^◌, ◌<◌, ◌≤◌, List, arith, sym, ◌∙◌, ◌⊎◌, inl, inr, IfSome, IfNone, ℤ, pos, ◌<ℤ◌, Option, Some, None}
+use Rattle.std.proofs.lemmas.Int.{ints}
 use Rattle.svc_base.specs.Text.{IsCivilMonth, text_of_signed, text_of_month}
 use Rattle.svc_base.proofs.TextLemmas.{month_injective}
 use Rattle.serv_rows.specs.Amounts.{IsBelow}
@@ -43,16 +41,6 @@ below_zero text y is range below z amount e =
     let same : y ≡ z = balance_injective y z range (amount_is_balance z amount) (sym is ∙ e) in
     let low = amount.low in
     omega (arith, ints, same, low)
-
--- a value that was read is kept as it is
-pub kept_balance : (z : ℤ) → IsStatedBalance z → to_z w128 (of_z w128 z) ≡ z
-kept_balance z is =
-    let l = is.low in let h = is.high in
-    let fits : FitsSigned w128 z = omega (arith, ints, l, h) in
-    to_z-of_z w128 z fits
-
-pub kept_amount : (z : ℤ) → IsStatedAmount z → to_z w128 (of_z w128 z) ≡ z
-kept_amount z is = kept_balance z (amount_is_balance z is)
 
 -- ---- months
 

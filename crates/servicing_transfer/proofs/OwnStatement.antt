@@ -36,11 +36,9 @@ use Rattle.servicing_transfer.specs.declared.statement_line.StatementLine.{State
 use Rattle.servicing_transfer.specs.Numbers.{place_for, numbers_after}
 use Rattle.servicing_transfer.specs.StatementTexts.{line_for, stated_loans, t_of, p_of, text_of_statement}
 use Rattle.servicing_transfer.specs.Stated.{IsStatedLine, IsStatedMonth, AreStated, IsStatement}
-use Rattle.servicing_transfer.specs.Confirmations.{IsConfirmation, text_of_no_difference}
 use Rattle.servicing_transfer.proofs.NumberLemmas.{loans_are}
 use Rattle.servicing_transfer.proofs.CoreLines.{few_loans, lines_rise}
 use Rattle.servicing_transfer.proofs.OwnText.{own_lines}
-use Rattle.servicing_transfer.proofs.OneStatement.{same_as_books}
 
 -- ---- the number of a loan is that of a command
 
@@ -173,7 +171,3 @@ own_statement h is = record {
   dated = (is_world h is).today;
   loans = own_stated h is;
 }
-
--- and has no difference to the books
-pub own_confirmed : (h : List Accepted) (written : List ℕ) → IsHistory h → IsConfirmation (world h) (text_of_statement (world h)) written → written ≡ text_of_no_difference (stated_loans (world h))
-own_confirmed h written is c = same_as_books (world h) (text_of_statement (world h)) written (own_statement h is) c

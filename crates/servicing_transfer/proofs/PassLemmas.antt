@@ -1,33 +1,19 @@
 -- One command more: what is found of the first commands of a history, and of the next one.
 use Rattle.std.proofs.Common.{◌≡◌, ℕ, zero, suc, ◌+◌, ◌-◌, ◌≤◌, ◌<◌, min, Bool, true, false, cond, List, [], ◌∷◌, ◌++◌, map, length, take, get_or, arith, refl, sym, ap, ◌∙◌, add-one, length-append}
 use Rattle.std.specs.Prelude.{slice_get, fold, if◌then◌else◌, Option, Some, None}
-use Rattle.std.specs.List.{filter, range_with_len}
+use Rattle.std.specs.List.{filter}
 use Rattle.std.proofs.lemmas.List.{take_all, map-append}
 use Rattle.std.proofs.lemmas.List.Elements.{filter-append}
 use Rattle.std.proofs.lemmas.List.Sums.{fold-append}
 use Rattle.std.proofs.lemmas.List.FromFn.{map-range_with_len_more, get_or-map-range_with_len, length-map-range_with_len}
 use Rattle.svc_types.specs.declared.requests.Command.{Command}
 use Rattle.svc_types.specs.declared.requests.Command.TheVariants as command
+use Rattle.svc_world.proofs.TakenLemmas.{listed, taken}
 use Rattle.svc_world.specs.World.{Accepted}
 use Rattle.svc_world.specs.Judging.{nth_accepted}
-use Rattle.servicing_transfer.specs.Parts.{with_board, least_month, is_part, months_for, place_in, renumbered, moved_to, part_of}
+use Rattle.servicing_transfer.specs.Parts.{with_board, least_month, is_part, months_for, place_in, renumbered, moved_to}
 use Rattle.servicing_transfer.specs.Numbers.{numbers_after, numbers_with, loans_of}
 use Rattle.servicing_transfer.specs.Passes.{least_with, keeps, part_with, places_to, place_among}
-
--- a command as a list
-listed : Option Accepted → List Accepted
-listed None = []
-listed (Some a) = a ∷ []
-
-next_taken : (h : List Accepted) (n : ℕ) → take (suc n) h ≡ take n h ++ listed (slice_get h n)
-unfolding listed
-next_taken [] zero = refl
-next_taken [] (suc n) = refl
-next_taken (a ∷ h) zero = refl
-next_taken (a ∷ h) (suc n) = ap (λ xs. a ∷ xs) (next_taken h n)
-
-taken : (h : List Accepted) (n : ℕ) → take (n + 1) h ≡ take n h ++ listed (nth_accepted h (n + 1))
-taken h n = ap (λ k. take k h) (add-one n) ∙ next_taken h n ∙ ap (λ k. take n h ++ listed (nth_accepted h k)) (sym (add-one n))
 
 -- ---- the least boarded month
 
@@ -60,9 +46,6 @@ numbers_more h n =
     ap loans_of (taken h n)
     ∙ fold-append board [] (take n h) (listed (nth_accepted h (n + 1)))
     ∙ with_boarded (loans_of (take n h)) (nth_accepted h (n + 1))
-
-pub numbers_whole : (h : List Accepted) (n : ℕ) → n ≡ length h → loans_of (take n h) ≡ loans_of h
-numbers_whole h n e = ap loans_of (take_all n h (omega arith))
 
 -- ---- places
 
@@ -140,9 +123,3 @@ part_more set h n =
     ∙ sym (map-append f (filter p (take n h)) (filter p next))
     ∙ ap (map f) (sym (filter-append p (take n h) next))
     ∙ ap (λ x. map f (filter p x)) (sym (taken h n))
-
-pub part_whole : (set : ℕ → Bool) (h : List Accepted) (n : ℕ) → n ≡ length h → part_to set h n ≡ part_of set h
-part_whole set h n e = ap (λ x. map (moved_to (place_in set h)) (filter (is_part set (months_for set h)) x)) (take_all n h (omega arith))
-
-pub least_whole : (set : ℕ → Bool) (h : List Accepted) (n : ℕ) → n ≡ length h → least_month set (take n h) ≡ least_month set h
-least_whole set h n e = ap (least_month set) (take_all n h (omega arith))

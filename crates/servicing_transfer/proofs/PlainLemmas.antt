@@ -5,9 +5,10 @@ use Rattle.std.specs.Prelude.{◌==◌, ◌&&◌, not, neg_ℤ}
 use Rattle.std.specs.List.{All, list_all}
 use Rattle.std.specs.Fmt.{decimal}
 use Rattle.std.proofs.lemmas.Int.{ints}
-use Rattle.std.proofs.lemmas.Fmt.{decimal_by_steps}
-use Rattle.std.proofs.lemmas.List.Elements.{All-cons, All-nil, All-append}
+use Rattle.std.proofs.lemmas.List.Elements.{All-cons, All-nil, All-append, All-weaker}
+use Rattle.std.proofs.lemmas.List.Sums.{AllPass-from_list_all}
 use Rattle.svc_base.specs.Text.{text_of_number, text_of_signed, text_of_cents, text_of_month, text_of_day, two_digits, four_digits}
+use Rattle.svc_base.proofs.ByteLemmas.{OfDigits, each_of_day, each_of_month, each_of_number, each_of_signed}
 use Rattle.servicing_transfer.specs.declared.loan_fields.FieldKind.{FieldKind}
 use Rattle.servicing_transfer.specs.declared.loan_fields.FieldKind.TheVariants as kind
 use Rattle.servicing_transfer.specs.declared.loan_fields.Value.{Value}
@@ -25,55 +26,35 @@ HasNone c text = All (λ b. (b == c) ≡ false) text
 abbrev pub is_other : ℕ → ℕ → Bool
 is_other c b = not (b == c)
 
+other : (c b : ℕ) → c < b → (b == c) ≡ false
+other c b h = grind arith
+
 pub plain : (c : ℕ) (text : List ℕ) → list_all (is_other c) text ≡ true → HasNone c text
-plain c [] h = All-nil (λ b. (b == c) ≡ false)
-plain c (b ∷ text) h =
-    elim (b == c) as (λ v. (b == c) ≡ v → (not v && list_all (is_other c) text) ≡ true → HasNone c (b ∷ text)) [
-      | true ↦ λ e k. absurd cc
-      | false ↦ λ e k. All-cons (λ b. (b == c) ≡ false) b text e (plain c text k)
-    ] refl h
+plain c text h = All-weaker (λ b. is_other c b ≡ true) (λ b. (b == c) ≡ false) (λ b e. grind arith) text (AllPass-from_list_all (is_other c) text h)
 
 pub none : (c : ℕ) → HasNone c []
 none c = All-nil (λ b. (b == c) ≡ false)
 
 pub above : (c b : ℕ) (text : List ℕ) → c < b → HasNone c text → HasNone c (b ∷ text)
-above c b text h rest = let other : (b == c) ≡ false = grind arith in All-cons (λ b. (b == c) ≡ false) b text other rest
+above c b text h rest = All-cons (λ b. (b == c) ≡ false) b text (other c b h) rest
 
 pub both : (c : ℕ) (xs ys : List ℕ) → HasNone c xs → HasNone c ys → HasNone c (xs ++ ys)
 both c xs ys p q = All-append (λ b. (b == c) ≡ false) xs ys p q
 
-in_pair : (c n : ℕ) → c < 45 → HasNone c (two_digits n)
-in_pair c n low = above c (48 + n / 10) ((48 + n % 10) ∷ []) (omega arith) (above c (48 + n % 10) [] (omega arith) (none c))
+digits : (c most : ℕ) → c < 45 → OfDigits (λ b. (b == c) ≡ false) most
+digits c most low d h = other c (48 + d) (omega arith)
 
 pub in_number : (c n : ℕ) → c < 45 → n < 2 ^ 64 → HasNone c (text_of_number n)
-in_number c n low h =
-    let P : ℕ → List ℕ → Type 0 = λ _ ds. HasNone c ds in
-    decimal_by_steps P
-    (λ m small. above c (48 + m) [] (omega arith) (none c))
-    (λ m ds large all. both c ds ((48 + m % 10) ∷ []) all (above c (48 + m % 10) [] (omega arith) (none c)))
-    n h
-
-in_cents : (c n : ℕ) → c < 45 → n < 10 ^ 20 → HasNone c (text_of_cents n)
-unfolding text_of_cents
-in_cents c n low h =
-    both c (decimal (n / 100)) (46 ∷ two_digits (n % 100)) (in_number c (n / 100) low (omega arith)) (above c 46 (two_digits (n % 100)) (omega arith) (in_pair c (n % 100) low))
+in_number c n low h = each_of_number (λ b. (b == c) ≡ false) n (digits c 9 low) h
 
 pub in_balance : (c : ℕ) (z : ℤ) → c < 45 → IsStatedBalance z → HasNone c (text_of_signed z)
-unfolding text_of_signed
-in_balance c (pos n) low is = in_cents c n low (let h : pos n <ℤ pos (10 ^ 20) = is.high in grind (arith, ints))
-in_balance c (negsuc n) low is =
-    above c 45 (text_of_cents (n + 1)) low (in_cents c (n + 1) low (let h : neg_ℤ (pos (10 ^ 20)) <ℤ negsuc n = is.low in grind (arith, ints)))
+in_balance c z low is = each_of_signed (λ b. (b == c) ≡ false) z (digits c 9 low) (other c 46 (omega arith)) (other c 45 low) is.low is.high
 
 in_month : (c m : ℕ) → c < 45 → HasNone c (text_of_month m)
-unfolding text_of_month
-in_month c m low =
-    both c (four_digits (m / 12)) (45 ∷ two_digits (m % 12 + 1))
-    (both c (two_digits (m / 12 / 100)) (two_digits (m / 12 % 100)) (in_pair c (m / 12 / 100) low) (in_pair c (m / 12 % 100) low))
-    (above c 45 (two_digits (m % 12 + 1)) low (in_pair c (m % 12 + 1) low))
+in_month c m low = each_of_month (λ b. (b == c) ≡ false) (9 + m) m (digits c (9 + m) low) (other c 45 low) (omega arith) (omega arith)
 
 pub in_day : (c d : ℕ) → c < 45 → HasNone c (text_of_day d)
-unfolding text_of_day
-in_day c d low = both c (text_of_month (d / 31)) (45 ∷ two_digits (d % 31 + 1)) (in_month c (d / 31) low) (above c 45 (two_digits (d % 31 + 1)) low (in_pair c (d % 31 + 1) low))
+in_day c d low = each_of_day (λ b. (b == c) ≡ false) (9 + d) d (digits c (9 + d) low) (other c 45 low) (omega arith) (omega arith)
 
 -- ---- words without it
 

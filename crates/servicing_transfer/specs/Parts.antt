@@ -4,6 +4,9 @@ use Rattle.std.specs.List.{filter}
 use Rattle.svc_base.specs.Calendar.{month_of}
 use Rattle.svc_types.specs.declared.requests.Command.{Command}
 use Rattle.svc_types.specs.declared.requests.Command.TheVariants as command
+use Rattle.svc_world.specs.declared.scope.Scope.{Scope}
+use Rattle.svc_world.specs.declared.scope.Scope.TheVariants.{One, New, Every}
+use Rattle.svc_world.specs.Scope.{scope_of}
 use Rattle.svc_world.specs.World.{Accepted, accepted}
 
 -- the loans from one number to another, and all others
@@ -41,24 +44,20 @@ is_since (Some least) month = nat_le least month
 abbrev pub months_for : (ℕ → Bool) → List Accepted → ℕ → Bool
 months_for set h = is_since (least_month set h)
 
+-- a command on all loans: a month that is closed or remitted is one of some months
+abbrev pub is_of_months : (ℕ → Bool) → Command → Bool
+is_of_months months (command.Close p) = months p
+is_of_months months (command.Remit p) = months p
+is_of_months months c = true
+
+abbrev pub is_within : (ℕ → Bool) → (ℕ → Bool) → Command → Scope → Bool
+is_within set months c (One id) = set id
+is_within set months c (New id t) = set id
+is_within set months c Every = is_of_months months c
+
 -- a part keeps business days, closings and remittances of its months, and the commands on its loans
 abbrev pub is_for : (ℕ → Bool) → (ℕ → Bool) → Command → Bool
-is_for set months (command.Day d) = true
-is_for set months (command.Board id t) = set id
-is_for set months (command.Pay id d c over) = set id
-is_for set months (command.Curtail id d c) = set id
-is_for set months (command.Payoff id d c) = set id
-is_for set months (command.Deposit id d c) = set id
-is_for set months (command.Disburse id d c line) = set id
-is_for set months (command.Refund id c) = set id
-is_for set months (command.Waive id c) = set id
-is_for set months (command.Reverse id number) = set id
-is_for set months (command.Line id line kind month every c) = set id
-is_for set months (command.Drop id line) = set id
-is_for set months (command.Analyse id plan) = set id
-is_for set months (command.Close p) = months p
-is_for set months (command.Remit p) = months p
-is_for set months (command.Retype id from kind) = set id
+is_for set months c = is_within set months c (scope_of c)
 
 abbrev pub is_part : (ℕ → Bool) → (ℕ → Bool) → Accepted → Bool
 is_part set months a = is_for set months a.command

@@ -11,6 +11,7 @@ use svc_base::{Month, month_of};
 use svc_core::Core;
 use svc_replay::LoanBooks;
 use svc_types::Command;
+use svc_world::{Scope as Changed, scope_of};
 
 /// The earlier of two months, of which the second need not be there.
 fn earlier(month: Month, other: Option<Month>) -> Option<Month>
@@ -73,22 +74,19 @@ fn is_since(least: Option<Month>, month: Month) -> bool
 pub(crate) fn is_for(scope: &Scope, command: &Command) -> bool
     ensures { result ≡ parts.is_for (set_of scope.now.loans) (months_of scope.now) command.now }
 {
-    match command {
-        Command::Day(_) => true,
-        Command::Board(loan, _)
-        | Command::Pay(loan, _, _, _)
-        | Command::Curtail(loan, _, _)
-        | Command::Payoff(loan, _, _)
-        | Command::Deposit(loan, _, _)
-        | Command::Disburse { loan, .. }
-        | Command::Refund(loan, _)
-        | Command::Waive(loan, _)
-        | Command::Reverse { loan, .. }
-        | Command::Line { loan, .. }
-        | Command::Drop { loan, .. }
-        | Command::Analyse(loan, _)
-        | Command::Retype { loan, .. } => scope.loans.has(*loan),
-        Command::Close(month) | Command::Remit(month) => is_since(scope.least, *month),
+    match scope_of(command) {
+        Changed::One(loan) | Changed::New(loan, _) => scope.loans.has(loan),
+        Changed::Every => is_of_months(scope, command),
+    }
+}
+
+/// Whether a command on all loans is of no month, or of one of the part's.
+fn is_of_months(scope: &Scope, command: &Command) -> bool
+    ensures { result ≡ parts.is_of_months (months_of scope.now) command.now }
+{
+    match *command {
+        Command::Close(month) | Command::Remit(month) => is_since(scope.least, month),
+        _ => true,
     }
 }
 

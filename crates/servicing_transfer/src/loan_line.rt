@@ -11,27 +11,7 @@ ghost use Rattle.servicing_transfer.specs.Stated.{IsStatedLine};
 
 use crate::loan_fields::{FIELD_COUNT, FIELDS, FieldKind, Value, line_of, read_value};
 use crate::statement_line::StatementLine;
-
-/// The first word of a text, and what is left after the space that ends it.
-#[tactic(auto, using(serv_line::proofs::WordLemmas::one_word))]
-fn first_word(text: &[u8]) -> (&[u8], Option<&[u8]>)
-    ensures { words_of text.now ≡ result.0.now ∷ words_left result.1 }
-{
-    match first_space(text) {
-        Some(at) => {
-            let (word, rest) = text.split_at(at);
-            (word, Some(&rest[1..]))
-        }
-        None => (text, None),
-    }
-}
-
-/// Where the first space of a text stands, if it has one.
-fn first_space(text: &[u8]) -> Option<usize>
-    ensures { result ≡ position (λ b. b == 32) text.now }
-{
-    text.iter().position(|byte| *byte == b' ')
-}
+use serv_line::next_word;
 
 /// The word after a name, where the words begin with the name, and what is left after it.
 pub(crate) fn word_after<'a>(
@@ -41,11 +21,11 @@ pub(crate) fn word_after<'a>(
     ensures found { IfSome result (λ r. words_left words.entry ≡ name.now ∷ r.0.now ∷ words_left r.1) }
     ensures none { IfNone result ((word : List ℕ) (more : List (List ℕ)) → words_left words.entry ≢ name.now ∷ word ∷ more) }
 {
-    let (first, rest) = first_word(words?);
+    let (first, rest) = next_word(words?);
     if first != name {
         return None;
     }
-    Some(first_word(rest?))
+    Some(next_word(rest?))
 }
 
 /// The values that the words of a line spell, each after the name of its field.

@@ -4,3 +4,4 @@ pub mod MoneyLemmas
 pub mod CentsRules
 pub mod TextLemmas
 pub mod SumLemmas
+pub mod ByteLemmas

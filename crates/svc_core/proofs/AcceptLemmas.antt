@@ -36,12 +36,12 @@ use Rattle.svc_world.proofs.BoardWorlds.{boarding}
 use Rattle.svc_loan.specs.Kept.{KeptLoan}
 use Rattle.svc_loan.specs.Loans.{find_kept, OfLoan, held_in}
 use Rattle.svc_custody.specs.declared.position.Position.{Position}
-use Rattle.svc_rules.specs.declared.scope.Scope.TheVariants as scope
+use Rattle.svc_world.specs.declared.scope.Scope.TheVariants as scope
 use Rattle.svc_custody.specs.Appending.{MayAppend, MayAppendAll, IsCashOf, rows_along}
 use Rattle.svc_custody.specs.Cash.{IsKeptIn}
 use Rattle.svc_custody.specs.Positions.{CanRead, IsPosition, IsLine, position, position_of, no_position, line_after}
 use Rattle.svc_core.specs.Rows.{IsCash}
-use Rattle.svc_rules.specs.Scope.{scope_of}
+use Rattle.svc_world.specs.Scope.{scope_of}
 use Rattle.svc_rules.proofs.RuleLemmas.{find-held}
 use Rattle.svc_custody.proofs.SameLemmas.{SameReports, rows_changed, rows_boarded}
 use Rattle.svc_custody.proofs.PositionLemmas.{all_held, position_within}

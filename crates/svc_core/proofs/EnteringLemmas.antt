@@ -27,8 +27,8 @@ use Rattle.svc_loan.specs.Kept.{KeptLoan}
 use Rattle.svc_loan.specs.Loans.{KeptLoans, OfLoan}
 use Rattle.svc_loan.proofs.KeptLemmas.{found_of}
 use Rattle.svc_replay.specs.Faults.{most_entries}
-use Rattle.svc_rules.specs.declared.scope.Scope.TheVariants.{One}
-use Rattle.svc_rules.specs.Scope.{scope_of}
+use Rattle.svc_world.specs.declared.scope.Scope.TheVariants.{One}
+use Rattle.svc_world.specs.Scope.{scope_of}
 use Rattle.svc_core.specs.State.{world_of, IsState}
 use Rattle.svc_core.specs.Changing.{MayEnter, entry_made, world_with}
 use Rattle.svc_core.proofs.KeptInLemmas.{kept_of}

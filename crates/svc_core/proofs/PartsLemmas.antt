@@ -3,6 +3,7 @@ use Rattle.std.proofs.Common.{arith, suc, ◌-◌, ◌≡◌, ℕ, ◌+◌, ◌�
 use Rattle.std.specs.Prelude.{Option, Some, None, MatchOption, ⊤, pos, slice_get, if◌then◌else◌}
 use Rattle.std.proofs.lemmas.List.Elements.{All-nil}
 use Rattle.std.specs.List.{All}
+use Rattle.std.specs.Option.{option_map}
 use Rattle.svc_types.specs.declared.requests.Command.{Command}
 use Rattle.svc_types.specs.declared.replies.Reply.{Reply}
 use Rattle.svc_types.specs.declared.replies.Extra.{Extra}
@@ -29,6 +30,7 @@ use Rattle.svc_core.specs.State.{world_of, IsState}
 use Rattle.svc_custody.specs.declared.position.Position.{Position}
 use Rattle.svc_custody.specs.Positions.{positions_of}
 use Rattle.svc_core.specs.Rows.{IsCash}
+use Rattle.svc_core.specs.declared.ready.Prepared.{Prepared}
 use Rattle.svc_core.specs.Core.{AreParts, IsPrepared, unknown_cost, where_unknown, judging_cost}
 use Rattle.svc_core.specs.Costs.{refusing_cost, preparing_cost}
 use Rattle.svc_spec.specs.Accounts.{Account}
@@ -215,6 +217,15 @@ unknown_steps cost h key c s s' none le = subst (λ o. s' ≤ s + where_unknown 
 
 -- ---- what is prepared is fresh
 
-pub prepared_fresh : (posted : PostedCommands) (today : ℕ) (loans : KeptLoans) (seals : State) (rows dues places lines : ℕ) (boarding : Option KeptLoan) (o : Option Accepted) (a : Accepted) → MatchOption o ⊤ (IsPrepared posted today loans seals rows dues places lines boarding) → o ≡ Some a → judged posted.history a.key a.command ≡ Fresh
-prepared_fresh posted today loans seals rows dues places lines boarding None a h e = absurd (cc)
-prepared_fresh posted today loans seals rows dues places lines boarding (Some b) a h e = (let same : b ≡ a = cc in subst (λ (x : Accepted). judged posted.history x.key x.command ≡ Fresh) same h.fresh)
+pub prepared_is : {B : Type 0} (posted : PostedCommands) (today : ℕ) (loans : KeptLoans) (seals : State) (rows dues places lines : ℕ) (o : Option (Prepared B)) (p : Prepared B) (a : Accepted) → MatchOption o ⊤ (λ (q : Prepared B). IsPrepared posted today loans seals rows dues places lines (accepted q.key q.command) q.ready) → o ≡ Some p → option_map (λ (q : Prepared B). accepted q.key q.command) o ≡ Some a → IsPrepared posted today loans seals rows dues places lines a p.ready
+prepared_is posted today loans seals rows dues places lines None p a h e is = absurd (cc)
+prepared_is {B = B} posted today loans seals rows dues places lines (Some q) p a h e is =
+    let same : q ≡ p = cc in
+    let one : accepted q.key q.command ≡ a = cc in
+    subst (λ (x : Accepted). IsPrepared posted today loans seals rows dues places lines x p.ready) one (subst (λ (r : Prepared B). IsPrepared posted today loans seals rows dues places lines (accepted q.key q.command) r.ready) same h)
+
+pub prepared_fresh : {B : Type 0} (posted : PostedCommands) (today : ℕ) (loans : KeptLoans) (seals : State) (rows dues places lines : ℕ) (o : Option (Prepared B)) (a : Accepted) → MatchOption o ⊤ (λ (q : Prepared B). IsPrepared posted today loans seals rows dues places lines (accepted q.key q.command) q.ready) → option_map (λ (q : Prepared B). accepted q.key q.command) o ≡ Some a → judged posted.history a.key a.command ≡ Fresh
+prepared_fresh posted today loans seals rows dues places lines None a h e = absurd (cc)
+prepared_fresh posted today loans seals rows dues places lines (Some p) a h e =
+    let same : accepted p.key p.command ≡ a = cc in
+    subst (λ (x : Accepted). judged posted.history x.key x.command ≡ Fresh) same h.fresh

@@ -2,7 +2,7 @@
 use Rattle.std.proofs.Common.{◌≡◌, ℕ, zero, suc, ◌+◌, ◌≤◌, ◌<◌, true, false, cond, List, [], ◌∷◌, map, length, get_or, arith, refl, sym, ap, subst, ◌∙◌}
 use Rattle.std.proofs.Math.ListN.{set}
 use Rattle.std.proofs.Math.ListN.{get_or-map as get_mapped}
-use Rattle.std.specs.Prelude.{◌==◌, nat_lt, is_some, Some, None, MatchOption, if◌then◌else◌}
+use Rattle.std.specs.Prelude.{◌==◌, nat_lt, Some, None, if◌then◌else◌}
 use Rattle.std.specs.List.{AllPairs, insert}
 use Rattle.std.specs.Option.{option_map}
 use Rattle.std.proofs.lemmas.Bool.Decides.{nat_tests}
@@ -17,12 +17,12 @@ use Rattle.svc_world.specs.Worlds.{IsWorld}
 use Rattle.svc_world.specs.Refusals.{refusal_of}
 use Rattle.svc_world.proofs.LoanListLemmas.{rises, found_all, find_boarded, with_loan_length}
 use Rattle.svc_loan.specs.Kept.{KeptLoan}
-use Rattle.svc_loan.specs.Loans.{IsPlaceIn, OfLoan, find_kept, held_in}
+use Rattle.svc_loan.specs.Loans.{IsPlaceIn, find_kept, held_in}
 use Rattle.svc_custody.specs.declared.position.Position.{Position}
-use Rattle.svc_rules.specs.declared.scope.Scope.TheVariants as scope
+use Rattle.svc_world.specs.declared.scope.Scope.TheVariants as scope
 use Rattle.svc_custody.specs.Positions.{IsPosition, position, position_of, positions_of}
-use Rattle.svc_rules.specs.Scope.{scope_of}
-use Rattle.svc_rules.proofs.RuleLemmas.{find-held, some-mapped}
+use Rattle.svc_world.specs.Scope.{scope_of}
+use Rattle.svc_rules.proofs.RuleLemmas.{find-held}
 use Rattle.svc_custody.proofs.SameLemmas.{SameReports, held_same, totals_same}
 use Rattle.svc_custody.proofs.PositionLemmas.{at_place, same_position}
 use Rattle.svc_core.proofs.AcceptLemmas.{IsOneChange, IsTakenOn, one_changed, one_later, new_later, positions_within, taken_on}
@@ -50,12 +50,6 @@ placed id i ks h =
         at = λ d. get_or_default (held_in ks) i d (held k) within ∙ get_mapped held ks i k ∙ ap held (there.1 k);
       },
     )
-
-pub is_there : (P' : KeptLoan → Type 0) (id : ℕ) (ks : List KeptLoan) → OfLoan id ks P' → is_some (find_kept id ks) ≡ true
-is_there P' id ks h = elim (find_kept id ks) as (λ o. MatchOption o ⊥ P' → is_some o ≡ true) [
-  | None ↦ λ e. absurd e
-  | Some k ↦ λ e. refl
-] h
 
 number_found : (id : ℕ) (ls : List Held) (l : Held) → find_loan id ls ≡ Some l → l.id ≡ id
 number_found id [] l e = absurd (cc)
@@ -169,14 +163,6 @@ new_found n id w v t fresh new =
     ap (find_loan id) new.loans
     ∙ find_boarded id l w.loans new.new
     ∙ (let is : (l.id == id) ≡ true = grind (arith, nat_tests) in ap (λ b. if b then Some l else find_loan id w.loans) is)
-
-pub there_after : (n id : ℕ) (w v : World) (t : Terms) (ks : List KeptLoan) → refusal_of n w (command.Board id t) ≡ None → v ≡ after (n + 1) w (command.Board id t) → v.loans ≡ held_in ks → is_some (find_kept id ks) ≡ true
-there_after n id w v t ks fresh made same =
-    let new = subst (IsTakenOn n (boarded id t w.today) w) (sym made) (taken_on n id w t fresh) in
-    sym (some-mapped (λ (k : KeptLoan). k.held) (find_kept id ks))
-    ∙ sym (ap is_some (find-held ks id))
-    ∙ sym (ap (λ ls. is_some (find_loan id ls)) same)
-    ∙ ap is_some (new_found n id w v t fresh new)
 
 pub room_after : (n id i : ℕ) (w v : World) (t : Terms) (ks : List KeptLoan) (positions : List Position) → refusal_of n w (command.Board id t) ≡ None → v ≡ after (n + 1) w (command.Board id t) → v.loans ≡ held_in ks → positions ≡ positions_of w → IsPlaceIn id ks (Some i) → i ≤ length positions
 room_after n id i w v t ks positions fresh made same kept at =

@@ -1,6 +1,6 @@
 -- Making room leaves the world as it was, and what a command that is not refused asks for.
-use Rattle.std.proofs.Common.{◌≡◌, ℕ, ◌+◌, true, List, map, length, get_or, max, arith, refl, sym, ap, subst, ◌∙◌}
-use Rattle.std.specs.Prelude.{is_some, None}
+use Rattle.std.proofs.Common.{◌≡◌, ℕ, ◌+◌, List, Box, Global, map, length, get_or, max, arith, refl, sym, ap, subst, ◌∙◌}
+use Rattle.std.specs.Prelude.{None}
 use Rattle.std.specs.List.{All}
 use Rattle.std.proofs.Math.ListN.{get_or-map as get_mapped}
 use Rattle.std.proofs.lemmas.List.{length-map}
@@ -12,22 +12,25 @@ use Rattle.svc_spec.specs.Accounts.{MayBegin}
 use Rattle.period_adjust.specs.Sealed.{State}
 use Rattle.period_adjust.specs.Conditions.{last_month}
 use Rattle.period_adjust.specs.Kept.{month_after}
-use Rattle.svc_world.specs.Held.{Held, find_loan, boarded_month}
+use Rattle.svc_world.specs.Held.{Held, boarded_month}
 use Rattle.svc_world.specs.World.{World}
 use Rattle.svc_world.specs.Refusals.{refusal_of}
-use Rattle.svc_world.proofs.NamedLoans.{asked}
 use Rattle.svc_world.proofs.BoardWorlds.{boarding}
 use Rattle.svc_loan.specs.Kept.{KeptLoan}
-use Rattle.svc_loan.specs.Loans.{KeptLoans, find_kept, held_in}
+use Rattle.svc_loan.specs.declared.place.Place.{Place}
+use Rattle.svc_loan.specs.Loans.{KeptLoans, IsThere, held_in}
 use Rattle.svc_world.specs.Custody.{remitted_for}
 use Rattle.svc_custody.specs.Cash.{IsKeptIn}
 use Rattle.svc_core.specs.Preparing.{HaveStayed}
-use Rattle.svc_rules.specs.Scope.{scope_of}
+use Rattle.svc_world.specs.Scope.{scope_of}
 use Rattle.svc_core.specs.State.{world_of, IsState}
-use Rattle.svc_rules.specs.declared.scope.Scope.TheVariants.{One, New}
-use Rattle.svc_rules.specs.Rules.{rules_of}
-use Rattle.svc_rules.proofs.RuleLemmas.{find-held, some-mapped}
-use Rattle.svc_rules.proofs.RefusingLemmas.{cases_one, new_is_board}
+use Rattle.svc_world.specs.declared.scope.Scope.{Scope}
+use Rattle.svc_world.specs.declared.scope.Scope.TheVariants.{One, New, Every}
+use Rattle.svc_rules.specs.declared.target.Target.TheVariants as target
+use Rattle.svc_rules.specs.Targets.{IsTarget}
+use Rattle.svc_core.specs.declared.ready.Ready.TheVariants as ready
+use Rattle.svc_core.specs.Ready.{HasRoomForOne, HasRoomForNew, HasRoomForAll, IsBoarding, IsReadyFor}
+use Rattle.svc_rules.proofs.RefusingLemmas.{new_is_board}
 
 -- ---- the world stays
 
@@ -61,16 +64,33 @@ kept_stay w v loans later seals sealed h same kept = λ i d lt.
     (same_at (λ (k : KeptLoan). k.remitted) later.loans loans.loans i d h.remitted_cents)
     (kept i d (omega (arith, lt, count))))
 
--- ---- the loan that a command names is there
+-- ---- what a command changes, by its target
 
-named : (n : ℕ) (w : World) (id : ℕ) (c : Command) → scope_of c ≡ One id → refusal_of n w c ≡ None → is_some (find_loan id w.loans) ≡ true
-named n w id c e none = ap is_some (asked n w id (rules_of w c) c (cases_one w id c e) none).loan.found
+pub target_one : (s : Scope) (ks : List KeptLoan) (place : Place) → IsTarget s ks (target.One place) → (s ≡ One place.id) × IsThere place ks
+target_one (One id) ks place h = (ap One (sym h.0), h.1)
+target_one (New id t) ks place h = absurd h
+target_one Every ks place h = absurd h
 
-pub named_there : (n today : ℕ) (loans : KeptLoans) (seals : State) (id : ℕ) (c : Command) → scope_of c ≡ One id → refusal_of n (world_of today loans seals) c ≡ None → is_some (find_kept id loans.loans) ≡ true
-named_there n today loans seals id c is none =
-    sym (some-mapped (λ (k : KeptLoan). k.held) (find_kept id loans.loans))
-    ∙ sym (ap is_some (find-held loans.loans id))
-    ∙ named n (world_of today loans seals) id c is none
+pub target_new : (s : Scope) (ks : List KeptLoan) (id : ℕ) (t : Terms) → IsTarget s ks (target.New id t) → s ≡ New id t
+target_new (One i) ks id t h = absurd h
+target_new (New i u) ks id t h = rw (sym h.0, sym h.1) refl
+target_new Every ks id t h = absurd h
+
+pub target_every : (s : Scope) (ks : List KeptLoan) → IsTarget s ks target.Every → s ≡ Every
+target_every (One i) ks h = absurd h
+target_every (New i u) ks h = absurd h
+target_every Every ks h = refl
+
+-- ---- what is ready
+
+pub ready_one : (B : Type 0) (s : Scope) (today later : ℕ) (loans : KeptLoans) (seals : State) (rows dues places lines : ℕ) (place : Place) → s ≡ One place.id → IsThere place loans.loans → HasRoomForOne place.id today loans seals rows dues → IsReadyFor {B = B} s today later loans seals rows dues places lines (ready.One place)
+ready_one B s today later loans seals rows dues places lines place is there room = rw is (refl, there, room)
+
+pub ready_new : (B : Type 0) (s : Scope) (today later : ℕ) (loans : KeptLoans) (seals : State) (rows dues places lines id : ℕ) (t : Terms) (loan : Box KeptLoan Global) → s ≡ New id t → HasRoomForNew loans rows places → IsBoarding id t today loan.value → IsReadyFor {B = B} s today later loans seals rows dues places lines (ready.New id t loan)
+ready_new B s today later loans seals rows dues places lines id t loan is room it = rw is (refl, refl, room, it)
+
+pub ready_every : (B : Type 0) (s : Scope) (today later : ℕ) (loans : KeptLoans) (seals : State) (rows dues places lines : ℕ) → s ≡ Every → HasRoomForAll later loans seals rows lines → IsReadyFor {B = B} s today later loans seals rows dues places lines ready.Every
+ready_every B s today later loans seals rows dues places lines is room = rw is room
 
 -- ---- the loan that a command takes on
 

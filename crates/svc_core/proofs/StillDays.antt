@@ -24,7 +24,7 @@ use Rattle.svc_world.proofs.LoanListLemmas.{all_found, mapped_numbers, numbers_o
 use Rattle.svc_custody.specs.declared.position.Position.{Position}
 use Rattle.svc_custody.specs.Appending.{rows_along}
 use Rattle.svc_custody.specs.Positions.{position_of, positions_of, totals_in, line_in}
-use Rattle.svc_rules.specs.Scope.{IsWithinMonth}
+use Rattle.svc_world.specs.Scope.{IsWithinMonth}
 use Rattle.svc_custody.proofs.AppendLemmas.{along_none, along_cons, along_is}
 use Rattle.svc_custody.proofs.LineLemmas.{line_of_world}
 use Rattle.svc_custody.proofs.EachLemmas.{totals_are}

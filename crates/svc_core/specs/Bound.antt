@@ -6,11 +6,10 @@ use Rattle.svc_types.specs.declared.account.Entry.{Entry}
 use Rattle.svc_types.specs.declared.requests.Command.{Command}
 use Rattle.svc_types.specs.declared.requests.Command.TheVariants as command
 use Rattle.svc_types.specs.declared.requests.Query.{Query}
-use Rattle.svc_types.specs.declared.requests.Query.TheVariants as query
 use Rattle.svc_spec.specs.Accounts.{begun, entry_of}
 use Rattle.svc_spec.specs.Months.{cost_of_month}
-use Rattle.svc_world.specs.Held.{Held, find_loan, boarded_month}
-use Rattle.svc_desk.specs.Costs.{quote_cost, arrears_cost, aging_cost}
+use Rattle.svc_world.specs.Held.{Held, find_loan}
+use Rattle.svc_core.specs.Costs.{asking_cost}
 use Rattle.svc_world.specs.World.{World, Accepted, after, world}
 use Rattle.svc_world.specs.Judging.{Judgement, Kept, Refused, Fresh, known, judged}
 use Rattle.svc_core.specs.Core.{where_unknown}
@@ -69,14 +68,6 @@ unfoldable pub step_bound : List Accepted → List ℕ → Command → ℕ
 step_bound h key c =
     where_unknown (known h key) (bound_by (world h) (after (length h + 1) (world h) c) c (judged h key c))
 
--- the bound on those of a query: books of a day cost their month, a history costs that of boarding, a quote for a later
--- day what it costs to advance the account to it, and arrears a step for each installment that is due
+-- the bound on those of a query
 unfoldable pub query_bound : World → Query → ℕ
-query_bound w (query.At id d) = cost_for w id (month_of d)
-query_bound w (query.Payoff id d) = cost_for w id (month_of d)
-query_bound w (query.History id) =
-    option_map_or (λ (l : Held). cost_of_month l.account (boarded_month l)) (find_loan id w.loans) 0
-query_bound w (query.Quote id d) = option_map_or (quote_cost cost_of_month d) (find_loan id w.loans) 0
-query_bound w (query.Arrears id) = option_map_or (arrears_cost w.today) (find_loan id w.loans) 0
-query_bound w query.Aging = aging_cost w.today w.loans
-query_bound w q = 0
+query_bound w q = asking_cost cost_of_month w q

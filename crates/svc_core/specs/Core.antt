@@ -13,7 +13,6 @@ use Rattle.svc_world.specs.declared.custody.Custody.{Custody}
 use Rattle.svc_world.specs.World.{World, Accepted, accepted, after, world, today_after}
 use Rattle.svc_world.specs.Judging.{Judgement, Kept, Refused, Fresh, Known, known, judged, next_reply, IsHistory}
 use Rattle.svc_world.specs.Custody.{rows_in, custody_of}
-use Rattle.svc_loan.specs.Kept.{KeptLoan}
 use Rattle.svc_loan.specs.Loans.{KeptLoans}
 use Rattle.svc_core.specs.declared.verdict.Verdict.{Verdict}
 use Rattle.svc_core.specs.declared.verdict.Verdict.TheVariants as verdict
@@ -23,7 +22,9 @@ use Rattle.svc_custody.specs.declared.position.Position.{Position}
 use Rattle.svc_custody.specs.Cash.{IsKeptIn}
 use Rattle.svc_custody.specs.Positions.{positions_of}
 use Rattle.svc_core.specs.State.{world_of}
-use Rattle.svc_rules.specs.Scope.{scope_of}
+use Rattle.svc_world.specs.Scope.{scope_of}
+use Rattle.svc_core.specs.declared.ready.Ready.{Ready}
+use Rattle.svc_core.specs.declared.ready.Prepared.{Prepared}
 use Rattle.svc_core.specs.Ready.{IsReadyFor}
 use Rattle.svc_core.specs.Costs.{refusing_cost, preparing_cost, accepting_cost}
 use Rattle.svc_core.specs.Posted.{PostedCommands, replies_to}
@@ -104,14 +105,14 @@ pub record AreParts (posted : PostedCommands) (today : ℕ) (loans : KeptLoans) 
   pub line : custody ≡ custody_of (world posted.history)
   pub places : positions ≡ positions_of (world posted.history)
 
--- the prepared command is fresh, and there is room for it in each part
-pub record IsPrepared (posted : PostedCommands) (today : ℕ) (loans : KeptLoans) (seals : State) (rows dues places lines : ℕ) (boarding : Option KeptLoan) (a : Accepted) : Type 0 where
+-- the prepared command is fresh, what it changes is ready, and there is room for it in each part
+pub record IsPrepared {B : Type 0} (posted : PostedCommands) (today : ℕ) (loans : KeptLoans) (seals : State) (rows dues places lines : ℕ) (a : Accepted) (ready : Ready B) : Type 0 where
   pub fresh : judged posted.history a.key a.command ≡ Fresh
   pub key_formed : IsKey a.key
   pub formed : IsCommand a.command
   pub place : 1 ≤ posted.room
-  pub ready : IsReadyFor (scope_of a.command) today (today_after today a.command) loans seals rows dues places lines boarding
+  pub ready_for : IsReadyFor (scope_of a.command) today (today_after today a.command) loans seals rows dues places lines ready
 
-pub record IsCore (posted : PostedCommands) (today : ℕ) (loans : KeptLoans) (seals : State) (rows : List Row) (custody : Custody) (positions : List Position) (spare dues places lines : ℕ) (boarding : Option KeptLoan) (prepared : Option Accepted) : Type 0 where
+pub record IsCore {B : Type 0} (posted : PostedCommands) (today : ℕ) (loans : KeptLoans) (seals : State) (rows : List Row) (custody : Custody) (positions : List Position) (spare dues places lines : ℕ) (prepared : Option (Prepared B)) : Type 0 where
   pub parts : AreParts posted today loans seals rows custody positions
-  pub prepare : MatchOption prepared ⊤ (IsPrepared posted today loans seals spare dues places lines boarding)
+  pub prepare : MatchOption prepared ⊤ (λ (p : Prepared B). IsPrepared posted today loans seals spare dues places lines (accepted p.key p.command) p.ready)

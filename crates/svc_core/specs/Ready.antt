@@ -1,13 +1,15 @@
 -- The room that a command needs, so that it takes no memory when it is accepted.
-use Rattle.std.specs.Prelude.{◌≡◌, ℕ, ◌*◌, ◌≤◌, pos, length, Option, MatchOption}
+use Rattle.std.specs.Prelude.{◌≡◌, ℕ, ◌*◌, ◌≤◌, pos, length}
 use Rattle.std.specs.List.{All}
 use Rattle.svc_types.specs.declared.terms.Terms.{Terms}
 use Rattle.period_adjust.specs.Sealed.{State}
 use Rattle.svc_world.specs.Held.{boarded}
 use Rattle.svc_loan.specs.Kept.{KeptLoan, IsReady, HasMonth}
-use Rattle.svc_loan.specs.Loans.{KeptLoans, OfLoan}
-use Rattle.svc_rules.specs.declared.scope.Scope.{Scope}
-use Rattle.svc_rules.specs.declared.scope.Scope.TheVariants.{One, New, Every}
+use Rattle.svc_loan.specs.Loans.{KeptLoans, OfLoan, IsThere}
+use Rattle.svc_world.specs.declared.scope.Scope.{Scope}
+use Rattle.svc_world.specs.declared.scope.Scope.TheVariants as scope
+use Rattle.svc_core.specs.declared.ready.Ready.{Ready}
+use Rattle.svc_core.specs.declared.ready.Ready.TheVariants.{One, New, Every}
 
 -- for a command on one loan: room in the loan, for its rows, for the dues that it had for closed months and those that
 -- it has then, and for an adjustment of each of these
@@ -38,12 +40,14 @@ pub record HasRoomForAll (today : ℕ) (loans : KeptLoans) (seals : State) (rows
   pub report_lines : length loans.loans ≤ seals.line_room
   pub report : 1 ≤ seals.report_room
 
--- what a command of a scope needs, where the business day is today before it and later after it: room for rows, for
--- the dues of a loan, for the positions of more loans, and for the lines of a report; and the loan that is to be taken on
-abbrev pub IsReadyFor : Scope → ℕ → ℕ → KeptLoans → State → ℕ → ℕ → ℕ → ℕ → Option KeptLoan → Type 0
-IsReadyFor (One id) today later loans seals rows dues places lines boarding =
-    HasRoomForOne id today loans seals rows dues
-IsReadyFor (New id t) today later loans seals rows dues places lines boarding =
-    HasRoomForNew loans rows places × MatchOption boarding ⊥ (IsBoarding id t today)
-IsReadyFor Every today later loans seals rows dues places lines boarding =
+-- what is ready for a command of a scope, where the business day is today before it and later after it: it changes what
+-- the command names, and there is room for rows, for the dues of a loan, for the positions of more loans, and for the
+-- lines of a report
+abbrev pub IsReadyFor : {B : Type 0} → Scope → ℕ → ℕ → KeptLoans → State → ℕ → ℕ → ℕ → ℕ → Ready B → Type 0
+IsReadyFor (scope.One id) today later loans seals rows dues places lines (One place) =
+    (place.id ≡ id) × IsThere place loans.loans × HasRoomForOne place.id today loans seals rows dues
+IsReadyFor (scope.New id t) today later loans seals rows dues places lines (New i s loan) =
+    (i ≡ id) × (s ≡ t) × HasRoomForNew loans rows places × IsBoarding i s today loan.value
+IsReadyFor scope.Every today later loans seals rows dues places lines Every =
     HasRoomForAll later loans seals rows lines
+IsReadyFor s today later loans seals rows dues places lines other = ⊥

@@ -1,6 +1,6 @@
 //! The cash side of accepting a command: its rows, and the custodial line after it.
 
-ghost use Rattle.std.specs.Prelude.{◌≡◌, ◌+◌, ◌≤◌, None, Some, ◌++◌, is_some, true, vec_capacity, IsTrue};
+ghost use Rattle.std.specs.Prelude.{◌≡◌, ◌+◌, ◌≤◌, None, ◌++◌, vec_capacity, IsTrue};
 ghost use Rattle.std.specs.List.{All};
 ghost use Rattle.svc_types.specs.declared.requests.Command.TheVariants.{Board};
 ghost use Rattle.svc_types.specs.Requests.{IsCommand};
@@ -8,15 +8,15 @@ ghost use Rattle.svc_world.specs.Custody.{custody_of, rows_made};
 ghost use Rattle.svc_world.specs.Judging.{extra_of};
 ghost use Rattle.svc_world.specs.Refusals.{refusal_of};
 ghost use Rattle.svc_world.specs.World.{after, today_after};
-ghost use Rattle.svc_loan.specs.Loans.{IsPlaceIn, find_kept};
+ghost use Rattle.svc_loan.specs.Loans.{IsThere};
 ghost use Rattle.svc_custody.specs.Cash.{IsKeptIn};
 ghost use Rattle.svc_core.specs.Costs.{accepting_cost};
 ghost use Rattle.svc_custody.specs.Positions.{positions_of};
 ghost use Rattle.svc_core.specs.Ready.{HasRoomForOne, HasRoomForNew, HasRoomForAll, IsBoarding};
 ghost use Rattle.svc_core.specs.Rows.{IsCash};
-ghost use Rattle.svc_rules.specs.Scope.{scope_of, IsWithinMonth};
+ghost use Rattle.svc_world.specs.Scope.{scope_of, IsWithinMonth};
 ghost use Rattle.svc_core.specs.State.{world_of, IsState};
-ghost use Rattle.svc_rules.specs.declared.scope.Scope.TheVariants as scope;
+ghost use Rattle.svc_world.specs.declared.scope.Scope.TheVariants as scope;
 
 use crate::changing::change_one;
 use crate::everyone::change_all;
@@ -25,7 +25,7 @@ use crate::taking_on::change_new;
 use std::sync::ledger::Ledger;
 use svc_base::{Day, Steps, month_of};
 use svc_custody::{Cash, add_all_rows, add_rows, no_position, position_of};
-use svc_loan::{Loan, Loans};
+use svc_loan::{Loan, Place};
 use svc_replay::LoanBooks;
 use svc_rules::State;
 use svc_types::{Command, Extra, Terms};
@@ -34,7 +34,7 @@ use svc_types::{Command, Extra, Terms};
 /// custodial line, and keeps what custody holds for the loan then. Before it `count` commands were accepted.
 pub(crate) fn accept_one<B: LoanBooks, L: Ledger>(
     count: u32,
-    id: u32,
+    place: Place,
     command: &Command,
     state: &mut State<B>,
     cash: &mut Cash,
@@ -43,10 +43,11 @@ pub(crate) fn accept_one<B: LoanBooks, L: Ledger>(
 ) -> Extra
     requires state { IsState count state.old.today state.old.loans state.old.seals }
     requires command { IsCommand command.now }
-    requires scope { scope_of command.now ≡ scope.One id }
+    requires scope { scope_of command.now ≡ scope.One place.id }
+    requires place { IsThere place state.old.loans.loans }
     requires fresh { refusal_of count (world_of state.old.today state.old.loans state.old.seals)
         command.now ≡ None }
-    requires room { HasRoomForOne id state.old.today state.old.loans state.old.seals cash.old.book.spare
+    requires room { HasRoomForOne place.id state.old.today state.old.loans state.old.seals cash.old.book.spare
         (vec_capacity scratch.old.dues) }
     requires cash { IsCash count (world_of state.old.today state.old.loans state.old.seals)
         cash.old.book.rows cash.old.custody cash.old.positions.items }
@@ -68,12 +69,13 @@ pub(crate) fn accept_one<B: LoanBooks, L: Ledger>(
     ensures positions { cash.new.positions.items
         ≡ positions_of (world_of state.new.today state.new.loans state.new.seals) }
 {
-    let place = place_there(&state.loans, id);
-    let before = *cash.positions.at(place);
-    let extra = change_one(count, id, command, state, &mut scratch.dues, steps);
-    let later = position_of(state, id);
-    add_rows(cash, count + 1, id, &before, &later);
-    cash.positions.set(place, &later);
+    // positions stand in the order of loans
+    let index = place.index();
+    let before = *cash.positions.at(index);
+    let extra = change_one(count, place, command, state, &mut scratch.dues, steps);
+    let later = position_of(state, place);
+    add_rows(cash, count + 1, place.id(), &before, &later);
+    cash.positions.set(index, &later);
     extra
 }
 
@@ -107,11 +109,10 @@ pub(crate) fn accept_new<B: LoanBooks>(
     ensures positions { cash.new.positions.items
         ≡ positions_of (world_of state.new.today state.new.loans state.new.seals) }
 {
-    change_new(count, id, terms, loan, state);
-    let later = position_of(state, id);
+    let place = change_new(count, id, terms, loan, state);
+    let later = position_of(state, place);
     add_rows(cash, count + 1, id, &no_position(), &later);
-    let place = place_there(&state.loans, id);
-    cash.positions.insert(place, &later);
+    cash.positions.insert(place.index(), &later);
 }
 
 /// Accepts a command on all loans, for which there is room: changes them, adds the command's rows, and moves
@@ -168,16 +169,5 @@ fn is_within_month(command: &Command, today: Day) -> bool
     match *command {
         Command::Day(day) => month_of(day).number() == month_of(today).number(),
         _ => false,
-    }
-}
-
-/// The place of the loan with that number, which is there.
-fn place_there<B: LoanBooks>(loans: &Loans<B>, id: u32) -> usize
-    requires { is_some (find_kept id loans.now.loans) ≡ true }
-    ensures { IsPlaceIn id loans.now.loans (Some result) }
-{
-    match loans.place(id) {
-        Some(place) => place,
-        None => unreachable!(),
     }
 }

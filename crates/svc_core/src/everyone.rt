@@ -16,7 +16,7 @@ ghost use Rattle.svc_loan.specs.Kept.{HasMonth};
 ghost use Rattle.svc_loan.specs.Loans.{held_in};
 ghost use Rattle.svc_custody.specs.Cash.{IsKeptIn};
 ghost use Rattle.svc_core.specs.Costs as cost;
-ghost use Rattle.svc_rules.specs.Scope.{scope_of};
+ghost use Rattle.svc_world.specs.Scope.{scope_of};
 ghost use Rattle.svc_core.specs.State.{world_of, IsState};
 
 use crate::reporting::fill_lines;
@@ -25,8 +25,9 @@ use period_adjust::{ReportLine, Seals};
 use std::sync::ledger::Ledger;
 use svc_base::{Day, Month, Steps};
 use svc_replay::LoanBooks;
-use svc_rules::{Scope, State};
+use svc_rules::State;
 use svc_types::{Command, Extra};
+use svc_world::Scope;
 
 /// What a command on all loans, which nothing refuses, changes of the world, and what the reply to it says.
 /// There is room for it, so it takes no memory and cannot fail.

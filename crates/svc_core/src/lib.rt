@@ -14,6 +14,7 @@ mod laws;
 mod parts;
 mod posted;
 mod preparing;
+mod ready;
 mod replies;
 mod reporting;
 mod scratch;

@@ -1,7 +1,6 @@
 //! What the core keeps, and how a command is judged and accepted over it.
 
 ghost use Rattle.std.specs.Prelude.{◌≡◌, ◌+◌, ◌≤◌, ◌<◌, ◌∷◌, ◌++◌, [], None, Some, vec_capacity, OnOk, IfErr, IfOk};
-ghost use Rattle.std.specs.Option.{option_map};
 ghost use Rattle.svc_types.specs.Requests.{IsCommand};
 ghost use Rattle.std.specs.List.{All};
 ghost use Rattle.svc_world.specs.World.{accepted, after, world, today_after};
@@ -12,7 +11,7 @@ ghost use Rattle.svc_custody.specs.Cash.{IsKeptIn};
 ghost use Rattle.svc_core.specs.State.{world_of, IsState};
 ghost use Rattle.svc_core.specs.Rows.{IsCash};
 ghost use Rattle.svc_core.specs.Core as core;
-ghost use Rattle.svc_rules.specs.Scope.{scope_of};
+ghost use Rattle.svc_world.specs.Scope.{scope_of};
 ghost use Rattle.svc_core.specs.Ready.{IsReadyFor};
 ghost use Rattle.svc_core.specs.Costs.{accepting_cost};
 ghost use Rattle.svc_custody.specs.Positions.{positions_of};
@@ -22,6 +21,7 @@ use crate::accepting::{accept_all, accept_new, accept_one};
 use crate::fault::CoreFault;
 use crate::posted::Posted;
 use crate::preparing::prepare;
+use crate::ready::Ready;
 use crate::scratch::Scratch;
 use crate::verdict::Verdict;
 use custodial_book::Book;
@@ -30,9 +30,9 @@ use std::alloc::Global;
 use std::sync::ledger::Ledger;
 use svc_base::{Month, Steps, first_day};
 use svc_custody::{Cash, Positions};
-use svc_loan::{Loan, Loans};
+use svc_loan::Loans;
 use svc_replay::LoanBooks;
-use svc_rules::{Scope, State, refuse, scope_of};
+use svc_rules::{State, refuse};
 use svc_types::{Command, Extra, Key, Refusal, Reply, is_same};
 use svc_world::Custody;
 
@@ -97,14 +97,14 @@ pub(crate) fn repeat(
     Err(CoreFault::Refused(Refusal::KeyReused(reply.number)))
 }
 
-/// Judges a command whose key is new: the first rule that holds refuses it, or all room for it is made.
+/// Judges a command whose key is new: the first rule that holds refuses it, or all room for it is made, and what it
+/// changes is ready.
 pub(crate) fn judge_new<B: LoanBooks, L: Ledger>(
     parts: &mut Parts<B>,
-    boarding: &mut Option<Box<Loan<B>>>,
     key: &Key,
     command: &Command,
     steps: &mut Steps<L>,
-) -> Result<(), CoreFault>
+) -> Result<Ready<B>, CoreFault>
     requires parts { core.AreParts parts.old.posted parts.old.state.today parts.old.state.loans
         parts.old.state.seals parts.old.cash.book.rows parts.old.cash.custody
         parts.old.cash.positions.items }
@@ -116,37 +116,34 @@ pub(crate) fn judge_new<B: LoanBooks, L: Ledger>(
     ensures history { parts.new.posted.history ≡ parts.old.posted.history }
     ensures fault { IfErr result (core.IsFault (judged parts.old.posted.history key.now command.now)) }
     ensures fresh { OnOk result (judged parts.old.posted.history key.now command.now ≡ Judgement.Fresh) }
-    ensures prepared { OnOk result (core.IsPrepared parts.new.posted parts.new.state.today
+    ensures prepared { IfOk result (core.IsPrepared parts.new.posted parts.new.state.today
         parts.new.state.loans parts.new.state.seals parts.new.cash.book.spare
         (vec_capacity parts.new.scratch.dues) parts.new.cash.positions.room
-        (vec_capacity parts.new.scratch.lines) (option_map (λ b. b.value) boarding.new)
-        (accepted key.now command.now)) }
+        (vec_capacity parts.new.scratch.lines) (accepted key.now command.now)) }
     ensures steps { steps.new ≤ steps.old + core.unknown_cost B.cost (world parts.old.posted.history)
         command.now (judged parts.old.posted.history key.now command.now) }
 {
     let _ = key.bytes();
     let count = parts.posted.count() as u32;
-    if let Some(why) = refuse(count, &parts.state, command, steps) {
-        return Err(CoreFault::Refused(why));
-    }
+    let target = refuse(count, &parts.state, command, steps)?;
     parts.posted.reserve()?;
-    prepare(
+    let ready = prepare(
         parts.alloc,
         count,
         command,
+        target,
         &mut parts.state,
         &mut parts.cash,
         &mut parts.scratch,
-        boarding,
         steps,
     )?;
-    Ok(())
+    Ok(ready)
 }
 
 /// Makes of the parts what a prepared command makes of them, but for its key; takes no memory.
 pub(crate) fn accept_prepared<B: LoanBooks, L: Ledger>(
     parts: &mut Parts<B>,
-    boarding: Option<Box<Loan<B>>>,
+    ready: Ready<B>,
     key: &Key,
     command: &Command,
     steps: &mut Steps<L>,
@@ -157,8 +154,7 @@ pub(crate) fn accept_prepared<B: LoanBooks, L: Ledger>(
     requires prepared { core.IsPrepared parts.old.posted parts.old.state.today
         parts.old.state.loans parts.old.state.seals parts.old.cash.book.spare
         (vec_capacity parts.old.scratch.dues) parts.old.cash.positions.room
-        (vec_capacity parts.old.scratch.lines) (option_map (λ b. b.value) boarding)
-        (accepted key.now command.now) }
+        (vec_capacity parts.old.scratch.lines) (accepted key.now command.now) ready }
     ensures parts { core.AreParts parts.new.posted parts.new.state.today parts.new.state.loans
         parts.new.state.seals parts.new.cash.book.rows parts.new.cash.custody
         parts.new.cash.positions.items }
@@ -172,7 +168,7 @@ pub(crate) fn accept_prepared<B: LoanBooks, L: Ledger>(
     let extra = accept_scoped(
         count,
         command,
-        boarding,
+        ready,
         &mut parts.state,
         &mut parts.cash,
         &mut parts.scratch,
@@ -186,7 +182,7 @@ pub(crate) fn accept_prepared<B: LoanBooks, L: Ledger>(
 fn accept_scoped<B: LoanBooks, L: Ledger>(
     count: u32,
     command: &Command,
-    boarding: Option<Box<Loan<B>>>,
+    ready: Ready<B>,
     state: &mut State<B>,
     cash: &mut Cash,
     scratch: &mut Scratch,
@@ -199,7 +195,7 @@ fn accept_scoped<B: LoanBooks, L: Ledger>(
     requires fresh { refusal_of count (world_of state.old.today state.old.loans state.old.seals) command.now ≡ None }
     requires ready { IsReadyFor (scope_of command.now) state.old.today (today_after state.old.today command.now)
         state.old.loans state.old.seals cash.old.book.spare (vec_capacity scratch.old.dues)
-        cash.old.positions.room (vec_capacity scratch.old.lines) (option_map (λ b. b.value) boarding) }
+        cash.old.positions.room (vec_capacity scratch.old.lines) ready }
     ensures world { world_of state.new.today state.new.loans state.new.seals
         ≡ after (count + 1) (world_of state.old.today state.old.loans state.old.seals) command.now }
     ensures kept { All (IsKeptIn (world_of state.new.today state.new.loans state.new.seals)) state.new.loans.loans }
@@ -215,15 +211,12 @@ fn accept_scoped<B: LoanBooks, L: Ledger>(
         (world_of state.old.today state.old.loans state.old.seals)
         (world_of state.new.today state.new.loans state.new.seals) command.now }
 {
-    match scope_of(command) {
-        Scope::One(id) => accept_one(count, id, command, state, cash, scratch, steps),
-        Scope::New(id, terms) => match boarding {
-            Some(loan) => {
-                accept_new(count, id, &terms, loan, state, cash);
-                Extra::Plain
-            }
-            None => unreachable!(),
-        },
-        Scope::Every => accept_all(count, command, state, cash, scratch, steps),
+    match ready {
+        Ready::One(place) => accept_one(count, place, command, state, cash, scratch, steps),
+        Ready::New(id, terms, loan) => {
+            accept_new(count, id, &terms, loan, state, cash);
+            Extra::Plain
+        }
+        Ready::Every => accept_all(count, command, state, cash, scratch, steps),
     }
 }

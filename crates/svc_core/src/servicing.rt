@@ -18,6 +18,7 @@ use crate::asking::answer;
 use crate::fault::CoreFault;
 use crate::parts::{Parts, accept_prepared, judge_new, repeat};
 use crate::posted::Posted;
+use crate::ready::Prepared;
 use crate::scratch::Scratch;
 use crate::verdict::Verdict;
 use custodial_book::Book;
@@ -27,7 +28,7 @@ use std::marker::Model;
 use std::sync::ledger::Ledger;
 use svc_base::{Day, Month, OutOfMemory, Steps};
 use svc_custody::Cash;
-use svc_loan::{Loan, Loans};
+use svc_loan::Loans;
 use svc_replay::LoanBooks;
 use svc_rules::State;
 use svc_types::{Command, Key, Query, Reply};
@@ -38,8 +39,7 @@ use svc_world::{Answer, Custody};
 #[derive(Drop)]
 pub struct Core<B: LoanBooks> {
     parts: Parts<B>,
-    boarding: Option<Box<Loan<B>>>,
-    prepared: Option<(Key, Command)>,
+    prepared: Option<Prepared<B>>,
 }
 
 impl<B: LoanBooks> Model for Core<B> {
@@ -52,14 +52,13 @@ impl<B: LoanBooks> Model for Core<B> {
 
     ghost view = { λ c. record {
       history = c.parts.posted.history;
-      prepared = option_map (λ p. accepted p.0 p.1) c.prepared;
+      prepared = option_map (λ p. accepted p.key p.command) c.prepared;
     } };
 
     ghost invariant = { λ c. IsCore c.parts.posted c.parts.state.today c.parts.state.loans
         c.parts.state.seals c.parts.cash.book.rows c.parts.cash.custody c.parts.cash.positions.items
         c.parts.cash.book.spare (vec_capacity c.parts.scratch.dues) c.parts.cash.positions.room
-        (vec_capacity c.parts.scratch.lines) (option_map (λ b. b.value) c.boarding)
-        (option_map (λ p. accepted p.0 p.1) c.prepared) };
+        (vec_capacity c.parts.scratch.lines) c.prepared };
 }
 
 impl<B: LoanBooks> Core<B> {
@@ -70,7 +69,6 @@ impl<B: LoanBooks> Core<B> {
     {
         Ok(Core {
             parts: Parts::new(alloc),
-            boarding: None,
             prepared: None,
         })
     }
@@ -98,8 +96,12 @@ impl<B: LoanBooks> Core<B> {
         match self.parts.posted.known(key) {
             Some((before, reply)) => repeat(&before, command, reply),
             None => {
-                judge_new(&mut self.parts, &mut self.boarding, key, command, steps)?;
-                self.prepared = Some((*key, *command));
+                let ready = judge_new(&mut self.parts, key, command, steps)?;
+                self.prepared = Some(Prepared {
+                    key: *key,
+                    command: *command,
+                    ready,
+                });
                 Ok(Verdict::Fresh)
             }
         }
@@ -117,8 +119,12 @@ impl<B: LoanBooks> Core<B> {
         ensures steps { steps.new ≤ steps.old
             + core.accepted_cost B.cost B.month_cost self.old.history command.now }
     {
-        self.prepared = None;
-        accept_prepared(&mut self.parts, self.boarding.take(), key, command, steps)
+        match self.prepared.take() {
+            Some(prepared) => {
+                accept_prepared(&mut self.parts, prepared.ready, key, command, steps)
+            }
+            None => unreachable!(),
+        }
     }
 
     /// Answers a command: the reply that was kept for its key, the first rule that refuses it, or, where it is

@@ -1,7 +1,7 @@
 //! What custody holds for each loan.
 
 ghost use Rattle.std.specs.Prelude.{◌≡◌, ◌<◌, length, slice_index_or};
-ghost use Rattle.svc_loan.specs.Loans.{held_in};
+ghost use Rattle.svc_loan.specs.Loans.{IsThere, held_in};
 ghost use Rattle.svc_world.specs.Held.{Held, find_loan};
 ghost use Rattle.svc_rules.specs.State.{world_of};
 ghost use Rattle.svc_custody.specs.Positions as rule;
@@ -10,6 +10,7 @@ ghost use Rattle.svc_custody.specs.Positions.{CanRead, IsPosition};
 use crate::cash::kept_position;
 use custodial_book::Totals;
 use svc_base::Cents;
+use svc_loan::Place;
 use svc_replay::LoanBooks;
 use svc_rules::State;
 
@@ -26,18 +27,16 @@ pub struct Position {
     pub held: Cents,
 }
 
-/// What custody holds for the loan with a number, and nothing where it is not there.
+/// What custody holds for the loan that stands at a place.
 #[inline(always)]
-pub fn position_of<B: LoanBooks>(state: &State<B>, id: u32) -> Position
+pub fn position_of<B: LoanBooks>(state: &State<B>, place: Place) -> Position
     requires read { CanRead (world_of state.now.today state.now.loans state.now.seals) state.now.loans.loans }
+    requires place { IsThere place state.now.loans.loans }
     ensures value { result ≡ rule.position (world_of state.now.today state.now.loans state.now.seals)
-        (find_loan id (held_in state.now.loans.loans)) }
+        (find_loan place.id (held_in state.now.loans.loans)) }
     ensures limits { IsPosition result }
 {
-    match state.loans.get(id) {
-        Some(loan) => kept_position(loan, state.seals.remitted()),
-        None => no_position(),
-    }
+    kept_position(state.loans.loan(place), state.seals.remitted())
 }
 
 /// What custody holds for the loan at a place, in the order of numbers.

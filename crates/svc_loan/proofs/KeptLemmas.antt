@@ -8,7 +8,8 @@ use Rattle.std.specs.List.{All, find, insert}
 use Rattle.std.specs.List.Sorted.{IsPartitionPoint}
 use Rattle.std.specs.Option.{option_map}
 use Rattle.std.proofs.lemmas.Bool.Decides.{nat_tests}
-use Rattle.std.proofs.lemmas.List.{map-set, length-map, get_or_default}
+use Rattle.std.proofs.lemmas.List.{map-set, length-map, length-set, get_or-map, get_or-set_same, get_or_default}
+use Rattle.std.proofs.lemmas.List.Edits.{length-insert, get_or-insert_at}
 use Rattle.std.proofs.lemmas.List.Elements.{All-cons, All-head, All-tail}
 use Rattle.std.proofs.lemmas.List.Kept.{AllPairs-cons}
 use Rattle.svc_types.proofs.OrderLemmas.{pairs_head, pairs_tail}
@@ -137,6 +138,16 @@ placed_kept v (y ∷ ys) (suc i) x le point none =
     past : (j : KeptLoan) (js : List KeptLoan) (n : ℕ) → (j.held.id == n) ≡ false → find_kept n (j ∷ js) ≡ None → find_kept n js ≡ None
     past j js n apart e = rw apart at e
 
+-- and it stands there
+pub placed_there : {X : Type 0} (v : X → KeptLoan) (xs : List X) (i : ℕ) (x : X) → i ≤ length xs → Rise (map v (insert xs i x)) → IsPlaceIn (v x).held.id (map v (insert xs i x)) (Some i)
+placed_there v xs i x le rise =
+    let ys = insert xs i x in
+    let long = length-insert xs i x le in
+    let count = length-map ys v in
+    let lt : i < length ys = omega (arith, long, le) in
+    let found = place_found v ys (v x).held.id i x rise lt (ap (λ y. (v y).held.id) (get_or-insert_at xs i x x le)) in
+    (omega (arith, count, lt), λ d. found ∙ ap Some (sym (get_or-map v ys i x d lt)))
+
 -- another number stands at a place, whatever stands for a place that is not there
 pub other_number : {X : Type 0} (f : X → ℕ) (xs : List X) (i n : ℕ) (x d : X) → i < length xs → f (get_or xs i x) ≢ n → (f (get_or xs i d) == n) ≡ false
 other_number f xs i n x d lt apart =
@@ -172,6 +183,16 @@ at_place v xs id i x place =
     let within = place.0 in
     let count = length-map xs v in
     place.1 (v x) ∙ ap Some (get_mapped v xs i x)
+
+-- the one that is put in at the place of its number stands there
+pub still_there : {X : Type 0} (v : X → KeptLoan) (xs : List X) (id i : ℕ) (y : X) → IsPlaceIn id (map v xs) (Some i) → find_kept id (map v (set xs i y)) ≡ Some (v y) → IsPlaceIn id (map v (set xs i y)) (Some i)
+still_there v xs id i y place found =
+    let ks = map v xs in
+    let same = map-set v xs i y in
+    let count = length-set ks i (v y) in
+    let long : length (map v (set xs i y)) ≡ length (set ks i (v y)) = ap length same in
+    let within = place.0 in
+    (omega (arith, count, long, within), λ d. found ∙ ap Some (sym (ap (λ js. get_or js i d) same ∙ get_or-set_same ks i (v y) d within)))
 
 -- loans of which the one with a number was changed
 pub record Changed (ks js : List KeptLoan) (id : ℕ) (k : KeptLoan) (f : Held → Held) : Type 0 where

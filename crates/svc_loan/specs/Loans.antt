@@ -5,6 +5,7 @@ use Rattle.svc_base.specs.Calendar.{month_of}
 use Rattle.svc_spec.specs.Accounts.{Account, advanced_to}
 use Rattle.svc_world.specs.Held.{Held, boarded_month}
 use Rattle.svc_world.specs.Refusals.{least_boarded}
+use Rattle.svc_loan.specs.declared.place.Place.{Place}
 use Rattle.svc_loan.specs.Kept.{KeptLoan, IsAhead}
 
 -- loans, and for how many more there is room
@@ -63,6 +64,15 @@ with_kept k (j ∷ js) = if nat_lt k.held.id j.held.id then k ∷ j ∷ js else 
 abbrev pub IsPlaceIn : ℕ → List KeptLoan → Option ℕ → Type 0
 IsPlaceIn id ks None = find_kept id ks ≡ None
 IsPlaceIn id ks (Some i) = (i < length ks) × ((d : KeptLoan) → find_kept id ks ≡ Some (get_or ks i d))
+
+-- the loan with a place's number stands there
+abbrev pub IsThere : Place → List KeptLoan → Type 0
+IsThere place ks = IsPlaceIn place.id ks (Some place.index)
+
+-- what is found by a number: the place of its loan, and nothing where no loan has it
+abbrev pub IsFound : ℕ → List KeptLoan → Option Place → Type 0
+IsFound id ks None = find_kept id ks ≡ None
+IsFound id ks (Some place) = (place.id ≡ id) × IsThere place ks
 
 -- what another business day costs for a loan: the cost of the old day's month
 abbrev pub advance_cost : (Account → ℕ → ℕ) → ℕ → KeptLoan → ℕ

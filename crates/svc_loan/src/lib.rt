@@ -6,10 +6,12 @@ mod closed;
 mod loan;
 mod loans;
 mod moved;
+mod place;
 mod reserved;
 mod types;
 
 pub use loan::Loan;
 pub use loans::Loans;
 pub use moved::Moved;
+pub use place::Place;
 pub use types::Types;

@@ -11,12 +11,13 @@ ghost use Rattle.escrow_lines.specs.BillLists.{has_id, set_fault};
 ghost use Rattle.svc_world.specs.Held as held;
 ghost use Rattle.svc_world.specs.LoanDues.{type_change};
 ghost use Rattle.svc_loan.specs.Closed as closed;
-ghost use Rattle.svc_loan.specs.Loans.{Rise, IsPlaceIn, OfLoan, find_kept, with_kept, held_in, closed_in, remitted_in};
+ghost use Rattle.svc_loan.specs.Loans.{Rise, IsPlaceIn, IsThere, IsFound, OfLoan, find_kept, with_kept, held_in, closed_in, remitted_in};
 ghost use Rattle.svc_loan.specs.Kept.{IsReady, HasMonth, IsAhead, KeepsMonths};
 ghost use Rattle.svc_loan.specs.Loans.{remitted_by, MayCloseMonth, closed_by, advance_cost, close_cost};
 ghost use Rattle.svc_loan.specs.Loans.{first_boarded, earlier_of};
 
 use crate::loan::Loan;
+use crate::place::Place;
 use escrow_lines::Line;
 use std::alloc::Global;
 use std::marker::Model;
@@ -106,35 +107,45 @@ impl<B: LoanBooks> Loans<B> {
         Some(&self.loans[place])
     }
 
-    /// The place of the loan with that number, in the order of numbers.
-    pub fn place(&self, id: u32) -> Option<usize>
-        ensures { IsPlaceIn id self.now.loans result }
+    /// Where the loan with that number stands, where it is there.
+    pub fn find(&self, id: u32) -> Option<Place>
+        ensures { IsFound id self.now.loans result }
     {
-        place_of(&self.loans, id, self.last)
+        let index = place_of(&self.loans, id, self.last)?;
+        Some(Place { id, index })
+    }
+
+    /// The loan that stands at a place.
+    pub fn loan(&self, place: Place) -> &Loan<B>
+        requires { IsThere place self.now.loans }
+        ensures { find_kept place.id self.now.loans ≡ Some result.now }
+    {
+        &self.loans[place.index]
     }
 
     /// The loan at a place, in the order of numbers.
-    pub fn at(&self, place: usize) -> &Loan<B>
-        requires { place < length self.now.loans }
-        ensures { result.now ≡ slice_index_or self.now.loans place result.now }
+    pub fn at(&self, index: usize) -> &Loan<B>
+        requires { index < length self.now.loans }
+        ensures { result.now ≡ slice_index_or self.now.loans index result.now }
     {
-        &self.loans[place]
+        &self.loans[index]
     }
 
     /// Makes room in a loan for one more entry, reversal, change of type and closed month, and for a
     /// business day; fails for want of memory alone.
-    pub fn reserve_for(&mut self, id: u32, today: Day) -> Result<(), OutOfMemory>
-        requires { is_some (find_kept id self.old.loans) ≡ true }
+    pub fn reserve_for(&mut self, place: Place, today: Day) -> Result<(), OutOfMemory>
+        requires place { IsThere place self.old.loans }
+        ensures place { IsThere place self.new.loans }
         ensures held { held_in self.new.loans ≡ held_in self.old.loans }
         ensures closed { closed_in self.new.loans ≡ closed_in self.old.loans }
         ensures remitted { remitted_in self.new.loans ≡ remitted_in self.old.loans }
         ensures loan_room { self.new.room ≡ self.old.room }
-        ensures ready { OnOk result (OfLoan id self.new.loans (IsReady today)) }
-        ensures succeeds { OfLoan id self.old.loans (IsReady today) → IsOk result }
+        ensures ready { OnOk result (OfLoan place.id self.new.loans (IsReady today)) }
+        ensures succeeds { OfLoan place.id self.old.loans (IsReady today) → IsOk result }
     {
-        let place = place_there(&self.loans, id, self.last);
-        self.last = place;
-        let loan = &mut self.loans[place];
+        // lists of payments are often in the order of numbers
+        self.last = place.index;
+        let loan = &mut self.loans[place.index];
         loan.reserve(today)
     }
 
@@ -204,108 +215,123 @@ impl<B: LoanBooks> Loans<B> {
         loan.remit(cents);
     }
 
-    /// Takes a loan on, whose number no other loan has and for which there is room.
-    pub fn insert(&mut self, loan: Box<Loan<B>>)
+    /// Takes a loan on, whose number no other loan has and for which there is room, and answers where it stands.
+    pub fn insert(&mut self, loan: Box<Loan<B>>) -> Place
         requires new { find_kept loan.value.held.id self.old.loans ≡ None }
         requires room { 1 ≤ self.old.room }
         ensures loans { self.new.loans ≡ with_kept loan.value self.old.loans }
         ensures held { held_in self.new.loans ≡ held.with_loan loan.value.held (held_in self.old.loans) }
+        ensures id { result.id ≡ loan.value.held.id }
+        ensures place { IsThere result self.new.loans }
     {
-        let place = place_for(&self.loans, loan.id());
+        let id = loan.id();
+        let index = place_for(&self.loans, id);
         let boarded = month_of(loan.terms().boarded);
         let first = earlier_of(self.first, boarded);
         self.first = Some(first);
         // nothing is known of the room of the new one
         self.until = 0;
         self.closings = 0;
-        match self.loans.insert(place, loan) {
+        match self.loans.insert(index, loan) {
             Ok(()) => {}
             Err(_) => unreachable!(),
         }
+        Place { id, index }
     }
 
     /// Adds an entry to a loan, for which it has room.
-    pub fn post<L: Ledger>(&mut self, id: u32, entry: &Entry, steps: &mut Steps<L>)
-        requires entry { OfLoan id self.old.loans (λ k. rule.MayPost k.held.account entry.now) }
-        requires few { OfLoan id self.old.loans (λ k. length k.held.account.entries < most_entries) }
-        requires room { OfLoan id self.old.loans (λ k. 1 ≤ k.room.books.entries) }
+    pub fn post<L: Ledger>(&mut self, place: Place, entry: &Entry, steps: &mut Steps<L>)
+        requires place { IsThere place self.old.loans }
+        requires entry { OfLoan place.id self.old.loans (λ k. rule.MayPost k.held.account entry.now) }
+        requires few { OfLoan place.id self.old.loans (λ k. length k.held.account.entries < most_entries) }
+        requires room { OfLoan place.id self.old.loans (λ k. 1 ≤ k.room.books.entries) }
+        ensures place { IsThere place self.new.loans }
         ensures held { held_in self.new.loans
-            ≡ held.changed id (held.with_entry entry.now) (held_in self.old.loans) }
+            ≡ held.changed place.id (held.with_entry entry.now) (held_in self.old.loans) }
         ensures closed { closed_in self.new.loans ≡ closed_in self.old.loans }
         ensures remitted { remitted_in self.new.loans ≡ remitted_in self.old.loans }
         ensures loan_room { self.new.room ≡ self.old.room }
-        ensures steps { OfLoan id self.new.loans (λ k. steps.new ≤ steps.old
+        ensures steps { OfLoan place.id self.new.loans (λ k. steps.new ≤ steps.old
             + B.cost k.held.account (month_number entry.now.day)
             + closed.closed_cost B.month_cost k.held.account k.closed (month_number entry.now.day)) }
     {
-        let place = place_there(&self.loans, id, self.last);
-        let loan = &mut self.loans[place];
+        let loan = &mut self.loans[place.index];
         loan.post(entry, steps);
     }
 
     /// Reverses an entry of a loan, for which it has room.
-    pub fn reverse<L: Ledger>(&mut self, id: u32, entry: &Entry, by: u32, steps: &mut Steps<L>)
-        requires entry { OfLoan id self.old.loans
+    pub fn reverse<L: Ledger>(&mut self, place: Place, entry: &Entry, by: u32, steps: &mut Steps<L>)
+        requires place { IsThere place self.old.loans }
+        requires entry { OfLoan place.id self.old.loans
             (λ k. rule.entry_of k.held.account entry.now.number ≡ Some entry.now) }
-        requires live { OfLoan id self.old.loans
+        requires live { OfLoan place.id self.old.loans
             (λ k. rule.reverser_of k.held.account entry.now.number ≡ None) }
-        requires room { OfLoan id self.old.loans (λ k. 1 ≤ k.room.books.reversals) }
+        requires room { OfLoan place.id self.old.loans (λ k. 1 ≤ k.room.books.reversals) }
+        ensures place { IsThere place self.new.loans }
         ensures held { held_in self.new.loans
-            ≡ held.changed id (held.with_reversal entry.now.number by) (held_in self.old.loans) }
+            ≡ held.changed place.id (held.with_reversal entry.now.number by) (held_in self.old.loans) }
         ensures closed { closed_in self.new.loans ≡ closed_in self.old.loans }
         ensures remitted { remitted_in self.new.loans ≡ remitted_in self.old.loans }
         ensures loan_room { self.new.room ≡ self.old.room }
-        ensures steps { OfLoan id self.new.loans (λ k. steps.new ≤ steps.old
+        ensures steps { OfLoan place.id self.new.loans (λ k. steps.new ≤ steps.old
             + B.cost k.held.account (month_number entry.now.day)
             + closed.closed_cost B.month_cost k.held.account k.closed (month_number entry.now.day)) }
     {
-        let place = place_there(&self.loans, id, self.last);
-        let loan = &mut self.loans[place];
+        let loan = &mut self.loans[place.index];
         loan.reverse(entry, by, steps);
     }
 
     /// Changes the remittance type of a loan from a month on, for which it has room.
-    pub fn retype<L: Ledger>(&mut self, id: u32, from: Month, kind: RemitType, steps: &mut Steps<L>)
-        requires from { OfLoan id self.old.loans (λ k. held.boarded_month k.held ≤ from) }
-        requires room { OfLoan id self.old.loans (λ k. 1 ≤ k.room.types) }
+    pub fn retype<L: Ledger>(
+        &mut self,
+        place: Place,
+        from: Month,
+        kind: RemitType,
+        steps: &mut Steps<L>,
+    )
+        requires place { IsThere place self.old.loans }
+        requires from { OfLoan place.id self.old.loans (λ k. held.boarded_month k.held ≤ from) }
+        requires room { OfLoan place.id self.old.loans (λ k. 1 ≤ k.room.types) }
+        ensures place { IsThere place self.new.loans }
         ensures held { held_in self.new.loans
-            ≡ held.changed id (held.with_type (type_change from kind)) (held_in self.old.loans) }
+            ≡ held.changed place.id (held.with_type (type_change from kind)) (held_in self.old.loans) }
         ensures closed { closed_in self.new.loans ≡ closed_in self.old.loans }
         ensures remitted { remitted_in self.new.loans ≡ remitted_in self.old.loans }
         ensures loan_room { self.new.room ≡ self.old.room }
-        ensures steps { OfLoan id self.new.loans (λ k. steps.new ≤ steps.old
+        ensures steps { OfLoan place.id self.new.loans (λ k. steps.new ≤ steps.old
             + closed.closed_cost B.month_cost k.held.account k.closed from) }
     {
-        let place = place_there(&self.loans, id, self.last);
-        let loan = &mut self.loans[place];
+        let loan = &mut self.loans[place.index];
         loan.retype(from, kind, steps);
     }
 
     /// Sets an escrow line of a loan, of which nothing is wrong and for which there is a place.
-    pub fn set_line(&mut self, id: u32, line: Line)
-        requires { OfLoan id self.old.loans (λ k. set_fault line k.held.lines ≡ None) }
+    pub fn set_line(&mut self, place: Place, line: Line)
+        requires place { IsThere place self.old.loans }
+        requires line { OfLoan place.id self.old.loans (λ k. set_fault line k.held.lines ≡ None) }
+        ensures place { IsThere place self.new.loans }
         ensures held { held_in self.new.loans
-            ≡ held.changed id (held.with_bill line) (held_in self.old.loans) }
+            ≡ held.changed place.id (held.with_bill line) (held_in self.old.loans) }
         ensures closed { closed_in self.new.loans ≡ closed_in self.old.loans }
         ensures remitted { remitted_in self.new.loans ≡ remitted_in self.old.loans }
         ensures loan_room { self.new.room ≡ self.old.room }
     {
-        let place = place_there(&self.loans, id, self.last);
-        let loan = &mut self.loans[place];
+        let loan = &mut self.loans[place.index];
         loan.set_line(line);
     }
 
     /// Takes out the escrow line of a loan with an id that some line of it has.
-    pub fn drop_line(&mut self, id: u32, line: u32)
-        requires { OfLoan id self.old.loans (λ k. list_any (has_id line) k.held.lines ≡ true) }
+    pub fn drop_line(&mut self, place: Place, line: u32)
+        requires place { IsThere place self.old.loans }
+        requires line { OfLoan place.id self.old.loans (λ k. list_any (has_id line) k.held.lines ≡ true) }
+        ensures place { IsThere place self.new.loans }
         ensures held { held_in self.new.loans
-            ≡ held.changed id (held.without_bill line) (held_in self.old.loans) }
+            ≡ held.changed place.id (held.without_bill line) (held_in self.old.loans) }
         ensures closed { closed_in self.new.loans ≡ closed_in self.old.loans }
         ensures remitted { remitted_in self.new.loans ≡ remitted_in self.old.loans }
         ensures loan_room { self.new.room ≡ self.old.room }
     {
-        let place = place_there(&self.loans, id, self.last);
-        let loan = &mut self.loans[place];
+        let loan = &mut self.loans[place.index];
         loan.drop_line(line);
     }
 
@@ -392,7 +418,7 @@ fn place_there<B: LoanBooks>(loans: &[Box<Loan<B>>], id: u32, near: usize) -> us
 }
 
 /// The place of the loan with that number, where it is there. It is looked for at a place and just behind it first, since
-/// one command asks for its loan several times, and lists of payments are often in the order of numbers.
+/// lists of payments are often in the order of numbers.
 fn place_of<B: LoanBooks>(loans: &[Box<Loan<B>>], id: u32, near: usize) -> Option<usize>
     requires { Rise (map (λ b. b.value) loans.now) }
     ensures { IsPlaceIn id (map (λ b. b.value) loans.now) result }

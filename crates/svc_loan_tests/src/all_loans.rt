@@ -78,13 +78,19 @@ fn found_by<B: LoanBooks>(loans: &Loans<B>, id: u32) -> Option<u32> {
     Some(loan.id())
 }
 
+/// How many loans stand before the one that is found by a number.
+fn index_of<B: LoanBooks>(loans: &Loans<B>, id: u32) -> Option<usize> {
+    let place = loans.find(id)?;
+    Some(place.index())
+}
+
 /// Whether an even number is found at its place, and the odd one before it is not.
 fn is_found<B: LoanBooks>(loans: &Loans<B>, place: u32) -> bool
     requires { place ≤ 1_000_000 }
 {
     let even = 2 * (place + 1);
-    let here = (found_by(loans, even), loans.place(even));
-    let before = (found_by(loans, even - 1), loans.place(even - 1));
+    let here = (found_by(loans, even), index_of(loans, even));
+    let before = (found_by(loans, even - 1), index_of(loans, even - 1));
     here == (Some(even), Some(place as usize)) && before == (None, None)
 }
 
@@ -158,25 +164,25 @@ const TAX: Line = Line {
 
 /// Sets a line of a loan; whether it has none.
 fn set_first_line<B: LoanBooks>(loans: &mut Loans<B>, id: u32, line: Line) -> bool {
-    let Some(loan) = loans.get(id) else {
+    let Some(place) = loans.find(id) else {
         return false;
     };
-    if !loan.lines().is_empty() || line.fault().is_some() {
+    if !loans.loan(place).lines().is_empty() || line.fault().is_some() {
         return false;
     }
-    loans.set_line(id, line);
+    loans.set_line(place, line);
     true
 }
 
 /// Takes out a line of a loan; whether it is there.
 fn drop_line<B: LoanBooks>(loans: &mut Loans<B>, id: u32, line: u32) -> bool {
-    let Some(loan) = loans.get(id) else {
+    let Some(place) = loans.find(id) else {
         return false;
     };
-    if !has_line(loan, line) {
+    if !has_line(loans.loan(place), line) {
         return false;
     }
-    loans.drop_line(id, line);
+    loans.drop_line(place, line);
     true
 }
 

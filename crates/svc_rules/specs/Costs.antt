@@ -18,3 +18,9 @@ abbrev pub refusing_cost : (Account → ℕ → ℕ) → World → Command → �
 refusing_cost cost w (command.Curtail id d c) = asking_month cost w id (month_of d)
 refusing_cost cost w (command.Payoff id d c) = asking_month cost w id (month_of d)
 refusing_cost cost w c = 0
+
+-- to test the rules of a command on a loan that is there
+abbrev pub rules_cost : (Account → ℕ → ℕ) → Command → Held → ℕ
+rules_cost cost (command.Curtail id d c) l = cost l.account (month_of d)
+rules_cost cost (command.Payoff id d c) l = cost l.account (month_of d)
+rules_cost cost c l = 0

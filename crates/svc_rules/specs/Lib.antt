@@ -1,4 +1,3 @@
 pub mod State
-pub mod Scope
 pub mod Costs
-pub mod Rules
+pub mod Targets

@@ -15,8 +15,8 @@ mod queries;
 mod refusing;
 mod retyping;
 mod reversing;
-mod scope;
 mod state;
+mod target;
 mod waiving;
 
 pub use analysing::{analysis_from, settle_now};
@@ -24,5 +24,5 @@ pub use figures::{figures_of, figures_with};
 pub use months::{next_to_close, next_to_remit};
 pub use queries::{refuse_day_of, refuse_report};
 pub use refusing::refuse;
-pub use scope::{Scope, scope_of};
 pub use state::State;
+pub use target::Target;

@@ -1,13 +1,14 @@
-//! Why a command is refused: which family's rules it has.
+//! Why a command is refused: which family's rules it has. Else what it changes.
 
-ghost use Rattle.std.specs.Prelude.{◌≡◌, ◌+◌, ◌≤◌, ◌<◌};
+ghost use Rattle.std.specs.Prelude.{◌≡◌, ◌+◌, ◌≤◌, ◌<◌, None, Some, IfErr, IfOk, OnOk};
 ghost use Rattle.svc_base.specs.Calendar.{month_of as month_number, months_end};
 ghost use Rattle.svc_world.specs.Refusals as rule;
-ghost use Rattle.svc_rules.specs.Scope as scope;
+ghost use Rattle.svc_world.specs.Scope as scope;
 ghost use Rattle.svc_world.specs.Worlds.{IsWorld};
 ghost use Rattle.svc_rules.specs.State.{world_of};
-ghost use Rattle.svc_rules.specs.Rules.{rules_of, rules_cost};
-ghost use Rattle.svc_rules.specs.Costs.{refusing_cost};
+ghost use Rattle.svc_world.specs.Refusals.{rules_of};
+ghost use Rattle.svc_rules.specs.Costs.{refusing_cost, rules_cost};
+ghost use Rattle.svc_rules.specs.Targets.{IsTarget};
 
 use crate::analysing::refuse_analyse;
 use crate::boarding::refuse_board;
@@ -19,8 +20,8 @@ use crate::money_out::{refuse_disburse, refuse_refund};
 use crate::months::{refuse_close, refuse_remit};
 use crate::retyping::refuse_retype;
 use crate::reversing::refuse_reverse;
-use crate::scope::{Scope, scope_of};
 use crate::state::State;
+use crate::target::Target;
 use crate::waiving::refuse_waive;
 use escrow_lines::Line;
 use std::sync::ledger::Ledger;
@@ -28,28 +29,45 @@ use svc_base::Steps;
 use svc_loan::Loan;
 use svc_replay::LoanBooks;
 use svc_types::{Command, Limit, Refusal};
+use svc_world::{Scope, scope_of};
 
 /// Why a command is refused after so many accepted ones: `Full` (of 1,000,000 commands), else the first rule that holds
-/// of its family.
+/// of its family. Where none does, what it changes.
 pub fn refuse<B: LoanBooks, L: Ledger>(
     count: u32,
     state: &State<B>,
     command: &Command,
     steps: &mut Steps<L>,
-) -> Option<Refusal>
+) -> Result<Target, Refusal>
     requires world { IsWorld count (world_of state.now.today state.now.loans state.now.seals) }
-    ensures cause { result ≡ rule.refusal_of count
-        (world_of state.now.today state.now.loans state.now.seals) command.now }
+    ensures cause { IfErr result (λ why. rule.refusal_of count
+        (world_of state.now.today state.now.loans state.now.seals) command.now ≡ Some why) }
+    ensures fresh { OnOk result (rule.refusal_of count
+        (world_of state.now.today state.now.loans state.now.seals) command.now ≡ None) }
+    ensures target { IfOk result (IsTarget (scope.scope_of command.now) state.now.loans.loans) }
     ensures steps { steps.new ≤ steps.old + refusing_cost B.cost
         (world_of state.now.today state.now.loans state.now.seals) command.now }
 {
     if count >= MOST_COMMANDS {
-        return Some(Refusal::Full(Limit::Commands));
+        return Err(Refusal::Full(Limit::Commands));
     }
     match scope_of(command) {
         Scope::One(id) => refuse_one(count, id, state, command, steps),
-        Scope::New(id, terms) => refuse_board(state, id, &terms),
-        Scope::Every => refuse_every(count, state, command),
+        Scope::New(id, terms) => { unless(refuse_board(state, id, &terms), Target::New(id, terms)) }
+        Scope::Every => unless(refuse_every(count, state, command), Target::Every),
+    }
+}
+
+/// A target, unless there is a cause to refuse.
+#[inline(always)]
+fn unless(why: Option<Refusal>, target: Target) -> Result<Target, Refusal>
+    ensures cause { IfErr result (λ r. why ≡ Some r) }
+    ensures none { OnOk result (why ≡ None) }
+    ensures target { IfOk result (λ t. t ≡ target) }
+{
+    match why {
+        Some(why) => Err(why),
+        None => Ok(target),
     }
 }
 
@@ -68,25 +86,33 @@ fn refuse_every<B: LoanBooks>(count: u32, state: &State<B>, command: &Command) -
     }
 }
 
-/// Why a command on one loan is refused: `NoSuchLoan`, or the first of the rules on it.
+/// Why a command on one loan is refused: `NoSuchLoan`, or the first of the rules on it. Where none holds, where the loan
+/// stands.
 fn refuse_one<B: LoanBooks, L: Ledger>(
     count: u32,
     id: u32,
     state: &State<B>,
     command: &Command,
     steps: &mut Steps<L>,
-) -> Option<Refusal>
+) -> Result<Target, Refusal>
     requires world { IsWorld count (world_of state.now.today state.now.loans state.now.seals) }
     requires scope { scope.scope_of command.now ≡ Scope.One id }
-    ensures cause { result ≡ rule.first_of (rule.on_loan
+    ensures cause { IfErr result (λ why. rule.first_of (rule.on_loan
         (world_of state.now.today state.now.loans state.now.seals) id
-        (rules_of (world_of state.now.today state.now.loans state.now.seals) command.now)) }
+        (rules_of (world_of state.now.today state.now.loans state.now.seals) command.now)) ≡ Some why) }
+    ensures fresh { OnOk result (rule.first_of (rule.on_loan
+        (world_of state.now.today state.now.loans state.now.seals) id
+        (rules_of (world_of state.now.today state.now.loans state.now.seals) command.now)) ≡ None) }
+    ensures target { IfOk result (IsTarget (Scope.One id) state.now.loans.loans) }
     ensures steps { steps.new ≤ steps.old + refusing_cost B.cost
         (world_of state.now.today state.now.loans state.now.seals) command.now }
 {
-    match state.loans.get(id) {
-        Some(loan) => refuse_on(state, loan, command, steps),
-        None => Some(Refusal::NoSuchLoan),
+    match state.loans.find(id) {
+        Some(place) => {
+            let why = refuse_on(state, state.loans.loan(place), command, steps);
+            unless(why, Target::One(place))
+        }
+        None => Err(Refusal::NoSuchLoan),
     }
 }
 

@@ -157,14 +157,6 @@ carry_within a types n few h =
     let scheduled : IsUpTo 40_960_000_000_000 (carried_to a types n).scheduled = record { low = s1; high = omega (arith, ints, s2, count) } in
     record { within = within; actual = actual; scheduled = scheduled; passed = carried_passed 40_960_000_000_000 a types n actual scheduled }
 
--- so the three sums lie within those that a month's due asks
-pub carry_sums : (t : Terms) (c : Carry) → IsCarryWithin t c → HasSums c
-carry_sums t c h =
-    let a1 = h.actual.low in let a2 = h.actual.high in
-    let s1 = h.scheduled.low in let s2 = h.scheduled.high in
-    let p1 = h.passed.low in let p2 = h.passed.high in
-    record { actual_low = omega (arith, ints, a1); actual_high = omega (arith, ints, a2); scheduled_low = omega (arith, ints, s1); scheduled_high = omega (arith, ints, s2); passed_low = omega (arith, ints, p1); passed_high = omega (arith, ints, p2) }
-
 -- of any account interest less fee lies within the limits of its books
 pub kept_account : (a : Account) (p : ℕ) → IsAccount a → IsUpTo 1_000_000_000_000_000_000 (kept (books_at_end a p))
 kept_account a p h =

@@ -20,7 +20,7 @@ use Rattle.period_adjust.specs.Totals.{SendsItsSums}
 use Rattle.period_adjust.proofs.SealedLemmas.{sealed_start}
 use Rattle.svc_world.specs.World.{World, Accepted, first_world, after, world_from, world}
 use Rattle.svc_world.specs.Refusals.{refusal_of}
-use Rattle.svc_world.specs.Judging.{Kept, Refused, Fresh, by_refusal, by_key, is_key, reply_of, Known, known_from, known, judged, IsHistoryFrom, AreWellFormed, IsHistory}
+use Rattle.svc_world.specs.Judging.{Kept, Refused, Fresh, by_refusal, by_key, Known, known, judged, IsHistoryFrom, AreWellFormed, IsHistory}
 use Rattle.svc_world.specs.Custody.{rows_made, rows_from, rows_in}
 use Rattle.svc_world.specs.Worlds.{IsHeld, IsOwned, IsListed, sent_part, IsPassed, IsWorld, AreWorlds}
 use Rattle.svc_world.proofs.EntryWorlds.{pay_keeps, curtail_keeps, payoff_keeps, deposit_keeps, disburse_keeps, refund_keeps, waive_keeps}
@@ -175,28 +175,3 @@ pub rows-push : (h : List Accepted) (a : Accepted) → rows_in (h ++ a ∷ []) �
 rows-push h a =
     let same : 0 + length h + 1 ≡ length h + 1 = omega arith in
     rows_from-push 0 first_world h a ∙ ap (λ k. rows_in h ++ rows_made k (world h) (after k (world h) a.command)) same
-
--- what is known of a key after one command more: what was known, else that command
-abbrev pub known_after : ℕ → World → Accepted → List ℕ → Option Known → Option Known
-known_after n w a key None = if is_key a.key key then Some (record { command = a.command; reply = reply_of n w a.command }) else None
-known_after n w a key (Some k) = Some k
-
-pub known_from-push : (n : ℕ) (w : World) (h : List Accepted) (a : Accepted) (key : List ℕ) → known_from n w (h ++ a ∷ []) key ≡ known_after (n + length h + 1) (world_from n w h) a key (known_from n w h key)
-unfolding known_from world_from
-known_from-push n w [] a key =
-    let same : n + 1 ≡ n + 0 + 1 = omega arith in
-    ap (λ k. if is_key a.key key then Some (record { command = a.command; reply = reply_of k w a.command }) else None) same
-known_from-push n w (x ∷ h) a key =
-    let next = after (n + 1) w x.command in
-    let rest = known_from-push (n + 1) next h a key in
-    let same : n + 1 + length h + 1 ≡ n + suc (length h) + 1 = omega arith in
-    let found : Option Known = Some (record { command = x.command; reply = reply_of (n + 1) w x.command }) in
-    elim (is_key x.key key) as (λ v. (if v then found else known_from (n + 1) next (h ++ a ∷ []) key) ≡ known_after (n + suc (length h) + 1) (world_from (n + 1) next h) a key (if v then found else known_from (n + 1) next h key)) [
-      | true ↦ refl
-      | false ↦ rest ∙ ap (λ k. known_after k (world_from (n + 1) next h) a key (known_from (n + 1) next h key)) same
-    ]
-
-pub known-push : (h : List Accepted) (a : Accepted) (key : List ℕ) → known (h ++ a ∷ []) key ≡ known_after (length h + 1) (world h) a key (known h key)
-known-push h a key =
-    let same : 0 + length h + 1 ≡ length h + 1 = omega arith in
-    known_from-push 0 first_world h a key ∙ ap (λ k. known_after k (world h) a key (known h key)) same

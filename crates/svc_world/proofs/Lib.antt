@@ -33,3 +33,4 @@ pub mod OpeningLemmas
 pub mod StayLemmas
 pub mod KindLemmas
 pub mod DeskLemmas
+pub mod TakenLemmas

@@ -3,6 +3,7 @@ pub mod LoanDues
 pub mod Reports
 pub mod Analysing
 pub mod World
+pub mod Scope
 pub mod Refusals
 pub mod Custody
 pub mod Judging

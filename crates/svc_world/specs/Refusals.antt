@@ -26,6 +26,9 @@ use Rattle.period_adjust.specs.Kept.{next_remit}
 use Rattle.svc_world.specs.Held.{Held, find_loan, boarded_month, books_now}
 use Rattle.svc_world.specs.Analysing.{loan_plan_fault}
 use Rattle.svc_world.specs.World.{World}
+use Rattle.svc_world.specs.declared.scope.Scope.{Scope}
+use Rattle.svc_world.specs.declared.scope.Scope.TheVariants.{One, New, Every}
+use Rattle.svc_world.specs.Scope.{scope_of}
 
 -- a rule: where it holds, the request is refused for that cause
 pub record Case : Type 0 where
@@ -199,26 +202,39 @@ abbrev pub remit_cases : World → ℕ → List Case
 remit_cases w p =
     not_closed w p ∷ case (not (p == expected_remit w)) (WrongRemit (expected_remit w)) ∷ []
 
--- ---- all commands
+-- ---- all commands, by what they change
+
+-- a command on one loan that is there
+abbrev pub rules_of : World → Command → Held → List Case
+rules_of w (command.Pay id d c over) = dated_cases w d c asks_no_more
+rules_of w (command.Curtail id d c) = dated_cases w d c (over_principal d c)
+rules_of w (command.Payoff id d c) = dated_cases w d c (payoff_short d c)
+rules_of w (command.Deposit id d c) = dated_cases w d c asks_no_more
+rules_of w (command.Disburse id d c line) = dated_cases w d c (no_such_line line)
+rules_of w (command.Refund id c) = present_cases w c (over_refund c)
+rules_of w (command.Waive id c) = present_cases w c (over_waiver c)
+rules_of w (command.Reverse id number) = reversal_cases w number
+rules_of w (command.Line id line kind month every c) =
+    line_cases (record { id = line; kind = kind; month = month; every = every; cents = c })
+rules_of w (command.Drop id line) = λ l. no_such_line line l ∷ []
+rules_of w (command.Analyse id plan) = analyse_cases w plan
+rules_of w (command.Retype id from kind) = retype_cases w from
+rules_of w c = λ l. []
+
+-- a command on all loans
+abbrev pub rules_for_all : World → Command → List Case
+rules_for_all w (command.Day d) = case (nat_le d w.today) (DayNotLater w.today) ∷ []
+rules_for_all w (command.Close p) = close_cases w p
+rules_for_all w (command.Remit p) = remit_cases w p
+rules_for_all w c = []
+
+abbrev pub cases_by_scope : World → Command → Scope → List Case
+cases_by_scope w c (One id) = on_loan w id (rules_of w c)
+cases_by_scope w c (New id t) = board_cases w id t
+cases_by_scope w c Every = rules_for_all w c
 
 abbrev pub cases_by_command : World → Command → List Case
-cases_by_command w (command.Day d) = case (nat_le d w.today) (DayNotLater w.today) ∷ []
-cases_by_command w (command.Board id t) = board_cases w id t
-cases_by_command w (command.Pay id d c over) = on_loan w id (dated_cases w d c asks_no_more)
-cases_by_command w (command.Curtail id d c) = on_loan w id (dated_cases w d c (over_principal d c))
-cases_by_command w (command.Payoff id d c) = on_loan w id (dated_cases w d c (payoff_short d c))
-cases_by_command w (command.Deposit id d c) = on_loan w id (dated_cases w d c asks_no_more)
-cases_by_command w (command.Disburse id d c line) = on_loan w id (dated_cases w d c (no_such_line line))
-cases_by_command w (command.Refund id c) = on_loan w id (present_cases w c (over_refund c))
-cases_by_command w (command.Waive id c) = on_loan w id (present_cases w c (over_waiver c))
-cases_by_command w (command.Reverse id number) = on_loan w id (reversal_cases w number)
-cases_by_command w (command.Line id line kind month every c) =
-    on_loan w id (line_cases (record { id = line; kind = kind; month = month; every = every; cents = c }))
-cases_by_command w (command.Drop id line) = on_loan w id (λ l. no_such_line line l ∷ [])
-cases_by_command w (command.Analyse id plan) = on_loan w id (analyse_cases w plan)
-cases_by_command w (command.Close p) = close_cases w p
-cases_by_command w (command.Remit p) = remit_cases w p
-cases_by_command w (command.Retype id from kind) = on_loan w id (retype_cases w from)
+cases_by_command w c = cases_by_scope w c (scope_of c)
 
 -- why a command is refused after n accepted ones
 unfoldable pub refusal_of : ℕ → World → Command → Option Refusal

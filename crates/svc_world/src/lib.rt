@@ -8,6 +8,7 @@ mod desk;
 mod laws;
 mod list_of;
 mod row_list;
+mod scope;
 mod worked;
 
 pub use answer::Answer;
@@ -20,6 +21,7 @@ pub use laws::{
 };
 pub use list_of::ListOf;
 pub use row_list::RowList;
+pub use scope::{Scope, scope_of};
 pub use worked::{
     worked_analysis, worked_closings, worked_curtailment, worked_designations,
     worked_escrow_advance, worked_first_payment, worked_late_charge, worked_late_payment,

@@ -1,6 +1,7 @@
-use Rattle.std.proofs.Common.{◌≡◌, ◌∙◌, ◌&&◌, ◌==◌, sym, refl, subst, Bool, true, false}
+use Rattle.std.proofs.Common.{◌≡◌, ◌∙◌, ◌==◌, sym, refl, subst, Bool, true}
 use Rattle.std.specs.Cmp.{IsPartialEquivalence}
 use Rattle.std.specs.Ordering.{int_eq}
+use Rattle.std.proofs.lemmas.Bool.{and_parts}
 use Rattle.std.proofs.lemmas.Bool.Decides.{Decides-eqb, Decides-int_eq}
 use Rattle.svc_types.specs.contracts.escrow.EscrowPlanPartialEq.TheImpl.Laws.{laws-law}
 use Rattle.svc_types.specs.declared.escrow.EscrowPlan.{EscrowPlan}
@@ -10,19 +11,14 @@ use Rattle.svc_checkpoint.proofs.plans.are_same.Goals as goal
 abbrev test_of : {A : Type 0} {E : A → A → Bool} → IsPartialEquivalence E → A → A → Bool
 test_of {A} {E} h = E
 
-both : (p q : Bool) → (p && q) ≡ true → (p ≡ true) × (q ≡ true)
-both true true h = (refl, refl)
-both true false h = absurd (cc)
-both false q h = absurd (cc)
-
 equal : (a b : EscrowPlan) → test_of laws-law a b ≡ true → a ≡ b
 equal a b h0 =
-    let h1 = both (a.start == b.start) _ h0 in
-    let h2 = both (a.short_months == b.short_months) _ h1.1 in
-    let h3 = both (a.deficient_months == b.deficient_months) _ h2.1 in
-    let h4 = both (int_eq a.base b.base) _ h3.1 in
-    let h5 = both (int_eq a.credit b.credit) _ h4.1 in
-    let h6 = both (int_eq a.short b.short) _ h5.1 in
+    let h1 = and_parts (a.start == b.start) _ h0 in
+    let h2 = and_parts (a.short_months == b.short_months) _ h1.1 in
+    let h3 = and_parts (a.deficient_months == b.deficient_months) _ h2.1 in
+    let h4 = and_parts (int_eq a.base b.base) _ h3.1 in
+    let h5 = and_parts (int_eq a.credit b.credit) _ h4.1 in
+    let h6 = and_parts (int_eq a.short b.short) _ h5.1 in
     let start : a.start ≡ b.start = (Decides-eqb a.start b.start).0 h1.0 in
     let short_months : a.short_months ≡ b.short_months = (Decides-eqb a.short_months b.short_months).0 h2.0 in
     let deficient_months : a.deficient_months ≡ b.deficient_months = (Decides-eqb a.deficient_months b.deficient_months).0 h3.0 in

@@ -7,7 +7,7 @@ use Rattle.svc_core.proofs.entering.copy_dues.Goals as goal
 
 pub add_dues-requires-clause-room : goal.add_dues-requires-clause-room
 add_dues-requires-clause-room g c =
-    let k = c.loan_there.result.now in
-    let fits = of_found (λ (j : KeptLoan). length (dues_since c.args.month j) ≤ vec_capacity c.args.dues.now) c.args.id c.args.loans.now.loans k c.requires.room c.loan_there.ensures in
+    let k = c.loan.result.now in
+    let fits = of_found (λ (j : KeptLoan). length (dues_since c.args.month j) ≤ vec_capacity c.args.dues.now) c.args.place.id c.args.loans.now.loans k c.requires.room c.loan.ensures in
     let count = dues_count c.args.month k in
     omega (arith, fits, count, c.clear.ensures.len, c.clear.ensures.capacity)

@@ -10,39 +10,33 @@ use Rattle.svc_custody.proofs.PositionLemmas.{IsReadIn, found_read, position_are
 use Rattle.svc_custody.proofs.position.position_of.Given.{Over}
 use Rattle.svc_custody.proofs.position.position_of.Goals as goal
 
--- the loan that is found can be read
-asked : (g : Over) (c : goal.After-remitted g) → IsReadIn (world_of c.args.state.now.today c.args.state.now.loans c.args.state.now.seals) c.in-Some.loan.now
-asked g c = found_read (world_of c.args.state.now.today c.args.state.now.loans c.args.state.now.seals) c.args.state.now.loans.loans c.args.id c.in-Some.loan.now c.requires.read refl (sym c.get.ensures ∙ ap (option_map (λ r. r.now)) c.in-Some.is)
+-- the loan that stands there can be read
+asked : (g : Over) (c : goal.After-remitted g) → IsReadIn (world_of c.args.state.now.today c.args.state.now.loans c.args.state.now.seals) c.loan.result.now
+asked g c = found_read (world_of c.args.state.now.today c.args.state.now.loans c.args.state.now.seals) c.args.state.now.loans.loans c.args.place.id c.loan.result.now c.requires.read refl c.loan.ensures
 
-read : (g : Over) (c : goal.After-kept_position g) → IsReadIn (world_of c.args.state.now.today c.args.state.now.loans c.args.state.now.seals) c.in-Some.loan.now
-read g c = found_read (world_of c.args.state.now.today c.args.state.now.loans c.args.state.now.seals) c.args.state.now.loans.loans c.args.id c.in-Some.loan.now c.requires.read refl (sym c.get.ensures ∙ ap (option_map (λ r. r.now)) c.in-Some.is)
+read : (g : Over) (c : goal.After-kept_position g) → IsReadIn (world_of c.args.state.now.today c.args.state.now.loans c.args.state.now.seals) c.loan.result.now
+read g c = found_read (world_of c.args.state.now.today c.args.state.now.loans c.args.state.now.seals) c.args.state.now.loans.loans c.args.place.id c.loan.result.now c.requires.read refl c.loan.ensures
 
 pub kept_position-requires-clause-limited : goal.kept_position-requires-clause-limited
 kept_position-requires-clause-limited g c = (asked g c).limited
 
 pub kept_position-requires-clause-remitted : goal.kept_position-requires-clause-remitted
-kept_position-requires-clause-remitted g c = remitted_sum (world_of c.args.state.now.today c.args.state.now.loans c.args.state.now.seals) c.in-Some.loan.now (asked g c)
+kept_position-requires-clause-remitted g c = remitted_sum (world_of c.args.state.now.today c.args.state.now.loans c.args.state.now.seals) c.loan.result.now (asked g c)
 
 -- what was read off is the position of what is held
-is : (g : Over) (c : goal.After-kept_position g) → c.kept_position.result ≡ rule.position_of (world_of c.args.state.now.today c.args.state.now.loans c.args.state.now.seals) c.in-Some.loan.now.held
+is : (g : Over) (c : goal.After-kept_position g) → c.kept_position.result ≡ rule.position_of (world_of c.args.state.now.today c.args.state.now.loans c.args.state.now.seals) c.loan.result.now.held
 is g c =
     c.kept_position.ensures
-    ∙ ap (λ o. rule.kept_position o c.in-Some.loan.now) c.remitted.ensures.value
-    ∙ position_are (world_of c.args.state.now.today c.args.state.now.loans c.args.state.now.seals) c.in-Some.loan.now (read g c)
+    ∙ ap (λ o. rule.kept_position o c.loan.result.now) c.remitted.ensures.value
+    ∙ position_are (world_of c.args.state.now.today c.args.state.now.loans c.args.state.now.seals) c.loan.result.now (read g c)
 
-pub returns-in-Some-clause-value : goal.returns-in-Some-clause-value
-returns-in-Some-clause-value g c =
+pub returns-clause-value : goal.returns-clause-value
+returns-clause-value g c =
     let w : World = world_of c.args.state.now.today c.args.state.now.loans c.args.state.now.seals in
-    let there = find-held c.args.state.now.loans.loans c.args.id ∙ ap (option_map (λ (k : KeptLoan). k.held)) (sym c.get.ensures ∙ ap (option_map (λ r. r.now)) c.in-Some.is) in
+    let there = find-held c.args.state.now.loans.loans c.args.place.id ∙ ap (option_map (λ (k : KeptLoan). k.held)) c.loan.ensures in
     is g c ∙ sym (ap (rule.position w) there)
 
-pub returns-in-Some-clause-limits : goal.returns-in-Some-clause-limits
-returns-in-Some-clause-limits g c =
+pub returns-clause-limits : goal.returns-clause-limits
+returns-clause-limits g c =
     let h = read g c in
-    subst IsPosition (sym (is g c)) (position_within (world_of c.args.state.now.today c.args.state.now.loans c.args.state.now.seals) c.in-Some.loan.now.held h.limited h.reports)
-
-pub returns-in-None-clause-value : goal.returns-in-None-clause-value
-returns-in-None-clause-value g c =
-    let w : World = world_of c.args.state.now.today c.args.state.now.loans c.args.state.now.seals in
-    let none = find-held c.args.state.now.loans.loans c.args.id ∙ ap (option_map (λ (k : KeptLoan). k.held)) (sym c.get.ensures ∙ ap (option_map (λ r. r.now)) c.in-None.is) in
-    c.no_position.ensures.value ∙ sym (ap (rule.position w) none)
+    subst IsPosition (sym (is g c)) (position_within (world_of c.args.state.now.today c.args.state.now.loans c.args.state.now.seals) c.loan.result.now.held h.limited h.reports)

@@ -23,14 +23,14 @@ returns-in-Some-clause-fault g c =
     let said = ap (λ h. judged h c.args.key.now c.args.command.now) (sym hist) ∙ judged_known c.self.inside.parts.posted.history c.args.key.now c.args.command.now (known_as c.in-Some.before c.in-Some.reply) found in
     subst (λ j. IfErr c.repeat.result (IsFault j)) (sym said) c.repeat.ensures.fault
 
-pub returns-in_err-judge_new-in-None-clause-steps : goal.returns-in_err-judge_new-in-None-clause-steps
-returns-in_err-judge_new-in-None-clause-steps g c =
+pub returns-in_err-ready-in-None-clause-steps : goal.returns-in_err-ready-in-None-clause-steps
+returns-in_err-ready-in-None-clause-steps g c =
     let hist = ap (λ (s : Standing). s.history) c.self.view_is in
     let none = known_here c.self.inside.parts.posted c.self.inside.parts.state.today c.self.inside.parts.state.loans c.self.inside.parts.state.seals c.self.inside.parts.cash.book.rows c.self.inside.parts.cash.custody c.self.inside.parts.cash.positions.items c.args.key.now None c.self.invariant.parts c.in-None.ensures in
     subst (λ h. c.judge_new.new.steps ≤ c.args.steps.now + judging_cost g.B.LoanBooks.cost h c.args.key.now c.args.command.now) hist (unknown_steps g.B.LoanBooks.cost c.self.inside.parts.posted.history c.args.key.now c.args.command.now c.args.steps.now c.judge_new.new.steps none c.judge_new.ensures.steps)
 
-pub returns-in_ok-judge_new-in-None-clause-steps : goal.returns-in_ok-judge_new-in-None-clause-steps
-returns-in_ok-judge_new-in-None-clause-steps g c =
+pub returns-in_ok-ready-in-None-clause-steps : goal.returns-in_ok-ready-in-None-clause-steps
+returns-in_ok-ready-in-None-clause-steps g c =
     let hist = ap (λ (s : Standing). s.history) c.self.view_is in
     let none = known_here c.self.inside.parts.posted c.self.inside.parts.state.today c.self.inside.parts.state.loans c.self.inside.parts.state.seals c.self.inside.parts.cash.book.rows c.self.inside.parts.cash.custody c.self.inside.parts.cash.positions.items c.args.key.now None c.self.invariant.parts c.in-None.ensures in
     subst (λ h. c.judge_new.new.steps ≤ c.args.steps.now + judging_cost g.B.LoanBooks.cost h c.args.key.now c.args.command.now) hist (unknown_steps g.B.LoanBooks.cost c.self.inside.parts.posted.history c.args.key.now c.args.command.now c.args.steps.now c.judge_new.new.steps none c.judge_new.ensures.steps)

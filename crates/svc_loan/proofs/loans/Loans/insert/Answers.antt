@@ -1,13 +1,14 @@
 use Rattle.std.proofs.Common.{◌≡◌, ◌≤◌, Box, Global, map, length, sym, ap, subst, ◌∙◌}
 use Rattle.std.specs.Prelude.{None, Some, nat_lt, true, false}
+use Rattle.std.specs.List.{insert}
 use Rattle.std.specs.List.Sorted.{IsPartitionPoint}
 use Rattle.svc_base.specs.Calendar.{month_of}
 use Rattle.svc_types.specs.declared.terms.Terms.{Terms}
 use Rattle.svc_world.specs.Held.{with_loan, boarded_month}
 use Rattle.svc_loan.specs.Kept.{KeptLoan}
-use Rattle.svc_loan.specs.Loans.{KeptLoans, Rise, find_kept, with_kept, held_in, first_boarded, earlier_of}
+use Rattle.svc_loan.specs.Loans.{KeptLoans, Rise, IsPlaceIn, find_kept, with_kept, held_in, first_boarded, earlier_of}
 use Rattle.svc_loan.proofs.FirstLemmas.{first_with}
-use Rattle.svc_loan.proofs.KeptLemmas.{none_ahead, placed_kept, with_rises, with_held}
+use Rattle.svc_loan.proofs.KeptLemmas.{none_ahead, placed_kept, placed_there, with_rises, with_held}
 use Rattle.svc_loan.proofs.loans.Loans.insert.Given.{Over}
 use Rattle.svc_loan.proofs.loans.Loans.insert.Goals as goal
 
@@ -17,14 +18,14 @@ none g c = ap (λ (s : KeptLoans). find_kept c.args.loan.value.held.id s.loans) 
 placed : (g : Over) (c : goal.In-Ok g) → map (λ (b : Box KeptLoan Global). b.value) c.insert.new.self.items ≡ with_kept c.args.loan.value (map (λ (b : Box KeptLoan Global). b.value) c.self.inside.loans.items)
 placed g c =
     let xs = c.self.inside.loans.items in
-    let i = c.place_for-place.result in
+    let i = c.place_for-index.result in
     let x = c.args.loan in
     let n = x.value.held.id in
-    let number : c.id.result ≡ n = c.id.ensures ∙ ap (λ (k : KeptLoan). k.held.id) c.deref-2.ensures in
-    let at = c.place_for-place.ensures.point in
-    let behind : IsPartitionPoint (λ (b : Box KeptLoan Global). nat_lt b.value.held.id c.id.result ≡ true) (λ (b : Box KeptLoan Global). nat_lt b.value.held.id c.id.result ≡ false) xs i = subst (λ ys. IsPartitionPoint (λ (b : Box KeptLoan Global). nat_lt b.value.held.id c.id.result ≡ true) (λ (b : Box KeptLoan Global). nat_lt b.value.held.id c.id.result ≡ false) ys i) c.deref.ensures.value at in
+    let number : c.id-id.result ≡ n = c.id-id.ensures ∙ ap (λ (k : KeptLoan). k.held.id) c.deref.ensures in
+    let at = c.place_for-index.ensures.point in
+    let behind : IsPartitionPoint (λ (b : Box KeptLoan Global). nat_lt b.value.held.id c.id-id.result ≡ true) (λ (b : Box KeptLoan Global). nat_lt b.value.held.id c.id-id.result ≡ false) xs i = subst (λ ys. IsPartitionPoint (λ (b : Box KeptLoan Global). nat_lt b.value.held.id c.id-id.result ≡ true) (λ (b : Box KeptLoan Global). nat_lt b.value.held.id c.id-id.result ≡ false) ys i) c.deref-2.ensures.value at in
     let point : IsPartitionPoint (λ (b : Box KeptLoan Global). nat_lt b.value.held.id n ≡ true) (λ (b : Box KeptLoan Global). nat_lt b.value.held.id n ≡ false) xs i = subst (λ m. IsPartitionPoint (λ (b : Box KeptLoan Global). nat_lt b.value.held.id m ≡ true) (λ (b : Box KeptLoan Global). nat_lt b.value.held.id m ≡ false) xs i) number behind in
-    let le : i ≤ length xs = subst (λ ys. i ≤ length ys) c.deref.ensures.value c.place_for-place.ensures.bound in
+    let le : i ≤ length xs = subst (λ ys. i ≤ length ys) c.deref-2.ensures.value c.place_for-index.ensures.bound in
     ap (map (λ (b : Box KeptLoan Global). b.value)) c.in-Ok.ensures.items ∙ placed_kept (λ (b : Box KeptLoan Global). b.value) xs i x le point (none g c)
 
 -- the first boarded month is that of the loans with the new one
@@ -50,3 +51,19 @@ returns-clause-loans g c = placed g c ∙ ap (λ (s : KeptLoans). with_kept c.ar
 
 pub returns-clause-held : goal.returns-clause-held
 returns-clause-held g c = ap held_in (placed g c) ∙ with_held c.args.loan.value (map (λ (b : Box KeptLoan Global). b.value) c.self.inside.loans.items) ∙ ap (λ (s : KeptLoans). with_loan c.args.loan.value.held (held_in s.loans)) c.self.view_is
+
+pub returns-clause-id : goal.returns-clause-id
+returns-clause-id g c = c.id-id.ensures ∙ ap (λ (k : KeptLoan). k.held.id) c.deref.ensures
+
+pub returns-clause-place : goal.returns-clause-place
+returns-clause-place g c =
+    let v : Box KeptLoan Global → KeptLoan = λ b. b.value in
+    let xs = c.self.inside.loans.items in
+    let i = c.place_for-index.result in
+    let x = c.args.loan in
+    let number : c.id-id.result ≡ x.value.held.id = c.id-id.ensures ∙ ap (λ (k : KeptLoan). k.held.id) c.deref.ensures in
+    let le : i ≤ length xs = subst (λ ys. i ≤ length ys) c.deref-2.ensures.value c.place_for-index.ensures.bound in
+    let made : c.insert.new.self.items ≡ insert xs i x = c.in-Ok.ensures.items in
+    let rise : Rise (map v c.insert.new.self.items) = subst Rise (sym (placed g c)) (with_rises x.value (map v xs) c.self.invariant.rise (none g c)) in
+    let there = placed_there v xs i x le (subst (λ ys. Rise (map v ys)) made rise) in
+    subst (λ n. IsPlaceIn n (map v c.insert.new.self.items) (Some i)) (sym number) (subst (λ ys. IsPlaceIn x.value.held.id (map v ys) (Some i)) (sym made) there)

@@ -1,7 +1,7 @@
 //! What a command changes.
 
 ghost use Rattle.std.specs.Prelude.{◌≡◌};
-ghost use Rattle.svc_rules.specs.Scope as rule;
+ghost use Rattle.svc_world.specs.Scope as rule;
 
 use svc_types::{Command, Terms};
 

@@ -3,8 +3,8 @@ use Rattle.std.specs.Prelude.{◌≡◌, ℕ}
 use Rattle.svc_base.specs.Calendar.{month_of}
 use Rattle.svc_types.specs.declared.requests.Command.{Command}
 use Rattle.svc_types.specs.declared.requests.Command.TheVariants as command
-use Rattle.svc_rules.specs.declared.scope.Scope.{Scope}
-use Rattle.svc_rules.specs.declared.scope.Scope.TheVariants.{One, New, Every}
+use Rattle.svc_world.specs.declared.scope.Scope.{Scope}
+use Rattle.svc_world.specs.declared.scope.Scope.TheVariants.{One, New, Every}
 
 abbrev pub scope_of : Command → Scope
 scope_of (command.Day d) = Every
