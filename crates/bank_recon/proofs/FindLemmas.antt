@@ -1,6 +1,6 @@
 -- What is noted for a line, item by item.
 use Rattle.std.proofs.Common.{◌≡◌, ℕ, ◌+◌, ◌<◌, Bool, true, false, cond, List, [], ◌∷◌, ◌++◌, length, get_or, take, refl, sym, ap, ◌∙◌}
-use Rattle.std.specs.Prelude.{Option, Some, None, ◌||◌, if◌then◌else◌, IsSome, unwrap_or}
+use Rattle.std.specs.Prelude.{Option, Some, None, ◌||◌, if◌then◌else◌, IsSome}
 use Rattle.std.specs.List.{find, list_any}
 use Rattle.std.specs.Option.{option_map, option_or}
 use Rattle.std.proofs.lemmas.Bool.{false≢true}
@@ -8,9 +8,9 @@ use Rattle.std.proofs.lemmas.List.{take_more}
 use Rattle.std.proofs.lemmas.List.Folds.{find-append, list_any-append}
 use Rattle.bank_recon.specs.declared.item.BankItem.{BankItem}
 use Rattle.bank_recon.specs.declared.recon.Reason.{Reason}
-use Rattle.bank_recon.specs.declared.recon.Reason.TheVariants.{NoSuch, Extra, Amount}
+use Rattle.bank_recon.specs.declared.recon.Reason.TheVariants.{Extra, Amount}
 use Rattle.bank_recon.specs.Items.{is_near}
-use Rattle.bank_recon.specs.Matching.{has_partner, left_from, reason_of, amount_of}
+use Rattle.bank_recon.specs.Matching.{has_partner, left_from}
 use Rattle.bank_recon.specs.Finding.{noted, first_amount, or_extra}
 
 -- ---- one open item more
@@ -53,16 +53,6 @@ extra_more xs i x line old before lt is e =
     ap (λ b. noted x Extra b line) e ∙ extra_or old a (is_near line x) ∙ ap (λ b. option_or old (if b then Some Extra else None)) (sym more)
 
 -- ---- the reason of a line
-
-reason_by : (o : Option BankItem) (b : Bool) → (IsSome o → b ≡ true) → unwrap_or (option_or (option_map (λ (y : BankItem). Amount y.cents) o) (if b then Some Extra else None)) NoSuch ≡ (if b then amount_of o else NoSuch)
-reason_by None true h = refl
-reason_by None false h = refl
-reason_by (Some x) true h = refl
-reason_by (Some x) false h = absurd (false≢true (h refl))
-
-pub reason_found : (items open_items : List BankItem) (line : BankItem) (before after : Option Reason) → (IsSome (find (is_near line) open_items) → list_any (is_near line) items ≡ true) → before ≡ first_amount open_items line → after ≡ or_extra items before line → unwrap_or after NoSuch ≡ reason_of items open_items line
-reason_found items open_items line before after near e f =
-    ap (λ o. unwrap_or o NoSuch) (f ∙ ap (λ o. or_extra items o line) e) ∙ reason_by (find (is_near line) open_items) (list_any (is_near line) items) near
 
 -- ---- an open item is an item
 

@@ -73,9 +73,6 @@ matched_count others before (x ∷ xs) q =
           rw (made, all, none) (omega arith)
     ] refl
 
-min_flips : (m n : ℕ) → min m n ≡ min n m
-min_flips m n = omega arith
-
 -- those of one list and those of the other are alike
 pub pairs_alike : (items bank : List BankItem) → AreAlike (matched_from items [] bank) (matched_from bank [] items)
 pairs_alike items bank = alike (matched_from items [] bank) (matched_from bank [] items) (λ q.

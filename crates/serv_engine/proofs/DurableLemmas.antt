@@ -1,5 +1,5 @@
 -- What a call leaves on the disk.
-use Rattle.std.proofs.Common.{◌≡◌, ℕ, ◌≤◌, List, [], ◌∷◌, ◌++◌, inl, subst, sym, ap, ◌∙◌}
+use Rattle.std.proofs.Common.{◌≡◌, ℕ, ◌≤◌, List, [], ◌∷◌, ◌++◌, inl, subst, sym, ◌∙◌}
 use Rattle.serv_disk.specs.Disks.{Each, LeavesOnly}
 use Rattle.serv_disk.proofs.Moments.{started}
 use Rattle.serv_journal.specs.Format.{Form}
@@ -43,18 +43,6 @@ durable_more form images h new a more stands each = record {
   stands = subst (λ x. StandsFor form (lines_of_history x) new.journal) (sym more) stands;
   each = subst (λ x. Each images (IsWholeFor form x)) (sym more) each;
 }
-
-pub durable_same : (form : Form) (images : List ℕ → Type 0) (old new : EngineState) → new.history ≡ old.history → new.journal ≡ old.journal → IsDurableIn form images old → IsDurableIn form images new
-durable_same form images old new history journal d = record {
-  stands = subst (λ j. StandsFor form (lines_of_history new.history) j) (sym journal) (subst (λ h. StandsFor form (lines_of_history h) old.journal) (sym history) d.stands);
-  each = subst (λ h. Each images (IsWholeFor form h)) (sym history) d.each;
-}
-
--- the same engine by its parts
-pub same_engine : (h : List Accepted) (journal : JournalState) (old new : EngineState) → new.history ≡ h → new.journal ≡ journal → old.history ≡ h → old.journal ≡ journal → new ≡ old
-same_engine h journal old new nh nj oh oj =
-    let make : List Accepted → JournalState → EngineState = λ x j. record { history = x; journal = j } in
-    ap (λ x. make x new.journal) (nh ∙ sym oh) ∙ ap (λ j. make old.history j) (nj ∙ sym oj)
 
 -- what is good at each moment is so at the end
 pub good_now : {D : Type 0} (moment : D → ℕ) (images : D → List ℕ → Type 0) (images_since : D → ℕ → List ℕ → Type 0) (old new : D) (P : List ℕ → Type 0)

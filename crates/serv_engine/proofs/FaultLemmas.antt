@@ -1,14 +1,12 @@
 -- Faults of a journal as the engine's.
 use Rattle.std.proofs.Common.{◌≡◌, ◌≢◌, ◌⊎◌, ℕ, ◌+◌, ◌<◌, ◌≤◌, List, length, refl, sym, ap, subst, ◌∙◌, inl, inr, ⊎_elim}
-use Rattle.std.specs.Prelude.{Option, Result, Err}
+use Rattle.std.specs.Prelude.{Result, Err}
 use Rattle.std.proofs.lemmas.Bool.{cases_lt}
 use Rattle.svc_world.specs.World.{Accepted}
-use Rattle.svc_types.specs.declared.replies.Refusal.{Refusal}
-use Rattle.svc_types.specs.declared.replies.Reply.{Reply}
-use Rattle.svc_world.specs.Judging.{Judgement, Kept, Refused, Fresh, IsHistory}
+use Rattle.svc_world.specs.Judging.{Judgement, Refused, Fresh, IsHistory}
 use Rattle.svc_core.specs.declared.fault.CoreFault.{CoreFault}
 use Rattle.svc_core.specs.declared.fault.CoreFault.TheVariants as core
-use Rattle.svc_core.specs.Core.{IsFault, IsQueryFault}
+use Rattle.svc_core.specs.Core.{IsFault}
 use Rattle.serv_disk.specs.Faults.{HasRisen}
 use Rattle.serv_journal.specs.declared.format.Version.TheVariants.{One}
 use Rattle.serv_journal.specs.declared.faults.JournalFault.{JournalFault}
@@ -18,8 +16,8 @@ use Rattle.serv_journal.specs.Reading.{lines_in}
 use Rattle.serv_engine.specs.declared.fault.EngineFault.{EngineFault}
 use Rattle.serv_engine.specs.declared.fault.EngineFault.TheVariants as fault
 use Rattle.serv_engine.specs.Histories.{line_of_command, lines_of_history}
-use Rattle.serv_engine.specs.Submitting.{IsFull, IsAppendFault, IsSubmitFault, IsAskFault, fault_of_core}
-use Rattle.serv_engine.specs.Opening.{fault_of_journal, fault_of_record, length_upgraded, IsUpgradeFault, IsReplayFault, IsTakingFault}
+use Rattle.serv_engine.specs.Submitting.{IsFull, IsAppendFault, IsSubmitFault, fault_of_core}
+use Rattle.serv_engine.specs.Opening.{fault_of_journal, length_upgraded, IsUpgradeFault, IsReplayFault, IsTakingFault}
 
 -- results with faults
 pub err_same : {E : Type 0} (f g : E) → ◌≡◌ {A = Result (Unit {0}) E} (Err f) (Err g) → f ≡ g
@@ -69,10 +67,6 @@ pub core_kept : (f : CoreFault) → fault_of_core f ≡ fault.DiskFault → ⊥
 core_kept (core.Refused why) is = let e : ⊥ = cc in e
 core_kept core.OutOfMemory is = let e : ⊥ = cc in e
 
-pub ask_fault : (o : Option Refusal) (f : CoreFault) → IsQueryFault o f → IsAskFault o (fault_of_core f)
-ask_fault o (core.Refused why) is = is
-ask_fault o core.OutOfMemory is = is
-
 pub ask_memory : (f : CoreFault) (P : Type 0) → (f ≡ core.OutOfMemory → P) → fault_of_core f ≡ fault.OutOfMemory → P
 ask_memory (core.Refused why) P wanted is = let no_way : ⊥ = cc in absurd no_way
 ask_memory core.OutOfMemory P wanted is = wanted refl
@@ -85,20 +79,6 @@ fresh_fault said j a old new fault.OutOfMemory fresh is = fresh
 fresh_fault said j a old new fault.NotJournal fresh is = absurd is
 fresh_fault said j a old new (fault.Damaged place) fresh is = absurd is
 fresh_fault said j a old new (fault.Refused why) fresh is = absurd is
-
--- of the core, over the command of a record
-pub record_fault : (said : Judgement) (place : ℕ) (f : CoreFault) → IsFault said f → (fault_of_record place f ≡ fault.OutOfMemory) ⊎ ((fault_of_record place f ≡ fault.Damaged place) × (said ≢ Fresh))
-record_fault said place (core.Refused why) is = inr (refl, λ fresh. differ why (sym is ∙ fresh))
-  where
-    differ : (why : Refusal) → Refused why ≡ Fresh → ⊥
-    differ why e = let no_way : ⊥ = cc in no_way
-record_fault said place core.OutOfMemory is = inl refl
-
-pub kept_stale : (said : Judgement) (reply : Reply) → said ≡ Kept reply → said ≢ Fresh
-kept_stale said reply is fresh = differ (sym is ∙ fresh)
-  where
-    differ : Kept reply ≡ Fresh → ⊥
-    differ e = let no_way : ⊥ = cc in no_way
 
 -- of writing a journal of version 1 anew
 pub upgrade_fault : (j : JournalState) (lines : List (List ℕ)) (old new : ℕ) (f : JournalFault) → j.version ≡ One

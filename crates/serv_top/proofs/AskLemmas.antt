@@ -36,9 +36,6 @@ pub record Reads (fields : List Field) (words : List (Bor (List ℕ))) (i : ℕ)
   pub count : length values ≡ i
   pub fit : (rest : List Value) → AreValuesOf (drop i fields) rest → AreValuesOf fields (values ++ rest)
 
-pub reads_none : (fields : List Field) (words : List (Bor (List ℕ))) → Reads fields words 0 []
-reads_none fields words = record { text = refl; count = refl; fit = λ rest are. are }
-
 are_more : (f : Field) (fields : List Field) (v : Value) (values : List Value) → IsValueOf (kind_of_field f) v → AreValuesOf fields values → AreValuesOf (f ∷ fields) (v ∷ values)
 are_more f fields v values is are = record { each = each }
   where

@@ -114,12 +114,6 @@ moves_more saids said s s' s'' all one =
     bound_of_all-push s.history saids said ∙ ap (λ h. bound_of_all s.history saids + bound_of h said) (sym all.0) in
     (one.0 ∙ ap (λ h. history_after h said) all.0 ∙ sym (history_after_all-push s.history saids said), omega (arith, grown, all.1, one.1))
 
--- more bytes
-pub open_from-append : (line bytes more : List ℕ) → open_from line (bytes ++ more) ≡ open_from (open_from line bytes) more
-open_from-append line [] more = refl
-open_from-append line (b ∷ bytes) more = elim (b == 10) as (λ t. (if t then open_from [] (bytes ++ more) else open_from (line ++ b ∷ []) (bytes ++ more)) ≡ open_from (if t then open_from [] bytes else open_from (line ++ b ∷ []) bytes) more)
-    [ true ↦ open_from-append [] bytes more | false ↦ open_from-append (line ++ b ∷ []) bytes more ]
-
 ended_from-append : (line bytes more : List ℕ) → ended_from line (bytes ++ more) ≡ ended_from line bytes ++ ended_from (open_from line bytes) more
 ended_from-append line [] more = refl
 ended_from-append line (b ∷ bytes) more = elim (b == 10) as (λ t. (if t then line ∷ ended_from [] (bytes ++ more) else ended_from (line ++ b ∷ []) (bytes ++ more))

@@ -1,11 +1,10 @@
 -- The rows of a file, one after another.
 use Rattle.std.proofs.Common.{◌≡◌, ◌⊎◌, ℕ, ◌+◌, ◌-◌, ◌<◌, ◌≤◌, List, [], ◌∷◌, ◌++◌, length, take, drop, get_or, map, refl, sym, ap, subst, ◌∙◌, inl, inr, ⊎_elim, arith, append-nil, append_assoc, length-append, zero, suc, add-one}
-use Rattle.std.specs.Prelude.{Option, Some, Result, Ok, Err, IfErr, OnErr}
-use Rattle.std.specs.Io.KnownBytes.{Appends, Consumes, IsAtEnd}
+use Rattle.std.specs.Prelude.{Option, Some}
+use Rattle.std.specs.Io.KnownBytes.{Appends, Consumes}
 use Rattle.std.proofs.KnownBytes.{Appends-nil, Appends-trans}
-use Rattle.svc_types.specs.declared.requests.Command.{Command}
 use Rattle.svc_types.specs.declared.requests.Request.TheVariants as request
-use Rattle.svc_world.specs.World.{Accepted, accepted}
+use Rattle.svc_world.specs.World.{Accepted}
 use Rattle.svc_world.specs.Judging.{IsHistory}
 use Rattle.serv_disk.specs.Faults.{HasRisen, IsProperPrefix}
 use Rattle.serv_disk.specs.Stamps.{Stamp}
@@ -16,22 +15,19 @@ use Rattle.serv_import.specs.declared.row.RowRequest.{RowRequest}
 use Rattle.serv_import.specs.declared.row.RowRequest.TheVariants as row
 use Rattle.serv_import.specs.Batches.{AreAnswers, HasHeader, IsBatch}
 use Rattle.serv_import.proofs.UniqueLemmas.{one_batch}
-use Rattle.serv_machine.specs.declared.faults.Halt.{Halt}
 use Rattle.serv_machine.specs.declared.faults.Halt.TheVariants as halt
-use Rattle.serv_machine.specs.History.{Fresh, decided}
-use Rattle.serv_machine.specs.Replies.{bound_of_request, history_after_request, pending_of}
 use Rattle.serv_machine.specs.OnDisk.{OnDisk}
 use Rattle.serv_machine.proofs.OnDiskLemmas.{disk_more}
 use Rattle.serv_top.specs.declared.serving.Stop.{Stop}
 use Rattle.serv_top.specs.declared.serving.Stop.TheVariants as stop
 use Rattle.serv_top.specs.declared.status.Status.{Status}
 use Rattle.serv_top.specs.declared.status.Status.TheVariants as status
-use Rattle.serv_top.specs.Machine.{Said, Asks, Unfit, reply_to, Stand, stand, Stays, Moves}
+use Rattle.serv_top.specs.Machine.{Said, Unfit, reply_to, Stand, stand, Stays, Moves}
 use Rattle.serv_top.specs.Replies.{MovesAll, replies_to}
 use Rattle.serv_top.specs.Outcome.{input_limit}
-use Rattle.serv_top.specs.Stop.{status_of, stop_of}
+use Rattle.serv_top.specs.Stop.{status_of}
 use Rattle.serv_top.specs.Upheld.{IsAcknowledged}
-use Rattle.serv_top.specs.Imported.{AreFirstIn, FileSays, said_of, IsRow, AreRows, HaltsOn, IsStoppedOn, StopsOn, IsAnswered, IsTriedFirst, IsRowsOutput, RowsEnd, IsUnread, rows, headless, FileEnds, Imports, ImportEnds, IsImported}
+use Rattle.serv_top.specs.Imported.{AreFirstIn, FileSays, said_of, IsRow, AreRows, IsStoppedOn, StopsOn, IsAnswered, IsTriedFirst, IsRowsOutput, RowsEnd, IsUnread, rows, headless, FileEnds, Imports, ImportEnds, IsImported}
 use Rattle.serv_top.specs.Journal.{IsOpened, IsUnopened, journal_limit}
 use Rattle.serv_top.proofs.Applied.{run_over, unopened_ends, few_taken, store_of, store_after, store_moves}
 use Rattle.serv_top.proofs.Cutting.{replies_to-push, moves_more}
@@ -56,30 +52,6 @@ row_at (r ∷ list) zero d are small = are.0
 row_at (r ∷ list) (suc i) d are small = row_at list i d are.1 (omega arith)
 
 -- ---- one row
-
--- a command that has no reply
-pub halted_row : {D : Type 0} (images : D → List ℕ → Type 0) (moment : D → ℕ) (images_since : D → ℕ → List ℕ → Type 0) (old new : D) (key : List ℕ) (c : Command) (s s' : Stand)
-    (result : Result (Unit {0}) Halt) → s'.steps ≤ s.steps + bound_of_request s.history (request.Do key c)
-    → OnErr result ((s'.history ≡ s.history) ⊎ (s'.history ≡ history_after_request s.history (request.Do key c))) → (result ≡ Err halt.DiskFault → s'.history ≡ s.history)
-    → (result ≡ Err halt.DiskFault → decided s.history key c ≡ Fresh)
-    → OnDisk images moment images_since old new s.history.commands s'.history.commands (pending_of (request.Do key c) result)
-    → IfErr result (λ why. HaltsOn images moment images_since old new why (Asks (request.Do key c)) s s')
-halted_row images moment images_since old new key c s s' (Ok done) cost near same fresh disk = tt
-halted_row images moment images_since old new key c s s' (Err halt.OutOfMemory) cost near same fresh disk =
-    record { pending = []; halted = (refl, record { near = near; cost = cost }); disk = disk }
-halted_row images moment images_since old new key c s s' (Err halt.DiskFault) cost near same fresh disk = record {
-  pending = accepted key c ∷ [];
-  halted = record { key = key; command = c; is = refl; fresh = fresh refl; pending_is = refl; same = same refl; cost = cost };
-  disk = disk;
-}
-
--- it stops where it halts
-pub stops_halted : {D : Type 0} (images : D → List ℕ → Type 0) (moment : D → ℕ) (images_since : D → ℕ → List ℕ → Type 0) (old new : D) (why : Halt) (said : Said) (s s' : Stand) (held : Option (List ℕ))
-    → HaltsOn images moment images_since old new why said s s' → StopsOn images moment images_since old new (stop_of why) said s s' held held
-stops_halted images moment images_since old new halt.OutOfMemory said s s' held h =
-    record { pending = h.pending; written = []; wrote = Appends-nil held; says = (h.halted.0, refl, h.halted.1); disk = h.disk }
-stops_halted images moment images_since old new halt.DiskFault said s s' held h =
-    record { pending = h.pending; written = []; wrote = Appends-nil held; says = (refl, h.halted); disk = h.disk }
 
 -- ---- one row after others
 
@@ -208,21 +180,6 @@ file_headless images moment images_since old new st bytes s s' held held' none e
 }
 
 -- ---- the source and the file
-
-pub import_read : {D : Type 0} (images : D → List ℕ → Type 0) (moment : D → ℕ) (images_since : D → ℕ → List ℕ → Type 0) (old new : D) (st : Status) (bytes : List ℕ) (s s' : Stand)
-    (left left' held held' : Option (List ℕ)) → Consumes left left' bytes × IsAtEnd left' × (length bytes < input_limit) → FileEnds images moment images_since old new st bytes s s' held held'
-    → ImportEnds images moment images_since old new st s s' left left' held held'
-import_read images moment images_since old new st bytes s s' left left' held held' whole ends = record {
-  pending = ends.pending;
-  imported = record {
-    taken = bytes;
-    written = ends.written;
-    took = whole.0;
-    wrote = ends.wrote;
-    says = ⊎_elim (λ idle. inl (subst (λ (x : Status). IsUnread x bytes) (sym idle.0) (omega (arith, whole.2)), idle.1)) (λ file. inr (whole.1, whole.2, file)) ends.says;
-  };
-  disk = ends.disk;
-}
 
 pub import_unread : {D : Type 0} (images : D → List ℕ → Type 0) (moment : D → ℕ) (images_since : D → ℕ → List ℕ → Type 0) (old new : D) (st : Status) (s s' : Stand)
     (left left' held : Option (List ℕ)) → (taken : List ℕ) × Consumes left left' taken × IsUnread st taken → s'.history ≡ s.history → s'.steps ≡ s.steps

@@ -2,7 +2,6 @@
 use Rattle.std.proofs.Common.{◌≡◌, ◌⊎◌, ℕ, List, [], ◌∷◌, ◌++◌, refl, sym, ap, subst, ◌∙◌, inl, inr, ⊎_elim, Bool, true, false}
 use Rattle.std.specs.Prelude.{Option, Some, not}
 use Rattle.std.proofs.KnownBytes.{Appends-nil}
-use Rattle.svc_types.specs.Requests.{IsQuery}
 use Rattle.svc_types.specs.declared.requests.Query.{Query}
 use Rattle.svc_types.specs.declared.requests.Query.TheVariants as query
 use Rattle.svc_types.specs.declared.replies.Refusal.{Refusal}
@@ -25,12 +24,6 @@ use Rattle.serv_top.specs.Shown.{IsShown, IsShownAs, Shows, refusal_over}
 use Rattle.serv_top.specs.Words.{IsShowing}
 use Rattle.serv_top.proofs.Applied.{unopened_ends}
 use Rattle.serv_top.specs.Ends.{Completes}
-
-pub is_query : (q : Query) → IsShowing q → IsQuery q
-is_query (query.Report m) is = is
-is_query (query.Trial m) is = is
-is_query query.Custodial is = is
-is_query other is = absurd is
 
 -- no other rule refuses them
 only_cause : (b c : Bool) (r why : Refusal) → first_of (case b r ∷ case c r ∷ []) ≡ Some why → r ≡ why

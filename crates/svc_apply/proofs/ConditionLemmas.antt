@@ -83,13 +83,6 @@ settled_curtailed t by d b s signs = settled_keeps t by d (λ x. x.curtailed ≡
 
 -- ---- what an event leaves
 
--- the sums of books
-pub books_sums : (t : Terms) (b : Books) → IsSound t → AreBooks t b → AreSums b
-books_sums t b s h =
-    let high = h.signs.upb_high in
-    let most = s.principal_high in
-    record { upb_low = h.signs.upb_low; upb_high = omega (arith, ints); suspense = h.signs.suspense; late_owed = h.signs.late_owed; curtailed = h.signs.curtailed; within = h.within }
-
 -- what the signs and the limits say of a step's first part, over plain books
 books_may_settle : (t : Terms) (b : Books) → AreBooks t b → MaySettle b
 books_may_settle t b h =

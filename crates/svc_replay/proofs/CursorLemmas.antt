@@ -25,16 +25,6 @@ taken_more P live i e lt is h all = let one : i + 1 ≡ suc i = omega arith in r
 
 -- ---- a place after all events up to a day
 
-pub by_later : (t : Terms) (live : List Entry) (d d' m k i : ℕ) → d ≤ d' → IsAfter t live d m k i → IsBy t live d' m k i
-by_later t live d d' m k i le h =
-    let month = h.month in
-    record {
-      month = omega arith;
-      few = h.few;
-      over = λ some. (let by = h.over some in omega arith);
-      taken = λ n x lt. (let by = h.taken n x lt in omega arith);
-    }
-
 empty : (xs : List Event) → All (λ x. 1 ≤ 0) xs → xs ≡ []
 empty [] h = refl
 empty (x ∷ xs) h = let no = All-head (λ y. 1 ≤ 0) x xs h in absurd (omega arith)

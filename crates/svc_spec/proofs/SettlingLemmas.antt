@@ -150,9 +150,6 @@ is_movable-true t by b due owed covered = is_movable-is t by b ∙ and_true _ _ 
 pub is_movable-short : (t : Terms) (by : ℕ) (b : Books) → b.suspense <ℤ whole_part t b.plan b.earlier b.upb b.next → is_movable t by b ≡ false
 is_movable-short t by b short = is_movable-is t by b ∙ third_false (nat_le (due_month t b.next) by) (int_lt (pos 0) b.upb) (int_le (whole_part t b.plan b.earlier b.upb b.next) b.suspense) (int_le-false (whole_part t b.plan b.earlier b.upb b.next) b.suspense short)
 
-pub is_movable-later : (t : Terms) (by : ℕ) (b : Books) → by < due_month t b.next → is_movable t by b ≡ false
-is_movable-later t by b later = rw (nat_le-false (due_month t b.next) by later)
-
 pub is_movable-paid : (t : Terms) (by : ℕ) (b : Books) → b.upb ≤ℤ pos 0 → is_movable t by b ≡ false
 is_movable-paid t by b paid = is_movable-is t by b ∙ rw (int_lt-false (pos 0) b.upb paid) (and_false (nat_le (due_month t b.next) by))
 
