@@ -1,7 +1,7 @@
 //! Queries that words ask over a journal: each of them, some that are refused, and words that ask none.
 
-use crate::running::{Given, ending_of, journal_of};
 use crate::texts::{Text, ends_silent, first_otherwise};
+use serv_run_tests::{Given, ending_of, journal_of};
 use serv_top::Status;
 use std::alloc::Global;
 use svc_base::OutOfMemory;

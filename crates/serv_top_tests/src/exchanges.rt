@@ -1,42 +1,12 @@
 //! Lines and the replies to them, in memory and over a journal.
 
-use crate::running::{NEW_JOURNAL, ending_of, over};
-use crate::tables::*;
+use serv_run_tests::{
+    CLOSED, CREDITED, ENDS, ESCROWED, FIRST_PAYMENT, NEW_JOURNAL, NO_REQUESTS, NO_SHORTAGE,
+    ONE_BILL, SHORTAGE, SMALL_SHORTAGE, TAKEN_ON, TOO_EARLY, ending_of, lines_of, over, replies_to,
+};
 use serv_top::Status;
-use std::alloc::{AllocError, Global};
+use std::alloc::Global;
 use svc_base::OutOfMemory;
-
-fn push_line(bytes: &mut Vec<u8>, line: &str) -> Result<(), AllocError> {
-    bytes.extend_from_slice(line.as_bytes())?;
-    bytes.push(b'\n')?;
-    Ok(())
-}
-
-/// The lines of the texts.
-pub(crate) fn lines_of(alloc: Global, texts: &[&str]) -> Result<Vec<u8>, AllocError> {
-    let mut bytes = Vec::new(alloc);
-    for text in texts {
-        for line in text.lines() {
-            if let Some(line) = line.strip_prefix("> ") {
-                push_line(&mut bytes, line)?;
-            }
-        }
-    }
-    Ok(bytes)
-}
-
-/// The replies to them.
-pub(crate) fn replies_to(alloc: Global, texts: &[&str]) -> Result<Vec<u8>, AllocError> {
-    let mut bytes = Vec::new(alloc);
-    for text in texts {
-        for line in text.lines() {
-            if !line.starts_with("> ") {
-                push_line(&mut bytes, line)?;
-            }
-        }
-    }
-    Ok(bytes)
-}
 
 /// Whether the lines of the texts have their replies by this word, from an empty journal.
 fn answers(alloc: Global, word: &str, texts: &[&str]) -> Result<bool, OutOfMemory> {

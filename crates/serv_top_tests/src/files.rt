@@ -1,6 +1,6 @@
 //! Files that are imported by runs that end early.
 
-use crate::running::{Ending, Given, ending_of, journal_of, over};
+use serv_run_tests::{Ending, Given, ending_of, journal_of, over};
 use serv_top::Status;
 use std::alloc::Global;
 use svc_base::OutOfMemory;

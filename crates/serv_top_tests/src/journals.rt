@@ -1,6 +1,6 @@
 //! Journals that are made, opened and refused.
 
-use crate::running::{NEW_JOURNAL, ONE_LINE, ending_of, over};
+use serv_run_tests::{NEW_JOURNAL, ONE_LINE, ending_of, over};
 use serv_top::Status;
 use std::alloc::Global;
 use svc_base::OutOfMemory;

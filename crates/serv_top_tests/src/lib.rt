@@ -6,8 +6,6 @@ mod asked;
 #[cfg(test)]
 mod exchanges;
 #[cfg(test)]
-mod faults;
-#[cfg(test)]
 mod files;
 #[cfg(test)]
 mod journals;
@@ -22,13 +20,7 @@ mod one_link;
 #[cfg(test)]
 mod reviews;
 #[cfg(test)]
-mod running;
-#[cfg(test)]
 mod statuses;
-#[cfg(test)]
-mod stops;
-#[cfg(test)]
-mod tables;
 #[cfg(test)]
 mod texts;
 #[cfg(test)]

@@ -2,8 +2,8 @@
 
 ghost use Rattle.std.specs.Prelude.{◌≡◌, IfOk};
 
-use crate::running::{Given, NEW_JOURNAL, ONE_LINE, ending_at, over};
 use serv_disk::{CalmDoors, CalmLink, MemDoors, MemLink};
+use serv_run_tests::{Given, NEW_JOURNAL, ONE_LINE, ending_at, over};
 use serv_top::{Status, port_in};
 use std::alloc::Global;
 use svc_base::OutOfMemory;

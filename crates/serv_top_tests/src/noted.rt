@@ -2,8 +2,8 @@
 
 use crate::noting::{Noted, Noting, NotingDoors, NotingLink};
 use crate::one_link::{DAY, DAY_SAID};
-use crate::running::{NEW_JOURNAL, disk_of, over, run_in_memory, sink_of, source_of};
 use serv_disk::{CalmDoors, Disk};
+use serv_run_tests::{NEW_JOURNAL, disk_of, over, run_in_memory, sink_of, source_of};
 use serv_top::Status;
 use std::alloc::Global;
 use svc_base::OutOfMemory;

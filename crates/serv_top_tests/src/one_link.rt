@@ -3,10 +3,10 @@
 ghost use Rattle.std.specs.Prelude.{◌≡◌, ◌<◌, false, IfOk};
 ghost use Rattle.serv_engine.specs.Engines.{IsDurable};
 
-use crate::running::NEW_JOURNAL;
 use serv_disk::{Disk, Link, MemDisk, MemLink};
 use serv_engine::{Engine, EngineFault};
 use serv_links::LinkEnd;
+use serv_run_tests::NEW_JOURNAL;
 use serv_top::serve_one;
 use std::alloc::Global;
 use std::marker::Brand;

@@ -1,6 +1,6 @@
 //! Texts that are written over a journal: reports, balances, the custodial line, and a generated year.
 
-use crate::running::{ending_of, journal_of, over};
+use serv_run_tests::{ending_of, journal_of, over};
 use serv_top::Status;
 use std::alloc::Global;
 use svc_base::{Month, OutOfMemory};

@@ -1,19 +1,19 @@
 //! Lines, each behind `> `, and the replies to them.
 
 /// A loan of 200,000.00 at 6 percent whose first installment, 1,199.10, is due on 2024-02-01.
-pub(crate) const TAKEN_ON: &str = "> k1 day 2024-02-01
+pub const TAKEN_ON: &str = "> k1 day 2024-02-01
 ok 1
 > k2 board 1 2023-12-15 200000.00 6000 250 1199.10 360 2024-02 15 500 2 0.00 SS
 ok 2
 ";
 
 /// Its first payment.
-pub(crate) const FIRST_PAYMENT: &str = "> k3 pay 1 2024-02-01 1199.10
+pub const FIRST_PAYMENT: &str = "> k3 pay 1 2024-02-01 1199.10
 ok 3
 ";
 
 /// Four months closed and remitted; March was not paid.
-pub(crate) const CLOSED: &str = "> k4 day 2024-04-01
+pub const CLOSED: &str = "> k4 day 2024-04-01
 ok 4
 > k5 close 2023-12
 ok 5 lines 1 interest 0.00 principal 0.00
@@ -34,7 +34,7 @@ ok 12 net 1157.47
 ";
 
 /// March is paid late, and April is closed; it was not paid.
-pub(crate) const CLOSED_LATER: &str = "> k13 pay 1 2024-03-10 1199.10
+pub const CLOSED_LATER: &str = "> k13 pay 1 2024-03-10 1199.10
 ok 13
 > k14 day 2024-05-01
 ok 14
@@ -43,7 +43,7 @@ ok 15 lines 1 interest 956.42 principal 201.10
 ";
 
 /// A loan with three bills a year.
-pub(crate) const ESCROWED: &str = "> k1 day 2024-06-15
+pub const ESCROWED: &str = "> k1 day 2024-06-15
 ok 1
 > k2 board 2 2024-06-01 200000.00 6000 250 1199.10 360 2024-07 15 500 2 130.00 AA
 ok 2
@@ -56,21 +56,21 @@ ok 5
 ";
 
 /// A surplus below 50.00, of which 4.16 a month is credited.
-pub(crate) const CREDITED: &str = "> k6 deposit 2 2024-06-10 1089.99
+pub const CREDITED: &str = "> k6 deposit 2 2024-06-10 1089.99
 ok 6
 > k7 analyse 2 credit - -
 ok 7 base 130.00 cushion 260.00 opening 1040.00 balance 1089.99 surplus 49.99 short 0.00 deficient 0.00 refund 0.00 within30 0.00 pay 125.84
 ";
 
 /// A shortage of less than a month, paid within 30 days.
-pub(crate) const SMALL_SHORTAGE: &str = "> k6 deposit 2 2024-06-10 910.01
+pub const SMALL_SHORTAGE: &str = "> k6 deposit 2 2024-06-10 910.01
 ok 6
 > k7 analyse 2 - within30 -
 ok 7 base 130.00 cushion 260.00 opening 1040.00 balance 910.01 surplus 0.00 short 129.99 deficient 0.00 refund 0.00 within30 129.99 pay 130.00
 ";
 
 /// A shortage of a month, which is spread.
-pub(crate) const SHORTAGE: &str = "> k6 deposit 2 2024-06-10 910.00
+pub const SHORTAGE: &str = "> k6 deposit 2 2024-06-10 910.00
 ok 6
 > k7 analyse 2 - within30 -
 no 18 BadPlan 2 MustSpread Short
@@ -83,14 +83,14 @@ ok 7 base 130.00 cushion 260.00 opening 1040.00 balance 910.00 surplus 0.00 shor
 ";
 
 /// Neither surplus nor shortage.
-pub(crate) const NO_SHORTAGE: &str = "> k6 deposit 2 2024-06-10 1040.00
+pub const NO_SHORTAGE: &str = "> k6 deposit 2 2024-06-10 1040.00
 ok 6
 > k7 analyse 2 - leave -
 no 18 BadPlan 6 NothingToPlan Short
 ";
 
 /// A bill of 100.03 in the first month alone.
-pub(crate) const ONE_BILL: &str = "> k1 day 2024-06-15
+pub const ONE_BILL: &str = "> k1 day 2024-06-15
 ok 1
 > k2 board 2 2024-06-01 200000.00 6000 250 1199.10 360 2024-07 15 500 2 130.00 AA
 ok 2
@@ -114,7 +114,7 @@ end
 ";
 
 /// A month that has not ended.
-pub(crate) const TOO_EARLY: &str = "> k1 day 2023-12-31
+pub const TOO_EARLY: &str = "> k1 day 2023-12-31
 ok 1
 > k2 board 1 2023-12-15 200000.00 6000 250 1199.10 360 2024-02 15 500 2 0.00 SS
 ok 2
@@ -125,7 +125,7 @@ no 22 NotEnded 2023-12-31
 ";
 
 /// Lines that are no requests.
-pub(crate) const NO_REQUESTS: &str = "> k1 pay 1 2024-02-30 5.00
+pub const NO_REQUESTS: &str = "> k1 pay 1 2024-02-30 5.00
 bad 9
 > k1 pay 1 2024-02-01
 bad 19
@@ -137,7 +137,7 @@ bad 0
 
 /// Keys of 32 and of 33 bytes, the greatest number and one above it, days at both ends of the calendar, and
 /// each field at its longest.
-pub(crate) const ENDS: &str = "> k1 day 1989-12-31
+pub const ENDS: &str = "> k1 day 1989-12-31
 bad 7
 > k1 day 1990-01-01
 no 3 DayNotLater 1990-01-01

@@ -1,9 +1,10 @@
 //! A disk that stops after each of its calls, and one of whose calls fails, each in turn.
 
-use crate::exchanges::{lines_of, replies_to};
-use crate::running::{Ending, NEW_JOURNAL, ending_on, over};
-use crate::tables::{CLOSED, CLOSED_LATER, FIRST_PAYMENT, TAKEN_ON};
 use serv_disk::{MemDisk, Torn};
+use serv_run_tests::{
+    CLOSED, CLOSED_LATER, Ending, FIRST_PAYMENT, NEW_JOURNAL, TAKEN_ON, ending_on, lines_of, over,
+    replies_to,
+};
 use serv_top::Status;
 use std::alloc::{AllocError, Global};
 use svc_base::OutOfMemory;

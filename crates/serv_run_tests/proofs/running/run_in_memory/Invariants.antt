@@ -1,4 +1,4 @@
-use Rattle.serv_top_tests.proofs.running.run_in_memory.Given as goal
+use Rattle.serv_run_tests.proofs.running.run_in_memory.Given as goal
 
 abbrev pub ghosts-run_counted : goal.ghosts-run_counted
 ghosts-run_counted g a = record { name = a.blank.name; parts = a.blank.parts }

@@ -10,27 +10,27 @@ use std::sync::ledger::{Blank, Ledger};
 use svc_base::{OutOfMemory, Steps};
 
 /// A journal without a command.
-pub(crate) const NEW_JOURNAL: &[u8] = b"MSRVJ002\x00";
+pub const NEW_JOURNAL: &[u8] = b"MSRVJ002\x00";
 
 /// The journal of the line `k1 day 2024-02-01`, 33 bytes.
-pub(crate) const ONE_LINE: &[u8] = b"MSRVJ002\x01\x00\x00\x00\x01\x00\x11k1 day 2024-02-01\x00";
+pub const ONE_LINE: &[u8] = b"MSRVJ002\x01\x00\x00\x00\x01\x00\x11k1 day 2024-02-01\x00";
 
 /// That line.
-pub(crate) const LINE: &[u8] = b"k1 day 2024-02-01\n";
+pub const LINE: &[u8] = b"k1 day 2024-02-01\n";
 
 /// What a run is given: words, what the disk and the source hold, and which of their calls fail.
 #[derive(Clone, Copy)]
-pub(crate) struct Given<'a> {
-    pub(crate) words: &'a [&'a str],
-    pub(crate) journal: &'a [u8],
-    pub(crate) calls: &'a [u32],
-    pub(crate) input: &'a [u8],
-    pub(crate) reads: &'a [u32],
-    pub(crate) writes: &'a [u32],
+pub struct Given<'a> {
+    pub words: &'a [&'a str],
+    pub journal: &'a [u8],
+    pub calls: &'a [u32],
+    pub input: &'a [u8],
+    pub reads: &'a [u32],
+    pub writes: &'a [u32],
 }
 
 /// A run over a journal with an input, of which no call fails.
-pub(crate) fn over<'a>(words: &'a [&'a str], journal: &'a [u8], input: &'a [u8]) -> Given<'a> {
+pub fn over<'a>(words: &'a [&'a str], journal: &'a [u8], input: &'a [u8]) -> Given<'a> {
     Given {
         words,
         journal,
@@ -43,21 +43,21 @@ pub(crate) fn over<'a>(words: &'a [&'a str], journal: &'a [u8], input: &'a [u8])
 
 /// What a run came to.
 #[derive(Drop)]
-pub(crate) struct Ending {
-    pub(crate) status: Status,
-    pub(crate) output: Vec<u8>,
+pub struct Ending {
+    pub status: Status,
+    pub output: Vec<u8>,
     /// What reads of the disk give.
-    pub(crate) journal: Vec<u8>,
+    pub journal: Vec<u8>,
 }
 
 impl Ending {
     /// Whether the run ended with this status and output.
-    pub(crate) fn is(&self, status: Status, output: &[u8]) -> bool {
+    pub fn is(&self, status: Status, output: &[u8]) -> bool {
         self.status == status && self.output.as_slice() == output
     }
 
     /// Whether it left this journal.
-    pub(crate) fn leaves(&self, journal: &[u8]) -> bool {
+    pub fn leaves(&self, journal: &[u8]) -> bool {
         self.journal.as_slice() == journal
     }
 }
@@ -82,7 +82,7 @@ fn run_counted<L: Ledger, S: Source, K: Sink, D: Disk, G: Doors>(
 }
 
 /// Runs the words over these objects.
-pub(crate) fn run_in_memory<K: Sink, G: Doors>(
+pub fn run_in_memory<K: Sink, G: Doors>(
     alloc: Global,
     given: &Given,
     src: &mut MemSource,
@@ -103,20 +103,20 @@ pub(crate) fn run_in_memory<K: Sink, G: Doors>(
     )
 }
 
-pub(crate) fn source_of(alloc: Global, given: &Given) -> Result<MemSource, AllocError> {
+pub fn source_of(alloc: Global, given: &Given) -> Result<MemSource, AllocError> {
     let input = given.input.to_vec(alloc)?;
     Ok(MemSource::new(input, given.reads.to_vec(alloc)?))
 }
 
 /// A sink with room for some writes.
-pub(crate) fn sink_of(alloc: Global, given: &Given) -> Result<MemSink, OutOfMemory> {
+pub fn sink_of(alloc: Global, given: &Given) -> Result<MemSink, OutOfMemory> {
     let mut snk = MemSink::new(Vec::new(alloc), given.writes.to_vec(alloc)?);
     snk.reserve(8, 4096)?;
     Ok(snk)
 }
 
 /// A disk with room for some calls.
-pub(crate) fn disk_of(alloc: Global, given: &Given) -> Result<MemDisk, OutOfMemory> {
+pub fn disk_of(alloc: Global, given: &Given) -> Result<MemDisk, OutOfMemory> {
     let journal = given.journal.to_vec(alloc)?;
     let mut disk = MemDisk::new(journal, given.calls.to_vec(alloc)?)?;
     disk.reserve(64, 4096)?;
@@ -155,7 +155,7 @@ fn ending_by<G: Doors>(
 }
 
 /// Runs the words over a disk that holds the journal, where links come at these doors.
-pub(crate) fn ending_at<G: Doors>(
+pub fn ending_at<G: Doors>(
     alloc: Global,
     given: &Given,
     doors: &mut G,
@@ -167,23 +167,19 @@ pub(crate) fn ending_at<G: Doors>(
 }
 
 /// Runs the words over a disk, where no link comes.
-pub(crate) fn ending_on(
-    alloc: Global,
-    given: &Given,
-    disk: &mut MemDisk,
-) -> Result<Ending, OutOfMemory> {
+pub fn ending_on(alloc: Global, given: &Given, disk: &mut MemDisk) -> Result<Ending, OutOfMemory> {
     let mut doors = CalmDoors::new(alloc, Vec::new(alloc))?;
     ending_by(alloc, given, disk, &mut doors)
 }
 
 /// Runs the words over a disk that holds the journal.
-pub(crate) fn ending_of(alloc: Global, given: &Given) -> Result<Ending, OutOfMemory> {
+pub fn ending_of(alloc: Global, given: &Given) -> Result<Ending, OutOfMemory> {
     let mut disk = disk_of(alloc, given)?;
     ending_on(alloc, given, &mut disk)
 }
 
 /// The journal of a servicer who applies the lines.
-pub(crate) fn journal_of(alloc: Global, lines: &str) -> Result<Vec<u8>, OutOfMemory> {
+pub fn journal_of(alloc: Global, lines: &str) -> Result<Vec<u8>, OutOfMemory> {
     let given = over(&["j", "apply"], NEW_JOURNAL, lines.as_bytes());
     let end = ending_of(alloc, &given)?;
     Ok(end.journal)

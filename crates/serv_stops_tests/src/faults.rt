@@ -1,6 +1,6 @@
 //! Reads, writes and calls of the disk that fail.
 
-use crate::running::{Given, LINE, NEW_JOURNAL, ONE_LINE, ending_of, over};
+use serv_run_tests::{Given, LINE, NEW_JOURNAL, ONE_LINE, ending_of, over};
 use serv_top::Status;
 use std::alloc::Global;
 use svc_base::OutOfMemory;
