@@ -1,5 +1,5 @@
 -- Each row is taken for one thing: it asks one command, or it goes wrong in one column.
-use Rattle.std.proofs.Common.{◌≡◌, ◌<◌, ◌+◌, ◌⊎◌, inl, inr, ℕ, zero, suc, ℤ, List, [], ◌∷◌, Some, None, true, length, get_or, refl, sym, ap, ◌∙◌, subst, arith}
+use Rattle.std.proofs.Common.{◌≡◌, ◌⊎◌, inl, inr, ℕ, zero, suc, ℤ, List, [], ◌∷◌, Some, None, true, length, get_or, refl, sym, ap, ◌∙◌, subst, arith}
 use Rattle.svc_base.specs.Calendar.{IsReadDay}
 use Rattle.svc_base.specs.Text.{text_of_number, text_of_day, IsReadAmount}
 use Rattle.svc_base.proofs.TextLemmas.{number_injective, amount_injective}
@@ -76,93 +76,40 @@ some_told r s e = cc
 none_told : (r : List (List ℕ)) → None ≡ Some r → ⊥
 none_told r e = cc e
 
-parts : (row : List (List ℕ)) (key : List ℕ) (c : Command) → IsKey key → Asks row key c → Parts row key c
-parts row key (command.Pay l d a o) k h =
-    record {
-      form = form.Pay;
-      loan = l;
-      day = d;
-      amount = a;
-      last = designation o;
-      made = refl;
-      fields = some_told _ _ h.fields;
-      kind = refl;
-      loan_in = h.well.0;
-      day_in = h.well.1;
-      amount_in = h.well.2;
-      last_in = tt;
-    }
-parts row key (command.Curtail l d a) k h =
-    record {
-      form = form.Curtail;
-      loan = l;
-      day = d;
-      amount = a;
-      last = nothing;
-      made = refl;
-      fields = some_told _ _ h.fields;
-      kind = inl refl;
-      loan_in = h.well.0;
-      day_in = h.well.1;
-      amount_in = h.well.2;
-      last_in = tt;
-    }
-parts row key (command.Payoff l d a) k h =
-    record {
-      form = form.Payoff;
-      loan = l;
-      day = d;
-      amount = a;
-      last = nothing;
-      made = refl;
-      fields = some_told _ _ h.fields;
-      kind = inr (inl refl);
-      loan_in = h.well.0;
-      day_in = h.well.1;
-      amount_in = h.well.2;
-      last_in = tt;
-    }
-parts row key (command.Deposit l d a) k h =
-    record {
-      form = form.Deposit;
-      loan = l;
-      day = d;
-      amount = a;
-      last = nothing;
-      made = refl;
-      fields = some_told _ _ h.fields;
-      kind = inr (inr refl);
-      loan_in = h.well.0;
-      day_in = h.well.1;
-      amount_in = h.well.2;
-      last_in = tt;
-    }
-parts row key (command.Disburse l d a n) k h =
-    record {
-      form = form.Disburse;
-      loan = l;
-      day = d;
-      amount = a;
-      last = line n;
-      made = refl;
-      fields = some_told _ _ h.fields;
-      kind = refl;
-      loan_in = h.well.0;
-      day_in = h.well.1;
-      amount_in = h.well.2;
-      last_in = h.well.3;
-    }
-parts row key (command.Day d) k h = absurd (none_told row h.fields)
-parts row key (command.Board l t) k h = absurd (none_told row h.fields)
-parts row key (command.Refund l a) k h = absurd (none_told row h.fields)
-parts row key (command.Waive l a) k h = absurd (none_told row h.fields)
-parts row key (command.Reverse l n) k h = absurd (none_told row h.fields)
-parts row key (command.Line l n k' m e a) k h = absurd (none_told row h.fields)
-parts row key (command.Drop l n) k h = absurd (none_told row h.fields)
-parts row key (command.Analyse l p) k h = absurd (none_told row h.fields)
-parts row key (command.Close m) k h = absurd (none_told row h.fields)
-parts row key (command.Remit m) k h = absurd (none_told row h.fields)
-parts row key (command.Retype l m t) k h = absurd (none_told row h.fields)
+-- a row with the fields of a command has its parts
+parts_with : (row : List (List ℕ)) (key : List ℕ) (f : Form) (l d : ℕ) (a : ℤ) (x : Last) → HasLast f x → IsLast x → IsReadNumber l → IsReadDay d → IsReadAmount a → Some (row_with key f l d a (text_of_last x)) ≡ Some row → Parts row key (made_of f l d a x)
+parts_with row key f l d a x kind last_in loan_in day_in amount_in fields = record {
+  form = f;
+  loan = l;
+  day = d;
+  amount = a;
+  last = x;
+  made = refl;
+  fields = some_told _ _ fields;
+  kind = kind;
+  loan_in = loan_in;
+  day_in = day_in;
+  amount_in = amount_in;
+  last_in = last_in;
+}
+
+parts : (row : List (List ℕ)) (key : List ℕ) (c : Command) → Asks row key c → Parts row key c
+parts row key (command.Pay l d a o) h = parts_with row key form.Pay l d a (designation o) refl tt h.well.0 h.well.1 h.well.2 h.fields
+parts row key (command.Curtail l d a) h = parts_with row key form.Curtail l d a nothing (inl refl) tt h.well.0 h.well.1 h.well.2 h.fields
+parts row key (command.Payoff l d a) h = parts_with row key form.Payoff l d a nothing (inr (inl refl)) tt h.well.0 h.well.1 h.well.2 h.fields
+parts row key (command.Deposit l d a) h = parts_with row key form.Deposit l d a nothing (inr (inr refl)) tt h.well.0 h.well.1 h.well.2 h.fields
+parts row key (command.Disburse l d a n) h = parts_with row key form.Disburse l d a (line n) refl h.well.3 h.well.0 h.well.1 h.well.2 h.fields
+parts row key (command.Day d) h = absurd (none_told row h.fields)
+parts row key (command.Board l t) h = absurd (none_told row h.fields)
+parts row key (command.Refund l a) h = absurd (none_told row h.fields)
+parts row key (command.Waive l a) h = absurd (none_told row h.fields)
+parts row key (command.Reverse l n) h = absurd (none_told row h.fields)
+parts row key (command.Line l n k' m e a) h = absurd (none_told row h.fields)
+parts row key (command.Drop l n) h = absurd (none_told row h.fields)
+parts row key (command.Analyse l p) h = absurd (none_told row h.fields)
+parts row key (command.Close m) h = absurd (none_told row h.fields)
+parts row key (command.Remit m) h = absurd (none_told row h.fields)
+parts row key (command.Retype l m t) h = absurd (none_told row h.fields)
 
 -- ---- a row asks one command
 
@@ -220,8 +167,8 @@ made_same f f' l l' d d' a a' x x' p q r s t = rw (p, q, r, s, t) refl
 
 one_command : (row : List (List ℕ)) (key key' : List ℕ) (c c' : Command) → Asks row key c → Asks row key' c' → (key ≡ key') × (c ≡ c')
 one_command row key key' c c' h h' =
-    let p = parts row key c h.names h in
-    let q = parts row key' c' h'.names h' in
+    let p = parts row key c h in
+    let q = parts row key' c' h' in
     let same = six_told _ _ _ _ _ _ _ _ _ _ _ _ (sym p.fields ∙ q.fields) in
     let f : p.form ≡ q.form = same_form p.form q.form same.second in
     let last : p.last ≡ q.last =
@@ -266,10 +213,10 @@ fits_with key f l d a x k h p q r s (suc (suc (suc (suc (suc (suc i)))))) = tt
 
 not_bad : (row : List (List ℕ)) (key : List ℕ) (c : Command) (col : ℕ) → Asks row key c → IsBadAt row col → ⊥
 not_bad row key c col h (count not) =
-    let p = parts row key c h.names h in
+    let p = parts row key c h in
     not (ap length p.fields)
 not_bad row key c col h (column place n m) =
-    let p = parts row key c h.names h in
+    let p = parts row key c h in
     m.here (subst (λ r. Fits r place) (sym p.fields)
     (fits_with key p.form p.loan p.day p.amount p.last h.names p.kind p.loan_in p.day_in p.amount_in p.last_in place))
 
