@@ -1,5 +1,5 @@
 -- Loans that are changed one after another.
-use Rattle.std.proofs.Common.{◌≡◌, ℕ, ◌+◌, ◌≤◌, ◌<◌, List, [], ◌∷◌, ◌++◌, map, take, drop, length, get_or, zero, suc, arith, refl, sym, ap, subst, ◌∙◌}
+use Rattle.std.proofs.Common.{◌≡◌, Box, Global, ℕ, ◌+◌, ◌≤◌, ◌<◌, List, [], ◌∷◌, ◌++◌, map, take, drop, length, get_or, zero, suc, arith, refl, sym, ap, subst, ◌∙◌}
 use Rattle.std.specs.Prelude.{sum_by}
 use Rattle.std.proofs.Math.ListN.{set}
 use Rattle.std.proofs.Math.ListN.{get_or-map as get_mapped}
@@ -11,7 +11,7 @@ use Rattle.std.proofs.lemmas.List.Sums.{sum_by-append}
 use Rattle.svc_world.specs.Held.{Held}
 use Rattle.svc_loan.specs.Kept.{KeptLoan}
 use Rattle.svc_loan.specs.Loans.{Rise, held_in, closed_in, remitted_in}
-use Rattle.svc_loan.proofs.KeptLemmas.{numbers_rise}
+use Rattle.svc_loan.proofs.KeptLemmas.{numbers_rise, behind}
 
 -- the first i of some loans are changed, and the others are as they were
 pub record Done {X : Type 0} (v : X → KeptLoan) (fh : KeptLoan → Held) (fc : KeptLoan → ℕ) (olds news : List X) (i : ℕ) : Type 0 where
@@ -20,9 +20,6 @@ pub record Done {X : Type 0} (v : X → KeptLoan) (fh : KeptLoan → Held) (fc :
   pub remitted : remitted_in (map v (take i news)) ≡ remitted_in (map v (take i olds))
   pub rest : drop i news ≡ drop i olds
   pub count : length news ≡ length olds
-
-pub none_done : {X : Type 0} (v : X → KeptLoan) (fh : KeptLoan → Held) (fc : KeptLoan → ℕ) (xs : List X) → Done v fh fc xs xs 0
-none_done v fh fc xs = record { held = refl; closed = refl; remitted = refl; rest = refl; count = refl }
 
 -- the loan at the next place is still the old one
 pub next_old : {X : Type 0} (xs ys : List X) (i : ℕ) (d : X) → drop i ys ≡ drop i xs → get_or ys i d ≡ get_or xs i d
@@ -113,12 +110,14 @@ sum_more v cost olds i d lt =
     one : (k : KeptLoan) → sum_by cost (k ∷ []) ≡ cost k
     one k = omega arith
 
--- what is asked of each of the old loans is asked of the one at the next place
-pub asked_next : {X : Type 0} (v : X → KeptLoan) (P : KeptLoan → Type 0) (olds news : List X) (i : ℕ) (d : X) → All P (map v olds) → i < length olds → drop i news ≡ drop i olds → P (v (get_or news i d))
-asked_next v P olds news i d all lt rest =
-    let at = get_mapped v olds i d in
-    let here = ap v (next_old olds news i d rest) in
-    subst P (at ∙ sym here) (all i (v d) (omega (arith, length-map olds v)))
+-- what is asked of each of the old loans is asked of the one that is lent from the next place
+pub asked_lent : (P : KeptLoan → Type 0) (ks : List KeptLoan) (olds news : List (Box KeptLoan Global)) (i : ℕ) (b : Box KeptLoan Global) (k : KeptLoan) → behind olds ≡ ks → All P ks → i < length olds → drop i news ≡ drop i olds → b ≡ get_or news i b → k ≡ b.value → P k
+asked_lent P ks olds news i b k same all lt rest pointer loan =
+    let v : Box KeptLoan Global → KeptLoan = λ x. x.value in
+    let at = get_mapped v olds i b in
+    let old = ap v (next_old olds news i b rest) in
+    let within : i < length (behind olds) = omega (arith, length-map olds v) in
+    subst P (at ∙ sym old ∙ sym (ap v pointer) ∙ sym loan) (subst (All P) (sym same) all i b.value within)
 
 -- loans of which one is replaced by one of which the books, the closed months and what was remitted are the same
 pub replaced_same : {X : Type 0} (v : X → KeptLoan) (olds news : List X) (i : ℕ) (d y : X) → AllDone (λ (k : KeptLoan). k.held) (λ (k : KeptLoan). k.closed) (map v olds) (map v news) → (v y).held ≡ (v (get_or news i d)).held → (v y).closed ≡ (v (get_or news i d)).closed → (v y).remitted ≡ (v (get_or news i d)).remitted → AllDone (λ (k : KeptLoan). k.held) (λ (k : KeptLoan). k.closed) (map v olds) (map v (set news i y))
@@ -127,9 +126,6 @@ replaced_same v olds news i d y h held closed remitted = record {
   closed = ap closed_in (map-set v news i y) ∙ map-set_same (λ (k : KeptLoan). k.closed) (map v news) i (v y) (v d) (closed ∙ ap (λ (k : KeptLoan). k.closed) (sym (get_mapped v news i d))) ∙ h.closed;
   remitted = ap remitted_in (map-set v news i y) ∙ map-set_same (λ (k : KeptLoan). k.remitted) (map v news) i (v y) (v d) (remitted ∙ ap (λ (k : KeptLoan). k.remitted) (sym (get_mapped v news i d))) ∙ h.remitted;
 }
-
-pub same_loans : (ks : List KeptLoan) → AllDone (λ (k : KeptLoan). k.held) (λ (k : KeptLoan). k.closed) ks ks
-same_loans ks = record { held = refl; closed = refl; remitted = refl }
 
 -- what holds of the first i loans and of the one that is put at the next place
 pub holds_more : {X : Type 0} (v : X → KeptLoan) (P : KeptLoan → Type 0) (news : List X) (i : ℕ) (y : X) → i < length news → All P (map v (take i news)) → P (v y) → All P (map v (take (i + 1) (set news i y)))

@@ -1,22 +1,24 @@
 -- Loans by rising number: where one is found, and what a change of one, or one loan more, leaves.
-use Rattle.std.proofs.Common.{◌≡◌, ◌≢◌, ℕ, zero, suc, ◌-◌, ◌≤◌, ◌<◌, true, false, cond, List, [], ◌∷◌, map, length, get_or, arith, refl, sym, ap, subst, ◌∙◌}
+use Rattle.std.proofs.Common.{◌≡◌, ◌≢◌, ℕ, zero, suc, ◌-◌, ◌≤◌, ◌<◌, true, false, cond, List, [], ◌∷◌, map, length, get_or, arith, refl, sym, ap, subst, ◌∙◌, Box, Global}
 use Rattle.std.proofs.Math.ListN.{set}
 use Rattle.std.proofs.Math.ListN.{get_or-map as get_mapped}
 use Rattle.std.proofs.Math.Seq.{map-set_same}
-use Rattle.std.specs.Prelude.{ℤ, ◌+ℤ◌, ◌==◌, nat_lt, is_some, Some, None, MatchOption, Result, Ok, Err, OnOk, if◌then◌else◌}
+use Rattle.std.specs.Prelude.{ℤ, ◌+ℤ◌, ◌==◌, nat_lt, Option, Some, None, Result, Ok, Err, OnOk, if◌then◌else◌}
+use Rattle.std.specs.Box.{with_value}
 use Rattle.std.specs.List.{All, find, insert}
 use Rattle.std.specs.List.Sorted.{IsPartitionPoint}
 use Rattle.std.specs.Option.{option_map}
 use Rattle.std.proofs.lemmas.Bool.Decides.{nat_tests}
 use Rattle.std.proofs.lemmas.List.{map-set, length-map, length-set, get_or-map, get_or-set_same, get_or_default}
 use Rattle.std.proofs.lemmas.List.Edits.{length-insert, get_or-insert_at}
-use Rattle.std.proofs.lemmas.List.Elements.{All-cons, All-head, All-tail}
+use Rattle.std.proofs.lemmas.List.Elements.{All-cons, All-head, All-tail, All-set}
 use Rattle.std.proofs.lemmas.List.Kept.{AllPairs-cons}
 use Rattle.svc_types.proofs.OrderLemmas.{pairs_head, pairs_tail}
 use Rattle.svc_spec.proofs.FindLemmas.{Rises, found_at, absent_at}
-use Rattle.svc_world.specs.Held.{Held, changed, with_loan}
+use Rattle.svc_world.specs.Held.{Held, boarded_month, changed, with_loan}
 use Rattle.svc_loan.specs.Kept.{KeptLoan, IsAhead, KeepsMonths}
-use Rattle.svc_loan.specs.Loans.{Rise, OfLoan, IsPlaceIn, find_kept, with_kept, held_in, closed_in, remitted_in, remitted_by}
+use Rattle.svc_loan.specs.Loans.{Rise, AreLoans, OfLoan, IsPlaceIn, find_kept, with_kept, held_in, closed_in, remitted_in, remitted_by, first_boarded}
+use Rattle.svc_loan.proofs.FirstLemmas.{first_changed}
 
 -- ---- what stands behind pointers
 
@@ -58,25 +60,6 @@ numbers_rise ks js same h i j d lt within =
     let rises = h i j d lt (omega (arith, count)) in
     omega (arith, low, high, rises)
 
--- a loan that takes the place of one with its number
-pub record IsChanged (ks : List KeptLoan) (i id : ℕ) (d k : KeptLoan) (f : Held → Held) : Type 0 where
-  pub rise : Rise ks
-  pub there : i < length ks
-  pub number : (get_or ks i d).held.id ≡ id
-  pub same : k.held.id ≡ id
-  pub held : k.held ≡ f (get_or ks i d).held
-  pub closed : k.closed ≡ (get_or ks i d).closed
-  pub remitted : k.remitted ≡ (get_or ks i d).remitted
-
-pub changed_rise : (ks : List KeptLoan) (i id : ℕ) (d k : KeptLoan) (f : Held → Held) → IsChanged ks i id d k f → Rise (set ks i k)
-changed_rise ks i id d k f h = numbers_rise (set ks i k) ks (map-set_same (λ (x : KeptLoan). x.held.id) ks i k d (h.same ∙ sym h.number)) h.rise
-
-pub changed_closed : (ks : List KeptLoan) (i id : ℕ) (d k : KeptLoan) (f : Held → Held) → IsChanged ks i id d k f → closed_in (set ks i k) ≡ closed_in ks
-changed_closed ks i id d k f h = map-set_same (λ (x : KeptLoan). x.closed) ks i k d h.closed
-
-pub changed_remitted : (ks : List KeptLoan) (i id : ℕ) (d k : KeptLoan) (f : Held → Held) → IsChanged ks i id d k f → remitted_in (set ks i k) ≡ remitted_in ks
-changed_remitted ks i id d k f h = map-set_same (λ (x : KeptLoan). x.remitted) ks i k d h.remitted
-
 set_held : (ks : List KeptLoan) (i id : ℕ) (d k : KeptLoan) (f : Held → Held) → Rise ks → i < length ks → (get_or ks i d).held.id ≡ id → k.held ≡ f (get_or ks i d).held → held_in (set ks i k) ≡ changed id f (held_in ks)
 set_held [] i id d k f h lt is held = absurd (omega arith)
 set_held (x ∷ xs) zero id d k f h lt is held =
@@ -87,9 +70,6 @@ set_held (x ∷ xs) (suc i) id d k f h lt is held =
     let other : (x.held.id == id) ≡ false = grind (arith, nat_tests) in
     rw other (ap (λ ls. x.held ∷ ls) (set_held xs i id d k f (pairs_tail (λ (a b : KeptLoan). a.held.id < b.held.id) x xs h) (omega arith) is held))
 
-pub changed_held : (ks : List KeptLoan) (i id : ℕ) (d k : KeptLoan) (f : Held → Held) → IsChanged ks i id d k f → held_in (set ks i k) ≡ changed id f (held_in ks)
-changed_held ks i id d k f h = set_held ks i id d k f h.rise h.there h.number h.held
-
 set_found : (ks : List KeptLoan) (i id : ℕ) (d k : KeptLoan) → Rise ks → i < length ks → (get_or ks i d).held.id ≡ id → k.held.id ≡ id → find_kept id (set ks i k) ≡ Some k
 set_found [] i id d k h lt is same = absurd (omega arith)
 set_found (x ∷ xs) zero id d k h lt is same =
@@ -99,9 +79,6 @@ set_found (x ∷ xs) (suc i) id d k h lt is same =
     let below = pairs_head (λ (a b : KeptLoan). a.held.id < b.held.id) x xs h i d (omega arith) in
     let other : (x.held.id == id) ≡ false = grind (arith, nat_tests) in
     rw other (set_found xs i id d k (pairs_tail (λ (a b : KeptLoan). a.held.id < b.held.id) x xs h) (omega arith) is same)
-
-pub changed_found : (ks : List KeptLoan) (i id : ℕ) (d k : KeptLoan) (f : Held → Held) → IsChanged ks i id d k f → find_kept id (set ks i k) ≡ Some k
-changed_found ks i id d k f h = set_found ks i id d k h.rise h.there h.number h.same
 
 -- ---- one loan more
 
@@ -154,85 +131,6 @@ other_number f xs i n x d lt apart =
     let same = ap f (get_or_default xs i d x lt) in
     rw same (grind (arith, nat_tests))
 
--- ---- a loan changed behind its pointer
-
-number_found : (n : ℕ) (ks : List KeptLoan) (k : KeptLoan) → find_kept n ks ≡ Some k → k.held.id ≡ n
-number_found n [] k e = absurd (cc)
-number_found n (j ∷ js) k e =
-    elim (j.held.id == n) as (λ b. (j.held.id == n) ≡ b → cond b (Some j) (find_kept n js) ≡ Some k → k.held.id ≡ n) [
-      | true ↦ λ same is. let jk : j ≡ k = cc in let here : j.held.id ≡ n = grind (arith, nat_tests) in ap (λ (x : KeptLoan). x.held.id) (sym jk) ∙ here
-      | false ↦ λ other is. number_found n js k is
-    ] refl e
-
--- what is asked of the loan with a number is asked of the one that is found
-pub of_found : (P : KeptLoan → Type 0) (id : ℕ) (ks : List KeptLoan) (k : KeptLoan) → OfLoan id ks P → find_kept id ks ≡ Some k → P k
-of_found P id ks k h found = rw found at h
-
-pub found_of : (P : KeptLoan → Type 0) (id : ℕ) (ks : List KeptLoan) (k : KeptLoan) → P k → find_kept id ks ≡ Some k → OfLoan id ks P
-found_of P id ks k h found = rw found h
-
-pub is_there : (P : KeptLoan → Type 0) (id : ℕ) (ks : List KeptLoan) → OfLoan id ks P → is_some (find_kept id ks) ≡ true
-is_there P id ks h = elim (find_kept id ks) as (λ o. MatchOption o ⊥ P → is_some o ≡ true) [
-  | None ↦ λ no. absurd no
-  | Some k ↦ λ yes. refl
-] h
-
--- the loan at the place of its number
-pub at_place : {X : Type 0} (v : X → KeptLoan) (xs : List X) (id i : ℕ) (x : X) → IsPlaceIn id (map v xs) (Some i) → find_kept id (map v xs) ≡ Some (v (get_or xs i x))
-at_place v xs id i x place =
-    let within = place.0 in
-    let count = length-map xs v in
-    place.1 (v x) ∙ ap Some (get_mapped v xs i x)
-
--- the one that is put in at the place of its number stands there
-pub still_there : {X : Type 0} (v : X → KeptLoan) (xs : List X) (id i : ℕ) (y : X) → IsPlaceIn id (map v xs) (Some i) → find_kept id (map v (set xs i y)) ≡ Some (v y) → IsPlaceIn id (map v (set xs i y)) (Some i)
-still_there v xs id i y place found =
-    let ks = map v xs in
-    let same = map-set v xs i y in
-    let count = length-set ks i (v y) in
-    let long : length (map v (set xs i y)) ≡ length (set ks i (v y)) = ap length same in
-    let within = place.0 in
-    (omega (arith, count, long, within), λ d. found ∙ ap Some (sym (ap (λ js. get_or js i d) same ∙ get_or-set_same ks i (v y) d within)))
-
--- loans of which the one with a number was changed
-pub record Changed (ks js : List KeptLoan) (id : ℕ) (k : KeptLoan) (f : Held → Held) : Type 0 where
-  pub rise : Rise js
-  pub found : find_kept id js ≡ Some k
-  pub held : held_in js ≡ changed id f (held_in ks)
-  pub closed : closed_in js ≡ closed_in ks
-  pub remitted : remitted_in js ≡ remitted_in ks
-
--- what the change of the one at its place leaves
-pub record Leaves (k j : KeptLoan) (f : Held → Held) : Type 0 where
-  pub number : (f k.held).id ≡ k.held.id
-  pub held : j.held ≡ f k.held
-  pub closed : j.closed ≡ k.closed
-  pub remitted : j.remitted ≡ k.remitted
-
-pub change_behind : {X : Type 0} (v : X → KeptLoan) (xs : List X) (id i : ℕ) (x y : X) (f : Held → Held) → Rise (map v xs) → IsPlaceIn id (map v xs) (Some i) → Leaves (v (get_or xs i x)) (v y) f → Changed (map v xs) (map v (set xs i y)) id (v y) f
-change_behind v xs id i x y f rise place leaves =
-    let ks = map v xs in
-    let d = v x in
-    let here : get_or ks i d ≡ v (get_or xs i x) = get_mapped v xs i x in
-    let number = number_found id ks (get_or ks i d) (place.1 d) in
-    let h : IsChanged ks i id d (v y) f = record {
-      rise = rise;
-      there = place.0;
-      number = number;
-      same = ap (λ (l : Held). l.id) leaves.held ∙ leaves.number ∙ ap (λ (k : KeptLoan). k.held.id) (sym here) ∙ number;
-      held = leaves.held ∙ ap (λ (k : KeptLoan). f k.held) (sym here);
-      closed = leaves.closed ∙ ap (λ (k : KeptLoan). k.closed) (sym here);
-      remitted = leaves.remitted ∙ ap (λ (k : KeptLoan). k.remitted) (sym here);
-    } in
-    let same = map-set v xs i y in
-    rw same (record {
-      rise = changed_rise ks i id d (v y) f h;
-      found = changed_found ks i id d (v y) f h;
-      held = changed_held ks i id d (v y) f h;
-      closed = changed_closed ks i id d (v y) f h;
-      remitted = changed_remitted ks i id d (v y) f h;
-    })
-
 -- a loan whose number no other has, put in before the first larger number, leaves rising numbers
 pub with_rises : (k : KeptLoan) (ks : List KeptLoan) → Rise ks → find_kept k.held.id ks ≡ None → Rise (with_kept k ks)
 with_rises k [] h none = λ i j d lt within. absurd (omega arith)
@@ -265,33 +163,24 @@ with_rises k (j ∷ js) h none =
       | false ↦ All-cons (λ (b : KeptLoan). n < b.held.id) x (with_kept k xs) (All-head (λ (b : KeptLoan). n < b.held.id) x xs all) (with_above n k xs lt (All-tail (λ (b : KeptLoan). n < b.held.id) x xs all))
     ]
 
--- ---- a loan of which the books, lines and types stay
+-- ---- the loan with a number
 
--- loans of which one has more room, or more was remitted for it
-pub record Stays (ks js : List KeptLoan) (id : ℕ) (k : KeptLoan) : Type 0 where
-  pub rise : Rise js
-  pub found : find_kept id js ≡ Some k
-  pub held : held_in js ≡ held_in ks
-  pub closed : closed_in js ≡ closed_in ks
+number_found : (n : ℕ) (ks : List KeptLoan) (k : KeptLoan) → find_kept n ks ≡ Some k → k.held.id ≡ n
+number_found n [] k e = absurd (cc)
+number_found n (j ∷ js) k e =
+    elim (j.held.id == n) as (λ b. (j.held.id == n) ≡ b → cond b (Some j) (find_kept n js) ≡ Some k → k.held.id ≡ n) [
+      | true ↦ λ same is. let jk : j ≡ k = cc in let here : j.held.id ≡ n = grind (arith, nat_tests) in ap (λ (x : KeptLoan). x.held.id) (sym jk) ∙ here
+      | false ↦ λ other is. number_found n js k is
+    ] refl e
 
-pub stay_behind : {X : Type 0} (v : X → KeptLoan) (xs : List X) (id i : ℕ) (x y : X) → Rise (map v xs) → IsPlaceIn id (map v xs) (Some i) → (v y).held ≡ (v (get_or xs i x)).held → (v y).closed ≡ (v (get_or xs i x)).closed → Stays (map v xs) (map v (set xs i y)) id (v y)
-stay_behind v xs id i x y rise place held closed =
-    let ks = map v xs in
-    let d = v x in
-    let here : get_or ks i d ≡ v (get_or xs i x) = get_mapped v xs i x in
-    let number = number_found id ks (get_or ks i d) (place.1 d) in
-    let held' = held ∙ ap (λ (k : KeptLoan). k.held) (sym here) in
-    let same = map-set v xs i y in
-    rw same (record {
-      rise = numbers_rise (set ks i (v y)) ks (map-set_same (λ (k : KeptLoan). k.held.id) ks i (v y) d (ap (λ (l : Held). l.id) held')) rise;
-      found = set_found ks i id d (v y) rise place.0 number (ap (λ (l : Held). l.id) held' ∙ number);
-      held = map-set_same (λ (k : KeptLoan). k.held) ks i (v y) d held';
-      closed = map-set_same (λ (k : KeptLoan). k.closed) ks i (v y) d (closed ∙ ap (λ (k : KeptLoan). k.closed) (sym here));
-    })
+-- what is asked of the loan with a number is asked of the one that is found
+pub of_found : (P : KeptLoan → Type 0) (id : ℕ) (ks : List KeptLoan) (k : KeptLoan) → OfLoan id ks P → find_kept id ks ≡ Some k → P k
+of_found P id ks k h found = rw found at h
 
-pub remitted_stays : {X : Type 0} (v : X → KeptLoan) (xs : List X) (i : ℕ) (x y : X) → (v y).remitted ≡ (v (get_or xs i x)).remitted → remitted_in (map v (set xs i y)) ≡ remitted_in (map v xs)
-remitted_stays v xs i x y same =
-    ap remitted_in (map-set v xs i y) ∙ map-set_same (λ (k : KeptLoan). k.remitted) (map v xs) i (v y) (v x) (same ∙ ap (λ (k : KeptLoan). k.remitted) (sym (get_mapped v xs i x)))
+pub found_of : (P : KeptLoan → Type 0) (id : ℕ) (ks : List KeptLoan) (k : KeptLoan) → P k → find_kept id ks ≡ Some k → OfLoan id ks P
+found_of P id ks k h found = rw found h
+
+-- ---- what is remitted for one loan
 
 -- the loans after one have other numbers
 later_remitted : (id : ℕ) (cents : ℤ) (ks : List KeptLoan) → All (λ (k : KeptLoan). id < k.held.id) ks → map (remitted_by id cents) ks ≡ remitted_in ks
@@ -312,14 +201,6 @@ set_remitted (x ∷ xs) (suc i) id d k cents h lt is new =
     let other : (x.held.id == id) ≡ false = grind (arith, nat_tests) in
     rw other (ap (λ zs. x.remitted ∷ zs) (set_remitted xs i id d k cents (pairs_tail (λ (a b : KeptLoan). a.held.id < b.held.id) x xs h) (omega arith) is new))
 
-pub remitted_rises : {X : Type 0} (v : X → KeptLoan) (xs : List X) (id i : ℕ) (x y : X) (cents : ℤ) → Rise (map v xs) → IsPlaceIn id (map v xs) (Some i) → (v y).remitted ≡ (v (get_or xs i x)).remitted +ℤ cents → remitted_in (map v (set xs i y)) ≡ map (remitted_by id cents) (map v xs)
-remitted_rises v xs id i x y cents rise place new =
-    let ks = map v xs in
-    let d = v x in
-    let here : get_or ks i d ≡ v (get_or xs i x) = get_mapped v xs i x in
-    let number = number_found id ks (get_or ks i d) (place.1 d) in
-    ap remitted_in (map-set v xs i y) ∙ set_remitted ks i id d (v y) cents rise place.0 number (new ∙ ap (λ (k : KeptLoan). k.remitted +ℤ cents) (sym here))
-
 pub on_ok : {T E : Type 0} (r : Result T E) (P Q : Type 0) → (P → Q) → OnOk r P → OnOk r Q
 on_ok (Ok x) P Q f h = f h
 on_ok (Err e) P Q f h = h
@@ -332,31 +213,102 @@ still_ahead u n k j h keeps = record { months = omega (arith, h.months, keeps.mo
 pub one_closed : (u n : ℕ) (k j : KeptLoan) → IsAhead u n k → KeepsMonths 1 k j → IsAhead u (n - 1) j
 one_closed u n k j h keeps = record { months = omega (arith, h.months, keeps.months); closing = omega (arith, h.closing, keeps.closing) }
 
-pub fewer_ahead : (u n : ℕ) (ks : List KeptLoan) → All (IsAhead u n) ks → All (IsAhead u (n - 1)) ks
-fewer_ahead u n ks h i d lt = let one = h i d lt in record { months = one.months; closing = omega (arith, one.closing) }
-
 pub none_ahead : (ks : List KeptLoan) → All (IsAhead 0 0) ks
 none_ahead ks i d lt = record { months = omega arith; closing = omega arith }
-
--- what holds of all holds still where the one that is put at a place has it
-pub all_set : {X : Type 0} (v : X → KeptLoan) (P : KeptLoan → Type 0) (xs : List X) (i : ℕ) (y : X) → All P (map v xs) → P (v y) → All P (map v (set xs i y))
-all_set v P [] zero y h p = h
-all_set v P [] (suc i) y h p = h
-all_set v P (x ∷ xs) zero y h p = All-cons P (v y) (map v xs) p (All-tail P (v x) (map v xs) h)
-all_set v P (x ∷ xs) (suc i) y h p = All-cons P (v x) (map v (set xs i y)) (All-head P (v x) (map v xs) h) (all_set v P xs i y (All-tail P (v x) (map v xs) h) p)
 
 -- a loan that is changed behind its pointer keeps what all have room for
 pub ahead_at : {X : Type 0} (v : X → KeptLoan) (u n : ℕ) (xs : List X) (i : ℕ) (x y : X) (k : KeptLoan) → All (IsAhead u n) (map v xs) → i < length xs → k ≡ v (get_or xs i x) → KeepsMonths 0 k (v y) → All (IsAhead u n) (map v (set xs i y))
 ahead_at v u n xs i x y k all lt is keeps =
     let here = all i (v x) (omega (arith, length-map xs v)) in
     let old : IsAhead u n k = subst (IsAhead u n) (get_mapped v xs i x ∙ sym is) here in
-    all_set v (IsAhead u n) xs i y all (still_ahead u n k (v y) old keeps)
-
-pub ahead_behind : {X : Type 0} (v : X → KeptLoan) (u n : ℕ) (xs : List X) (id i : ℕ) (x y : X) (k : KeptLoan) → All (IsAhead u n) (map v xs) → IsPlaceIn id (map v xs) (Some i) → k ≡ v (get_or xs i x) → KeepsMonths 0 k (v y) → All (IsAhead u n) (map v (set xs i y))
-ahead_behind v u n xs id i x y k all place is keeps =
-    let within = place.0 in
-    ahead_at v u n xs i x y k all (omega (arith, length-map xs v)) is keeps
+    rw (map-set v xs i y) (All-set (IsAhead u n) (map v xs) i (v y) (still_ahead u n k (v y) old keeps) all)
 
 -- and one of which a month is closed keeps room for one closed month less
 pub closed_at : {X : Type 0} (v : X → KeptLoan) (u n m : ℕ) (xs : List X) (i : ℕ) (y : X) (k : KeptLoan) → All (IsAhead u m) (map v xs) → m ≡ n - 1 → IsAhead u n k → KeepsMonths 1 k (v y) → All (IsAhead u m) (map v (set xs i y))
-closed_at v u n m xs i y k all is old keeps = all_set v (IsAhead u m) xs i y all (subst (λ x. IsAhead u x (v y)) (sym is) (one_closed u n k (v y) old keeps))
+closed_at v u n m xs i y k all is old keeps = rw (map-set v xs i y) (All-set (IsAhead u m) (map v xs) i (v y) (subst (λ x. IsAhead u x (v y)) (sym is) (one_closed u n k (v y) old keeps)) all)
+
+-- ---- a loan lent from its place
+
+-- what a change leaves of a loan
+pub record Leaves (k j : KeptLoan) (f : Held → Held) : Type 0 where
+  pub held : j.held ≡ f k.held
+  pub closed : j.closed ≡ k.closed
+  pub months : KeepsMonths 0 k j
+
+-- what it leaves of all loans, among which that one stands at the place of its number
+pub record Left (until closings : ℕ) (first : Option ℕ) (ks js : List KeptLoan) (id i : ℕ) (k j : KeptLoan) (f : Held → Held) : Type 0 where
+  pub kept : AreLoans until closings first js
+  pub found : find_kept id js ≡ Some j
+  pub place : IsPlaceIn id js (Some i)
+  pub held : held_in js ≡ changed id f (held_in ks)
+  pub closed : closed_in js ≡ closed_in ks
+  pub remitted : j.remitted ≡ k.remitted → remitted_in js ≡ remitted_in ks
+  pub remits : (cents : ℤ) → j.remitted ≡ k.remitted +ℤ cents → remitted_in js ≡ map (remitted_by id cents) ks
+
+-- the number and the boarded month of each loan stay
+pub record Keeps (f : Held → Held) : Type 0 where
+  pub number : (l : Held) → (f l).id ≡ l.id
+  pub boarded : (l : Held) → boarded_month (f l) ≡ boarded_month l
+
+set_left : (u n : ℕ) (m : Option ℕ) (ks : List KeptLoan) (id i : ℕ) (d j : KeptLoan) (f : Held → Held) → Keeps f → AreLoans u n m ks → IsPlaceIn id ks (Some i) → Leaves (get_or ks i d) j f → Left u n m ks (set ks i j) id i (get_or ks i d) j f
+set_left u n m ks id i d j f keeps h place leaves =
+    let k = get_or ks i d in
+    let within = place.0 in
+    let count = length-set ks i j in
+    let number = number_found id ks k (place.1 d) in
+    let same : j.held.id ≡ k.held.id = ap (λ (l : Held). l.id) leaves.held ∙ keeps.number k.held in
+    let held = set_held ks i id d j f h.rise within number leaves.held in
+    let found = set_found ks i id d j h.rise within number (same ∙ number) in
+    record {
+      kept = record {
+        rise = numbers_rise (set ks i j) ks (map-set_same (λ (x : KeptLoan). x.held.id) ks i j d same) h.rise;
+        ahead = All-set (IsAhead u n) ks i j (still_ahead u n k j (h.ahead i d within) leaves.months) h.ahead;
+        first = h.first ∙ sym (ap first_boarded held ∙ first_changed id f (held_in ks) keeps.boarded);
+      };
+      found = found;
+      place = (omega (arith, count, within), λ e. found ∙ ap Some (sym (get_or-set_same ks i j e within)));
+      held = held;
+      closed = map-set_same (λ (x : KeptLoan). x.closed) ks i j d leaves.closed;
+      remitted = λ is. map-set_same (λ (x : KeptLoan). x.remitted) ks i j d is;
+      remits = λ cents is. set_remitted ks i id d j cents h.rise within number is;
+    }
+
+-- the loans behind their pointers
+abbrev pub behind : List (Box KeptLoan Global) → List KeptLoan
+behind bs = map (λ (b : Box KeptLoan Global). b.value) bs
+
+-- of the loans behind their pointers one is lent, with its pointer, from the place of its number
+pub record IsLent (ks : List KeptLoan) (bs : List (Box KeptLoan Global)) (id i : ℕ) (b : Box KeptLoan Global) (k : KeptLoan) : Type 0 where
+  pub all : behind bs ≡ ks
+  pub place : IsPlaceIn id ks (Some i)
+  pub pointer : b ≡ get_or bs i b
+  pub loan : k ≡ b.value
+
+lent_at : (ks : List KeptLoan) (bs : List (Box KeptLoan Global)) (id i : ℕ) (b : Box KeptLoan Global) (k : KeptLoan) → IsLent ks bs id i b k → k ≡ get_or ks i b.value
+lent_at ks bs id i b k h =
+    let v : Box KeptLoan Global → KeptLoan = λ x. x.value in
+    h.loan ∙ ap v h.pointer ∙ sym (get_mapped v bs i b) ∙ ap (λ xs. get_or xs i b.value) h.all
+
+-- it is found by that number
+pub lent_found : (ks : List KeptLoan) (bs : List (Box KeptLoan Global)) (id i : ℕ) (b : Box KeptLoan Global) (k : KeptLoan) → IsLent ks bs id i b k → find_kept id ks ≡ Some k
+lent_found ks bs id i b k h = h.place.1 b.value ∙ ap Some (sym (lent_at ks bs id i b k h))
+
+-- and what its change leaves, once another one is behind its pointer
+pub lent_left : (u n : ℕ) (m : Option ℕ) (ks : List KeptLoan) (bs : List (Box KeptLoan Global)) (id i : ℕ) (b : Box KeptLoan Global) (k j : KeptLoan) (f : Held → Held) → Keeps f → AreLoans u n m (behind bs) → IsLent ks bs id i b k → Leaves k j f → Left u n m ks (behind (set bs i (with_value b j))) id i k j f
+lent_left u n m ks bs id i b k j f keeps kept h leaves =
+    let d = b.value in
+    let at = lent_at ks bs id i b k h in
+    let back : behind (set bs i (with_value b j)) ≡ set ks i j =
+    map-set (λ (x : Box KeptLoan Global). x.value) bs i (with_value b j) ∙ ap (λ xs. set xs i j) h.all
+    in
+    let left = set_left u n m ks id i d j f keeps (subst (AreLoans u n m) h.all kept) h.place (subst (λ x. Leaves x j f) at leaves) in
+    subst (λ js. Left u n m ks js id i k j f) (sym back) (subst (λ x. Left u n m ks (set ks i j) id i x j f) (sym at) left)
+
+-- where books, lines and types stay, none is changed
+pub none_changed : (id : ℕ) (ls : List Held) → changed id (λ l. l) ls ≡ ls
+none_changed id [] = refl
+none_changed id (l ∷ ls) =
+    elim (l.id == id) as (λ b. (if b then l ∷ ls else l ∷ changed id (λ x. x) ls) ≡ l ∷ ls) [
+      | true ↦ refl
+      | false ↦ ap (λ xs. l ∷ xs) (none_changed id ls)
+    ]

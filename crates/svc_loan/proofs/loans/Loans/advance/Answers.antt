@@ -1,37 +1,24 @@
-use Rattle.std.proofs.Common.{◌≡◌, ◌+◌, ◌≤◌, ◌<◌, Box, Global, map, length, get_or, refl, arith, sym, ap, subst, ◌∙◌}
+use Rattle.std.proofs.Common.{◌≡◌, ◌+◌, ◌≤◌, ◌<◌, Box, Global, map, length, get_or, refl, arith, sym, ap, ◌∙◌}
 use Rattle.std.specs.Box.{with_value}
-use Rattle.std.specs.List.{All}
 use Rattle.svc_base.specs.Calendar.{month_of as month_number}
 use Rattle.svc_world.specs.Held.{on_day}
 use Rattle.svc_loan.specs.Kept.{KeptLoan}
 use Rattle.svc_loan.specs.Loans.{KeptLoans, advance_cost, held_in, first_boarded}
 use Rattle.svc_loan.proofs.FirstLemmas.{first_mapped}
 use Rattle.svc_loan.proofs.KeptLemmas.{ahead_at}
-use Rattle.svc_loan.proofs.EachLemmas.{AllDone, one_done, all_done, done_rises, asked_next, next_old, held_mapped, sum_more}
+use Rattle.svc_loan.proofs.EachLemmas.{AllDone, one_done, all_done, done_rises, asked_lent, next_old, held_mapped, sum_more}
 use Rattle.svc_loan.proofs.loans.Loans.advance.Given.{Over}
 use Rattle.svc_loan.proofs.loans.Loans.advance.Goals as goal
 
 pub advance-requires-clause-later : goal.advance-requires-clause-later
 advance-requires-clause-later g c =
-    let olds = c.self.inside.loans.items in
-    let news = c.loop-i.self-inside.loans.items in
-    let i = c.loop-i.i in
-    let x = c.index_mut-loan.result.now in
-    let all = subst (λ (s : KeptLoans). All (λ (k : KeptLoan). k.held.account.today ≤ c.args.today) s.loans) (sym c.self.view_is) c.requires.later in
-    let old : c.deref_mut.result.now ≡ (get_or news i x).value = c.deref_mut.ensures.value ∙ ap (λ (b : Box KeptLoan Global). b.value) c.index_mut-loan.ensures.value in
-    let lt : i < length olds = (let t = c.loop-i-test.true in let e = c.loop-i.invariant.end in omega arith) in
-    subst (λ (k : KeptLoan). k.held.account.today ≤ c.args.today) (sym old) (asked_next (λ (b : Box KeptLoan Global). b.value) (λ (k : KeptLoan). k.held.account.today ≤ c.args.today) olds news i x all lt c.loop-i.invariant.done.rest)
+    let lt : c.loop-i.i < length c.self.inside.loans.items = (let t = c.loop-i-test.true in let e = c.loop-i.invariant.end in omega arith) in
+    asked_lent (λ (k : KeptLoan). k.held.account.today ≤ c.args.today) c.args.self.now.loans c.self.inside.loans.items c.loop-i.self-inside.loans.items c.loop-i.i c.index_mut-loan.result.now c.deref_mut.result.now (ap (λ (s : KeptLoans). s.loans) c.self.view_is) c.requires.later lt c.loop-i.invariant.done.rest c.index_mut-loan.ensures.value c.deref_mut.ensures.value
 
 pub advance-requires-clause-room : goal.advance-requires-clause-room
 advance-requires-clause-room g c =
-    let olds = c.self.inside.loans.items in
-    let news = c.loop-i.self-inside.loans.items in
-    let i = c.loop-i.i in
-    let x = c.index_mut-loan.result.now in
-    let all = subst (λ (s : KeptLoans). All (λ (k : KeptLoan). month_number c.args.today ≤ month_number k.held.account.today + k.room.books.months) s.loans) (sym c.self.view_is) c.requires.room in
-    let old : c.deref_mut.result.now ≡ (get_or news i x).value = c.deref_mut.ensures.value ∙ ap (λ (b : Box KeptLoan Global). b.value) c.index_mut-loan.ensures.value in
-    let lt : i < length olds = (let t = c.loop-i-test.true in let e = c.loop-i.invariant.end in omega arith) in
-    subst (λ (k : KeptLoan). month_number c.args.today ≤ month_number k.held.account.today + k.room.books.months) (sym old) (asked_next (λ (b : Box KeptLoan Global). b.value) (λ (k : KeptLoan). month_number c.args.today ≤ month_number k.held.account.today + k.room.books.months) olds news i x all lt c.loop-i.invariant.done.rest)
+    let lt : c.loop-i.i < length c.self.inside.loans.items = (let t = c.loop-i-test.true in let e = c.loop-i.invariant.end in omega arith) in
+    asked_lent (λ (k : KeptLoan). month_number c.args.today ≤ month_number k.held.account.today + k.room.books.months) c.args.self.now.loans c.self.inside.loans.items c.loop-i.self-inside.loans.items c.loop-i.i c.index_mut-loan.result.now c.deref_mut.result.now (ap (λ (s : KeptLoans). s.loans) c.self.view_is) c.requires.room lt c.loop-i.invariant.done.rest c.index_mut-loan.ensures.value c.deref_mut.ensures.value
 
 pub loop-i-preserved : goal.loop-i-preserved
 loop-i-preserved g c =

@@ -1,16 +1,7 @@
-use Rattle.std.proofs.Common.{sym, ap, subst, ◌∙◌, Box, Global}
-use Rattle.std.specs.Prelude.{Some}
-use Rattle.svc_loan.specs.Kept.{KeptLoan}
-use Rattle.svc_loan.specs.Loans.{KeptLoans, IsThere, find_kept}
-use Rattle.svc_loan.proofs.KeptLemmas.{at_place}
+use Rattle.std.proofs.Common.{ap}
+use Rattle.svc_loan.specs.Loans.{KeptLoans}
+use Rattle.svc_loan.proofs.KeptLemmas.{lent_found}
 use Rattle.svc_loan.proofs.loans.Loans.loan.Goals as goal
 
 pub returns : goal.returns
-returns g c =
-    let v : Box KeptLoan Global → KeptLoan = λ b. b.value in
-    let xs = c.self.inside.loans.items in
-    let place = subst (λ (s : KeptLoans). IsThere c.args.place s.loans) (sym c.self.view_is) c.requires in
-    ap (λ (s : KeptLoans). find_kept c.args.place.id s.loans) (sym c.self.view_is)
-    ∙ at_place v xs c.args.place.id c.args.place.index c.index.result.now place
-    ∙ ap (λ (b : Box KeptLoan Global). Some b.value) (sym c.index.ensures)
-    ∙ ap Some (sym c.deref.ensures)
+returns g c = lent_found _ _ _ _ _ _ (record { all = ap (λ (s : KeptLoans). s.loans) c.self.view_is; place = c.requires; pointer = c.index.ensures; loan = c.deref.ensures })
