@@ -1,23 +1,15 @@
 -- Positions that are listed by their places.
 use Rattle.std.proofs.Common.{◌≡◌, ◌≢◌, ℕ, zero, suc, ◌+◌, ◌≤◌, ◌<◌, List, [], ◌∷◌, ◌++◌, length, get_or, arith, refl, sym, ap, subst, ◌∙◌}
 use Rattle.std.proofs.Math.ListN.{set}
-use Rattle.std.proofs.Math.ListN.{get_or-map as get_mapped, get_or-append}
+use Rattle.std.proofs.Math.ListN.{get_or-append}
 use Rattle.std.proofs.Math.Seq.{get_or-append_seam}
 use Rattle.std.specs.List.{All, AllPairs, insert}
-use Rattle.std.proofs.lemmas.List.{get_or_default, get_or-set_same, get_or-set_other, length-map, length-set}
+use Rattle.std.proofs.lemmas.List.{get_or-set_same, get_or-set_other}
 use Rattle.std.proofs.lemmas.List.Elements.{All-cons, All-head, All-tail}
 use Rattle.std.proofs.lemmas.List.Kept.{AllPairs-cons}
 use Rattle.svc_types.proofs.OrderLemmas.{pairs_head, pairs_tail}
 use Rattle.svc_custody.specs.declared.position.Position.{Position}
 use Rattle.svc_custody.specs.Positions.{ArePlaces, listed, no_position}
-
--- the one at a place
-pub listed_at : (xs : List Position) (ps : List ℕ) (i : ℕ) (d : Position) (e p : ℕ) → i < length ps → p ≡ get_or ps i e → get_or (listed xs ps) i d ≡ get_or xs p no_position
-listed_at xs ps i d e p lt is =
-    let f : ℕ → Position = λ j. get_or xs j no_position in
-    get_or_default (listed xs ps) i d (f e) (omega (arith, lt, length-map ps f))
-    ∙ get_mapped f ps i e
-    ∙ ap f (sym is)
 
 -- one is replaced
 others_stay : (xs : List Position) (p : ℕ) (y : Position) (ps : List ℕ) → All (λ (j : ℕ). p ≢ j) ps → listed (set xs p y) ps ≡ listed xs ps
@@ -92,13 +84,4 @@ places_with xs ps i y le h =
       count = (let c = h.count in let l = inserted_length n i ps le in omega (arith, c, l, more));
       within = subst (λ m. All (λ (j : ℕ). j < m) (insert ps i n)) (sym more) (more_within n i ps le h.within);
       apart = more_apart n i ps le h.within h.apart;
-    }
-
-pub places_set : (xs : List Position) (ps : List ℕ) (p : ℕ) (y : Position) → ArePlaces xs ps → ArePlaces (set xs p y) ps
-places_set xs ps p y h =
-    let same = length-set xs p y in
-    record {
-      count = h.count ∙ sym same;
-      within = subst (λ m. All (λ (j : ℕ). j < m) ps) (sym same) h.within;
-      apart = h.apart;
     }

@@ -129,6 +129,3 @@ at_place (l ∷ ls) (suc i) lt = at_place ls i (omega arith)
 
 pub held_limited : (ks : List KeptLoan) → All (λ (k : KeptLoan). IsLimited k.held.account) ks → All (λ (l : Held). IsLimited l.account) (held_in ks)
 held_limited ks h = All-map (λ (l : Held). IsLimited l.account) (λ (k : KeptLoan). k.held) ks h
-
-pub read_within : (w : World) (ks : List KeptLoan) → CanRead w ks → w.loans ≡ held_in ks → All (λ (l : Held). IsPosition (position_of w l)) w.loans
-read_within w ks h same = (let all = subst (All (λ (l : Held). IsLimited l.account)) (sym same) (held_limited ks h.limited) in λ k d lt. position_within w _ (all k d lt) h.reports)

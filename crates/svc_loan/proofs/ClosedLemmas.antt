@@ -68,10 +68,6 @@ cost_more cost a m n =
     one : (p : ℕ) → sum_by (cost a) (range_with_len p 1) ≡ cost a p
     one p = omega arith
 
-pub cost_none : (cost : Account → ℕ → ℕ) (a : Account) (m : ℕ) → months_cost cost a m 0 ≡ 0
-unfolding months_cost
-cost_none cost a m = refl
-
 -- what is carried from the first k of n months, which are some
 pub carried_there : (a : Account) (types : List TypeChange) (cs : List Carry) (k : ℕ) (d : Carry) → cs ≡ carries_to a types (length cs) → 1 ≤ k → k ≤ length cs → get_or cs (k - 1) d ≡ carried_to a types k
 carried_there a types cs k d kept some le =
