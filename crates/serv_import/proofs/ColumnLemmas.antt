@@ -1,5 +1,5 @@
 -- The first column of a row that does not fit.
-use Rattle.std.proofs.Common.{◌≡◌, ◌≢◌, ◌<◌, ℕ, zero, suc, List, [], ◌∷◌, Some, None, length, refl, sym, ◌∙◌, subst, true, arith}
+use Rattle.std.proofs.Common.{◌≡◌, ◌≢◌, ◌<◌, ℕ, zero, suc, List, [], ◌∷◌, Some, length, refl, sym, ◌∙◌, subst, true, arith}
 use Rattle.csv.specs.Records.{field_at}
 use Rattle.svc_types.specs.Keys.{IsKey}
 use Rattle.serv_rows.specs.Columns.{count, column}
