@@ -7,6 +7,7 @@ use Rattle.serv_journal.specs.declared.format.Version.TheVariants.{One, Two}
 use Rattle.serv_journal.specs.Format.{Form, base, body, records, header, upgraded_form}
 use Rattle.serv_journal.specs.States.{JournalState, StandsFor}
 use Rattle.serv_journal.proofs.FormatLemmas.{length_of_body}
+use Rattle.serv_journal.proofs.BegunLemmas.{stands_all}
 use Rattle.serv_engine.specs.Histories.{line_of_command, lines_of_history, record_length, lengths_of}
 use Rattle.serv_engine.specs.Engines.{EngineState, IsDurable}
 use Rattle.serv_engine.specs.Opening.{length_before, base_length}
@@ -47,7 +48,7 @@ size_grows form h k old new so si two still place is =
 
 -- so a journal of version 2 has a part that does not grow, and the records of its history
 pub journal_base : (images : List ℕ → Type 0) (e : EngineState) → IsDurable images e → e.journal.version ≡ Two → (place : ℕ) × (e.journal.size ≡ place + lengths_of e.history)
-journal_base images e durable two = (length durable.form.front + 1, size_of durable.form e.history e.journal durable.stands two)
+journal_base images e durable two = (length durable.form.front + 1, size_of durable.form e.history e.journal (stands_all durable.form (lines_of_history e.history) e.journal durable.kept.stands) two)
 
 -- ---- a journal that was found
 

@@ -2,6 +2,7 @@ pub mod HistoryLines
 pub mod UnfitLemmas
 pub mod FileLemmas
 pub mod DurableLemmas
+pub mod RunningLemmas
 pub mod ReplayLemmas
 pub mod FaultLemmas
 pub mod OpenLemmas

@@ -13,8 +13,9 @@ use Rattle.serv_journal.specs.States.{JournalState}
 use Rattle.serv_engine.specs.declared.fault.EngineFault.{EngineFault}
 use Rattle.serv_engine.specs.declared.fault.EngineFault.TheVariants as fault
 use Rattle.serv_engine.specs.Histories.{lengths_of, IsWholeFor, IsGoodFor}
-use Rattle.serv_engine.specs.Engines.{EngineState, IsDurableIn}
+use Rattle.serv_engine.specs.Engines.{EngineState, IsRunningIn}
 use Rattle.serv_engine.proofs.LengthLemmas.{size_grows}
+use Rattle.serv_engine.proofs.RunningLemmas.{running_stands}
 
 -- a kept reply
 pub kept_reply : (h : List Accepted) (c : Command) (said : Judgement) (reply : Reply) → said ≡ Kept reply → IsReplyTo h c said reply
@@ -44,10 +45,10 @@ pub good_same : (images : List ℕ → Type 0) (form : Form) (h : List Accepted)
 good_same images form h a each = λ c image. inl (each c image)
 
 -- the journal's length where it stands for both histories
-pub length_more : (form : Form) (images : List ℕ → Type 0) (later : List ℕ → Type 0) (old new : EngineState) → IsDurableIn form images old → IsDurableIn form later new
+pub length_more : (form : Form) (images : List ℕ → Type 0) (later : List ℕ → Type 0) (old new : EngineState) → IsRunningIn form images old → IsRunningIn form later new
     → old.journal.version ≡ Two → new.journal.version ≡ Two → (place : ℕ) → old.journal.size ≡ place + lengths_of old.history → new.journal.size ≡ place + lengths_of new.history
 length_more form images later old new before after two still place is =
-    size_grows form old.history new.history old.journal new.journal before.stands after.stands two still place is
+    size_grows form old.history new.history old.journal new.journal (running_stands form images old before) (running_stands form later new after) two still place is
 
 pub length_same : (old new : EngineState) → new ≡ old → (place : ℕ) → old.journal.size ≡ place + lengths_of old.history → new.journal.size ≡ place + lengths_of new.history
 length_same old new same place is = subst (λ (e : EngineState). e.journal.size ≡ place + lengths_of e.history) (sym same) is
@@ -59,9 +60,9 @@ ok_no_err x e is = let no_way : ⊥ = cc in no_way
 both_no : (b : Bool) → b ≡ false → b ≡ true → ⊥
 both_no b closed opened = let no_way : ⊥ = cc in no_way
 
-pub ok_not_spent : (reply : Reply) (spent : Bool) → spent ≡ false
-    → (◌≡◌ {A = Result Reply EngineFault} (Ok reply) (Err fault.DiskFault) → spent ≡ true) × (spent ≡ true → ◌≡◌ {A = Result Reply EngineFault} (Ok reply) (Err fault.DiskFault))
-ok_not_spent reply spent unspent = ((λ is. absurd (ok_no_err reply fault.DiskFault is)), (λ t. absurd (both_no spent unspent t)))
+pub ok_not_spent : {T : Type 0} (value : T) (spent : Bool) → spent ≡ false
+    → (◌≡◌ {A = Result T EngineFault} (Ok value) (Err fault.DiskFault) → spent ≡ true) × (spent ≡ true → ◌≡◌ {A = Result T EngineFault} (Ok value) (Err fault.DiskFault))
+ok_not_spent value spent unspent = ((λ is. absurd (ok_no_err value fault.DiskFault is)), (λ t. absurd (both_no spent unspent t)))
 
 not_true : (b : Bool) → (b ≡ true → ⊥) → b ≡ false
 not_true true no_way = absurd (no_way refl)
@@ -73,13 +74,13 @@ unspent_now spent back = not_true spent (λ t. ok_no_err tt fault.DiskFault (bac
 err_inner : {T : Type 0} (f g : EngineFault) → ◌≡◌ {A = Result T EngineFault} (Err f) (Err g) → f ≡ g
 err_inner f g is = cc
 
-pub err_not_spent : (f : EngineFault) (spent : Bool) → (f ≡ fault.DiskFault → ⊥) → spent ≡ false
-    → (◌≡◌ {A = Result Reply EngineFault} (Err f) (Err fault.DiskFault) → spent ≡ true) × (spent ≡ true → ◌≡◌ {A = Result Reply EngineFault} (Err f) (Err fault.DiskFault))
+pub err_not_spent : {T : Type 0} (f : EngineFault) (spent : Bool) → (f ≡ fault.DiskFault → ⊥) → spent ≡ false
+    → (◌≡◌ {A = Result T EngineFault} (Err f) (Err fault.DiskFault) → spent ≡ true) × (spent ≡ true → ◌≡◌ {A = Result T EngineFault} (Err f) (Err fault.DiskFault))
 err_not_spent f spent other unspent = ((λ is. absurd (other (err_inner f fault.DiskFault is))), (λ t. absurd (both_no spent unspent t)))
 
-pub err_spent : (f : EngineFault) (spent : Bool)
+pub err_spent : {T : Type 0} (f : EngineFault) (spent : Bool)
     → (◌≡◌ {A = Result (Unit {0}) EngineFault} (Err f) (Err fault.DiskFault) → spent ≡ true) → (spent ≡ true → ◌≡◌ {A = Result (Unit {0}) EngineFault} (Err f) (Err fault.DiskFault))
-    → (◌≡◌ {A = Result Reply EngineFault} (Err f) (Err fault.DiskFault) → spent ≡ true) × (spent ≡ true → ◌≡◌ {A = Result Reply EngineFault} (Err f) (Err fault.DiskFault))
+    → (◌≡◌ {A = Result T EngineFault} (Err f) (Err fault.DiskFault) → spent ≡ true) × (spent ≡ true → ◌≡◌ {A = Result T EngineFault} (Err f) (Err fault.DiskFault))
 err_spent f spent there back = ((λ is. there (ap (λ x. Err x) (err_inner f fault.DiskFault is))), (λ t. ap (λ x. Err x) (err_inner f fault.DiskFault (back t))))
 
 -- the same engine by its parts

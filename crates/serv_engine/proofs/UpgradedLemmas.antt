@@ -1,5 +1,5 @@
 -- A journal of version 1 that is written anew, and one of version 2 that is left.
-use Rattle.std.proofs.Common.{◌≡◌, ℕ, ◌<◌, ◌≤◌, List, Bool, true, false, refl, ⊎_elim}
+use Rattle.std.proofs.Common.{◌≡◌, ℕ, ◌<◌, ◌≤◌, List, Bool, true, false, None, refl, ⊎_elim}
 use Rattle.std.specs.Prelude.{Result, Ok, Err}
 use Rattle.std.proofs.lemmas.Bool.{cases_lt}
 use Rattle.serv_disk.specs.Disks.{Each, LeavesOnly}
@@ -9,17 +9,18 @@ use Rattle.serv_journal.specs.declared.faults.JournalFault.{JournalFault}
 use Rattle.serv_journal.specs.Format.{Form, upgraded_form}
 use Rattle.serv_journal.specs.States.{JournalState, StandsFor}
 use Rattle.serv_journal.specs.Disks.{IsWholeIn, IsWhole, IsDurableFor}
+use Rattle.serv_journal.proofs.BegunLemmas.{durable_kept}
 
 -- nothing is called: the lines are whole at this moment
 pub whole_now : {D : Type 0} (moment : D → ℕ) (images : D → List ℕ → Type 0) (images_since : D → ℕ → List ℕ → Type 0) (disk : D) (j : JournalState) (lines : List (List ℕ))
     → ((c : List ℕ) → images_since disk (moment disk) c → images disk c) → IsDurableFor (images disk) j lines → LeavesOnly moment images_since disk disk (IsWhole lines)
 whole_now moment images images_since disk j lines only durable =
-    started moment images_since disk (IsWhole lines) (λ c left. record { form = durable.form; is_form = durable.stands.is_form; whole = durable.each c (only c left) })
+    started moment images_since disk (IsWhole lines) (λ c left. record { form = durable.form; is_form = durable.kept.stands.is_form; whole = durable.kept.each c (only c left) })
 
 -- the disk keeps the lines in the form of the upgrade
-pub upgraded_durable : (form : Form) (images : List ℕ → Type 0) (j : JournalState) (lines : List (List ℕ)) → StandsFor (upgraded_form form lines) lines j
+pub upgraded_durable : (form : Form) (images : List ℕ → Type 0) (j : JournalState) (lines : List (List ℕ)) → StandsFor (upgraded_form form lines) lines j → j.begun ≡ None
     → Each images (IsWholeIn (upgraded_form form lines) lines) → IsDurableFor images j lines
-upgraded_durable form images j lines stands each = record { form = upgraded_form form lines; stands = stands; each = each }
+upgraded_durable form images j lines stands none each = durable_kept (upgraded_form form lines) images j lines stands none each
 
 ok_no_err : {T E : Type 0} (x : T) (e : E) → ◌≡◌ {A = Result T E} (Ok x) (Err e) → ⊥
 ok_no_err x e is = let no_way : ⊥ = cc in no_way

@@ -4,7 +4,7 @@ use Rattle.svc_types.specs.declared.requests.Request.TheVariants as request
 use Rattle.svc_world.specs.World.{Accepted}
 use Rattle.serv_line.specs.Lines.{line_of}
 use Rattle.serv_journal.specs.Format.{Form}
-use Rattle.serv_journal.specs.Disks.{IsWholeIn, IsGoodIn, IsGood}
+use Rattle.serv_journal.specs.Disks.{IsWholeIn, IsGoodIn, IsGood, IsAround}
 use Rattle.serv_journal.specs.Reading.{IsRead}
 
 -- the line of an accepted command, and the lines of a history: those of its journal's records
@@ -30,7 +30,12 @@ IsWholeFor form h file = IsWholeIn form (lines_of_history h) file
 abbrev pub IsGoodFor : Form → List Accepted → Accepted → List ℕ → Type 0
 IsGoodFor form h a file = IsGoodIn form (lines_of_history h) (line_of_command a) file
 
--- the same in either version, as a disk is found before it is opened
+-- what a content has at any moment until the begun command, if one is, is committed: the history, with it or without,
+-- or torn with it
+abbrev pub IsAroundFor : Form → List Accepted → List Accepted → List ℕ → Type 0
+IsAroundFor form h begun file = IsAround form (lines_of_history h) (lines_of_history begun) file
+
+-- a content is good for a history and a command in either version, as a disk is found before it is opened
 abbrev pub IsGoodFound : List Accepted → Accepted → List ℕ → Type 0
 IsGoodFound h a file = IsGood (lines_of_history h) (line_of_command a) file
 

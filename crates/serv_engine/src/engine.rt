@@ -1,6 +1,6 @@
 //! The engine: it submits commands and answers queries, and keeps the history on a disk.
 
-ghost use Rattle.std.specs.Prelude.{◌≡◌, ◌⊎◌, ◌↔◌, ◌+◌, ◌^◌, ◌≤◌, ◌∷◌, ◌++◌, ℕ, List, [], length, true, false, None, Some, IfOk, IfErr, OnOk, OnErr, IsErrOf};
+ghost use Rattle.std.specs.Prelude.{◌≡◌, ◌⊎◌, ◌↔◌, ◌+◌, ◌^◌, ◌≤◌, ◌∷◌, ◌++◌, ℕ, List, [], length, true, false, None, Some, IfOk, IfErr, OnOk, OnErr, IsOk, IsErr, IsErrOf};
 ghost use Rattle.svc_types.specs.Requests.{IsCommand, IsQuery};
 ghost use Rattle.svc_spec.specs.Accounts.{Account};
 ghost use Rattle.svc_spec.specs.Months.{cost_of_month};
@@ -11,18 +11,20 @@ ghost use Rattle.svc_world.specs.Custody.{rows_in};
 ghost use Rattle.svc_core.specs.Bound.{step_bound, query_bound};
 ghost use Rattle.svc_core.specs.Core.{IsReplyTo};
 ghost use Rattle.svc_core.specs.Asking.{WantsMemory};
+ghost use Rattle.serv_disk.specs.Faults.{HasCause};
 ghost use Rattle.serv_disk.specs.Disks.{Each, LeavesOnly};
 ghost use Rattle.serv_journal.specs.Format.{Form};
 ghost use Rattle.serv_journal.specs.Reading.{IsNoJournal};
-ghost use Rattle.serv_engine.specs.Histories.{lengths_of, IsGoodFor, IsGoodFound};
-ghost use Rattle.serv_engine.specs.Engines.{IsDurableIn, IsDurable};
+ghost use Rattle.serv_engine.specs.Histories.{lengths_of, IsGoodFor, IsAroundFor, IsGoodFound};
+ghost use Rattle.serv_engine.specs.Engines.{IsDurableIn, IsDurable, IsRunningIn, IsRunning, kept_of, begun_of, reply_of, WasTaken};
 ghost use Rattle.serv_engine.specs.Submitting.{HasRoom, IsSubmitFault, IsAskFault};
 ghost use Rattle.serv_engine.specs.Opening.{IsDamagedAt, IsTooLong, IsFound, IsClosed, IsOnlyFault, IsOpenFault, IsOpenCause, IsFoundWithin, history_bound};
 
-use crate::adding::append_command;
+use crate::adding::{append_command, begin_command};
 use crate::fault::{EngineFault, of_core, of_journal};
 use crate::opening::take_over;
-use serv_disk::Disk;
+use crate::taken::Taken;
+use serv_disk::{Disk, Failed};
 use serv_journal::{Journal, Version};
 use std::alloc::Global;
 use std::marker::Model;
@@ -184,6 +186,102 @@ impl<B: LoanBooks> Engine<B> {
             },
             Err(fault) => Err(of_core(fault)),
         }
+    }
+
+    /// Takes a command as `submit` does, but does not wait until the disk has it: the next call of `begin` or `commit` puts
+    /// it there with its own sync. So after Ok the disk has all commands before this one.
+    pub fn begin<D: Disk, L: Ledger>(
+        &mut self,
+        disk: &mut D,
+        key: &Key,
+        command: &Command,
+        steps: &mut Steps<L>,
+    ) -> Result<Taken, EngineFault>
+        requires command { IsCommand command.now }
+        requires unspent { self.old.journal.spent ≡ false }
+        requires running { IsRunning (D.images disk.old) self.old }
+        ensures reply { IfOk result (λ taken. IsReplyTo self.old.history command.now
+            (judged self.old.history key.now command.now) (reply_of taken)) }
+        ensures history { OnOk result (self.new.history ≡ history_after self.old.history key.now command.now
+            (judged self.old.history key.now command.now)) }
+        // A kept reply changes nothing; after another one the disk keeps all commands before this one.
+        ensures taken { IfOk result (λ taken. WasTaken (judged self.old.history key.now command.now) taken
+            ((self.new ≡ self.old) × (disk.new ≡ disk.old))
+            ((kept_of self.new ≡ self.old.history) × (begun_of self.new ≡ accepted key.now command.now ∷ []))) }
+        ensures running { OnOk result (IsRunning (D.images disk.new) self.new) }
+        ensures running_in { (form : Form) → IsRunningIn form (D.images disk.old) self.old
+            → OnOk result (IsRunningIn form (D.images disk.new) self.new) }
+        // A crash at any moment leaves what was kept, with the command that was begun before or without, or torn
+        // with it.
+        ensures moments { (form : Form) → IsRunningIn form (D.images disk.old) self.old
+            → LeavesOnly D.moment D.images_since disk.old disk.new
+            (IsAroundFor form (kept_of self.old) (begun_of self.old)) }
+        ensures good { (form : Form) → IsRunningIn form (D.images disk.old) self.old
+            → Each (D.images disk.new) (IsAroundFor form (kept_of self.old) (begun_of self.old)) }
+        // `Refused` comes exactly where a rule refuses, `JournalFull` where a fresh command has no room;
+        // only a fresh one can want memory.
+        ensures fault { IfErr result (IsSubmitFault (judged self.old.history key.now command.now)
+            self.old.journal (accepted key.now command.now) (D.faults disk.old) (D.faults disk.new)) }
+        ensures room { OnOk result (judged self.old.history key.now command.now ≡ Judgement.Fresh
+            → HasRoom self.old.journal (accepted key.now command.now)) }
+        // Another fault than the disk's changes nothing; after the disk's the history is as it was.
+        ensures kept { IfErr result (λ f. (f ≡ EngineFault.DiskFault)
+            ⊎ ((self.new ≡ self.old) × (disk.new ≡ disk.old))) }
+        ensures err { OnErr result (self.new.history ≡ self.old.history) }
+        ensures same_kept { OnErr result ((kept_of self.new ≡ kept_of self.old) × (begun_of self.new ≡ begun_of self.old)) }
+        ensures spent { IsErrOf result EngineFault.DiskFault ↔ (self.new.journal.spent ≡ true) }
+        ensures faults { D.faults disk.old ≤ D.faults disk.new }
+        ensures size { OnErr result (self.new.journal.size ≡ self.old.journal.size) }
+        ensures limit { self.new.journal.limit ≡ self.old.journal.limit }
+        ensures version { self.new.journal.version ≡ Version.Two }
+        // A command more takes its line's bytes and seven.
+        ensures length { (base : ℕ) → self.old.journal.size ≡ base + lengths_of self.old.history
+            → OnOk result (self.new.journal.size ≡ base + lengths_of self.new.history) }
+        ensures bound { ((a : Account) (m : ℕ) → B.cost a m ≤ cost_of_month a m)
+            → ((a : Account) (m : ℕ) → B.month_cost a m ≡ 0)
+            → steps.new ≤ steps.old + step_bound self.old.history key.now command.now }
+    {
+        self.core.history_holds();
+        match self.core.judge(key, command, steps) {
+            Ok(verdict) => match verdict {
+                Verdict::Repeat(reply) => Ok(Taken::Settled(reply)),
+                Verdict::Fresh => {
+                    match begin_command(self.alloc, &mut self.journal, disk, key, command) {
+                        Ok(()) => Ok(Taken::Begun(self.core.accept(key, command, steps))),
+                        Err(fault) => Err(fault),
+                    }
+                }
+            },
+            Err(fault) => Err(of_core(fault)),
+        }
+    }
+
+    /// Puts the command that is begun on the disk, if one is.
+    pub fn commit<D: Disk>(&mut self, disk: &mut D) -> Result<(), Failed>
+        requires unspent { self.old.journal.spent ≡ false }
+        requires running { IsRunning (D.images disk.old) self.old }
+        ensures history { self.new.history ≡ self.old.history }
+        ensures durable { OnOk result (IsDurable (D.images disk.new) self.new) }
+        ensures durable_in { (form : Form) → IsRunningIn form (D.images disk.old) self.old
+            → OnOk result (IsDurableIn form (D.images disk.new) self.new) }
+        // A crash at any moment leaves what was kept, with the command that is begun or without, or torn with it.
+        ensures moments { (form : Form) → IsRunningIn form (D.images disk.old) self.old
+            → LeavesOnly D.moment D.images_since disk.old disk.new
+            (IsAroundFor form (kept_of self.old) (begun_of self.old)) }
+        ensures good { (form : Form) → IsRunningIn form (D.images disk.old) self.old
+            → Each (D.images disk.new) (IsAroundFor form (kept_of self.old) (begun_of self.old)) }
+        // Where none is begun nothing is called.
+        ensures idle { self.old.journal.begun ≡ None
+            → IsOk result × (self.new ≡ self.old) × (disk.new ≡ disk.old) }
+        ensures none { OnOk result (self.new.journal.begun ≡ None) }
+        ensures same_kept { OnErr result ((kept_of self.new ≡ kept_of self.old) × (begun_of self.new ≡ begun_of self.old)) }
+        ensures cause { HasCause (D.faults disk.old) (D.faults disk.new) result }
+        ensures spent { IsErr result ↔ (self.new.journal.spent ≡ true) }
+        ensures size { self.new.journal.size ≡ self.old.journal.size }
+        ensures limit { self.new.journal.limit ≡ self.old.journal.limit }
+        ensures version { self.new.journal.version ≡ Version.Two }
+    {
+        self.journal.commit(disk)
     }
 
     /// Answers a query over the history, or with the first rule that refuses it.

@@ -7,6 +7,8 @@ mod fault;
 mod old_version;
 mod opening;
 mod replaying;
+mod taken;
 
 pub use engine::Engine;
 pub use fault::EngineFault;
+pub use taken::Taken;

@@ -7,15 +7,16 @@ use Rattle.serv_journal.specs.declared.format.Version.{Version}
 use Rattle.serv_journal.specs.declared.format.Version.TheVariants.{One, Two}
 use Rattle.serv_journal.specs.Bytes.{Starts, Between}
 use Rattle.serv_journal.specs.Format.{Form, IsForm, IsFront, IsLine, AreLines, base, body, records, header, two_bytes, four_bytes, head_size}
-use Rattle.serv_journal.specs.States.{JournalState}
+use Rattle.serv_journal.specs.States.{JournalState, StandsFor}
 use Rattle.serv_journal.specs.Disks.{IsWholeIn, IsTornIn, IsWhole, IsGood, IsDurableFor}
 use Rattle.serv_journal.specs.Reading.{lines_in, IsMark, IsRead, IsDamaged, IsBadEnd, IsBadRecord, IsBadLine, IsNoJournal, IsOpened}
 use Rattle.serv_journal.specs.Finds.{IsFound, HasForm, IsFindFault}
 use Rattle.serv_journal.specs.Outcomes.{IsPassing}
 use Rattle.serv_journal.specs.declared.faults.JournalFault.{JournalFault}
 use Rattle.serv_journal.specs.declared.faults.JournalFault.TheVariants.{NotJournal, Damaged}
-use Rattle.serv_journal.proofs.ByteLemmas.{torn_byte, first_starts, starts_fits}
+use Rattle.serv_journal.proofs.ByteLemmas.{torn_byte, first_starts}
 use Rattle.serv_journal.proofs.FormatLemmas.{between_good, lines_push, closed_starts}
+use Rattle.serv_journal.proofs.BegunLemmas.{durable_kept, kept_reaches}
 use Rattle.serv_journal.proofs.UniqueLemmas.{NoRecord, NoMark, Same, same_found, closed_no_record, not_header, two_same}
 use Rattle.serv_journal.proofs.ScanLemmas.{length_lines_in, records_least}
 
@@ -206,30 +207,26 @@ closing_good form lines xs line commit place rest file c fit is_line good read e
 
 -- a journal that was opened has its lines in each image
 pub durable_for : (seen_old seen_new : Option (List ℕ)) (images : List ℕ → Type 0) (journal : JournalState) (frames : List (ℕ × List ℕ)) (place : ℕ)
-    → HasForm journal.version frames place → journal.count ≡ length frames → journal.size ≡ place + 1
+    → HasForm journal.version frames place → journal.count ≡ length frames → journal.size ≡ place + 1 → journal.begun ≡ None
     → ((s : List ℕ) → seen_old ≡ Some s → IsOpened seen_new journal frames s) → Only seen_new images → (seen_old ≡ None → seen_new ≡ None) → IsDurableFor images journal (lines_in frames)
-durable_for None seen_new images journal frames place form count size opened only untold = record {
-  form = form.form;
-  stands = record {
-    is_form = form.is_form;
-    version = form.same;
-    count = count ∙ sym (length_lines_in frames);
-    size = omega (arith, size, form.end);
-    fit = form.fit;
-  };
-  each = λ c h. absurd (let none : seen_new ≡ None = untold refl in let some : seen_new ≡ Some c = only c h in let e : ⊥ = cc in e);
-}
-durable_for (Some s) seen_new images journal frames place form count size opened only untold =
+durable_for None seen_new images journal frames place form count size none_begun opened only untold =
+    let stands : StandsFor form.form (lines_in frames) journal = record {
+      is_form = form.is_form;
+      version = form.same;
+      count = count ∙ sym (length_lines_in frames);
+      size = omega (arith, size, form.end);
+      fit = form.fit;
+    } in
+    durable_kept form.form images journal (lines_in frames) stands none_begun
+    (λ c h. absurd (let none : seen_new ≡ None = untold refl in let some : seen_new ≡ Some c = only c h in let e : ⊥ = cc in e))
+durable_for (Some s) seen_new images journal frames place form count size none_begun opened only untold =
     let o = opened s refl in
-    record {
-      form = o.form;
-      stands = o.stands;
-      each = λ c h.
-          let some : seen_new ≡ Some c = only c h in
-          let closes : seen_new ≡ Some (base o.form (lines_in frames) ++ 0 ∷ o.rest) = o.closes in
-          let same : base o.form (lines_in frames) ++ 0 ∷ o.rest ≡ c = cc in
-          closed_starts (base o.form (lines_in frames)) o.rest c (subst (λ x. Starts (base o.form (lines_in frames) ++ 0 ∷ o.rest) x) same (record { tail = []; is = sym (append-nil (base o.form (lines_in frames) ++ 0 ∷ o.rest)) }));
-    }
+    durable_kept o.form images journal (lines_in frames) o.stands none_begun
+    (λ c h.
+    let some : seen_new ≡ Some c = only c h in
+    let closes : seen_new ≡ Some (base o.form (lines_in frames) ++ 0 ∷ o.rest) = o.closes in
+    let same : base o.form (lines_in frames) ++ 0 ∷ o.rest ≡ c = cc in
+    closed_starts (base o.form (lines_in frames)) o.rest c (subst (λ x. Starts (base o.form (lines_in frames) ++ 0 ∷ o.rest) x) same (record { tail = []; is = sym (append-nil (base o.form (lines_in frames) ++ 0 ∷ o.rest)) })))
 
 -- a found part is what opening gives, once its commit byte is closed
 pub opened_found : (told : Option (List ℕ)) (version : Version) (frames : List (ℕ × List ℕ)) (place commit : ℕ) (s : List ℕ) (journal : JournalState) → IsFound version frames place commit s
@@ -304,7 +301,7 @@ only_not_journal told s old new fault is none found =
 -- what reads give reaches the length of a journal that each image has
 pub durable_reaches : (images : List ℕ → Type 0) (journal : JournalState) (lines : List (List ℕ)) (s : List ℕ) → IsDurableFor images journal lines → images s → journal.size ≤ length s
 durable_reaches images journal lines s durable image =
-    omega (arith, durable.stands.size, starts_fits (base durable.form lines ++ 0 ∷ []) s (durable.each s image), length-append (base durable.form lines) (0 ∷ []))
+    kept_reaches durable.form images journal lines [] s durable.kept image
 
 -- a file that is whole for lines is good for them and one line more, and for all of them but the last
 pub whole_good : (lines xs : List (List ℕ)) (line file : List ℕ) → (lines ≡ xs) ⊎ (lines ≡ xs ++ line ∷ []) → IsWhole lines file → IsGood xs line file

@@ -1,5 +1,7 @@
 pub mod ByteLemmas
 pub mod FormatLemmas
+pub mod PutLemmas
+pub mod BegunLemmas
 pub mod StaysLemmas
 pub mod RecordLemmas
 pub mod OutcomeLemmas

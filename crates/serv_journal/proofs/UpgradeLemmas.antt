@@ -1,5 +1,5 @@
 -- Records of version 2, written after a part of version 1.
-use Rattle.std.proofs.Common.{◌≡◌, ◌≢◌, ◌⊎◌, ℕ, ◌+◌, ◌<◌, ◌≤◌, List, [], ◌∷◌, ◌++◌, Option, Some, None, length, get_or, take, drop, refl, sym, ap, subst, ◌∙◌, inl, inr, ⊎_elim, arith, append_assoc, length-append, zero, suc}
+use Rattle.std.proofs.Common.{◌≡◌, ◌≢◌, ◌⊎◌, ℕ, ◌+◌, ◌<◌, ◌≤◌, List, [], ◌∷◌, ◌++◌, Option, Some, length, get_or, take, refl, sym, ap, subst, ◌∙◌, inl, inr, ⊎_elim, arith, append_assoc, length-append, zero, suc}
 use Rattle.std.proofs.lemmas.Bool.Decides.{nat_tests}
 use Rattle.std.proofs.lemmas.List.{append-nil, take_more, length-take-le}
 use Rattle.serv_disk.specs.Disks.{Holds, Told, Each, LeavesOnly}
@@ -10,31 +10,13 @@ use Rattle.serv_journal.specs.Bytes.{Starts, IsOpening}
 use Rattle.serv_journal.specs.Format.{Form, IsForm, IsFront, IsLine, AreLines, base, body, records, header, commit_at, laid, rewritten, upgraded_form}
 use Rattle.serv_journal.specs.States.{JournalState, StandsFor}
 use Rattle.serv_journal.specs.Disks.{IsWholeIn, IsWhole}
-use Rattle.serv_journal.proofs.ByteLemmas.{holds_after}
+use Rattle.serv_journal.proofs.PutLemmas.{told_after, told_reaches}
 use Rattle.serv_journal.proofs.FormatLemmas.{records_push, closed_starts, length_of_body}
 
 pub line_is : (lines : List (List ℕ)) (i : ℕ) → i < length lines → AreLines lines → IsLine (get_or lines i [])
 line_is [] i less fit = absurd (omega (arith, less))
 line_is (x ∷ xs) zero less fit = fit.0
 line_is (x ∷ xs) (suc i) less fit = line_is xs i (omega arith) fit.1
-
--- bytes written after what reads begin with
-pub told_after : (old new : Option (List ℕ)) (front bytes : List ℕ) (at : ℕ) → length front ≡ at → ((s : List ℕ) → old ≡ Some s → Starts front s) → Told old new (Holds at bytes)
-    → (s : List ℕ) → new ≡ Some s → Starts (front ++ bytes) s
-told_after None new front bytes at long starts told s is = absurd (let e : ⊥ = cc in e)
-told_after (Some l) None front bytes at long starts told s is = absurd told
-told_after (Some l) (Some t) front bytes at long starts told s is =
-    let same : t ≡ s = cc in
-    subst (λ x. Starts (front ++ bytes) x) same (holds_after front bytes l t at (starts l refl) long told)
-
--- what reads give reaches past what was written
-pub told_reaches : (old new : Option (List ℕ)) (bytes : List ℕ) (at next : ℕ) → ((s : List ℕ) → old ≡ Some s → at ≤ length s) → Told old new (Holds at bytes) → next ≤ at + length bytes
-    → (s : List ℕ) → new ≡ Some s → next ≤ length s
-told_reaches None new bytes at next reach told less s is = absurd (let e : ⊥ = cc in e)
-told_reaches (Some l) None bytes at next reach told less s is = absurd told
-told_reaches (Some l) (Some t) bytes at next reach told less s is =
-    let same : t ≡ s = cc in
-    omega (arith, ap length same, ap length told, length-append (take at l ++ bytes) (drop (at + length bytes) l), length-append (take at l) bytes, length-take-le at l (reach l refl), less)
 
 header_long : length (header Two) ≡ 8
 unfolding header

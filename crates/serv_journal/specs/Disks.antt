@@ -1,5 +1,5 @@
 -- Which contents of a disk keep which lines.
-use Rattle.std.specs.Prelude.{◌≢◌, ◌⊎◌, ℕ, ◌+◌, List, [], ◌∷◌, ◌++◌, length}
+use Rattle.std.specs.Prelude.{◌≡◌, ◌≢◌, ◌⊎◌, ℕ, ◌+◌, ◌≤◌, List, [], ◌∷◌, ◌++◌, length, Option, None, Some}
 use Rattle.serv_disk.specs.Disks.{Each}
 use Rattle.serv_journal.specs.Bytes.{Starts}
 use Rattle.serv_journal.specs.Format.{Form, IsForm, base, body}
@@ -32,9 +32,37 @@ pub record IsGood (lines : List (List ℕ)) (line file : List ℕ) : Type 0 wher
   pub is_form : IsForm form
   pub good : IsGoodIn form lines line file
 
--- the journal has these lines in some form, and so has each image of the disk
+-- the lines, a closed commit byte, and behind it one record more with a closed commit byte: it is no part of the
+-- journal yet
+abbrev pub IsBegunIn : Form → List (List ℕ) → List ℕ → List ℕ → Type 0
+IsBegunIn form lines line file =
+    Starts (base form lines ++ 0 ∷ (body form.version (length lines + 1) line ++ 0 ∷ [])) file
+
+-- by the line that is begun, if one is: where its commit byte stands
+abbrev pub gate_of : Form → List (List ℕ) → List (List ℕ) → Option ℕ
+gate_of form lines [] = None
+gate_of form lines (line ∷ more) = Some (length (base form lines))
+
+-- what a content has between two calls
+abbrev pub IsAtRest : Form → List (List ℕ) → List (List ℕ) → List ℕ → Type 0
+IsAtRest form lines [] file = IsWholeIn form lines file
+IsAtRest form lines (line ∷ more) file = IsBegunIn form lines line file
+
+-- what it has at any moment until the begun line is committed
+abbrev pub IsAround : Form → List (List ℕ) → List (List ℕ) → List ℕ → Type 0
+IsAround form lines [] file = IsWholeIn form lines file
+IsAround form lines (line ∷ more) file = IsGoodIn form lines line file
+
+-- each image of the disk has these lines, and the journal these and the begun one
+pub record IsKept (form : Form) (images : List ℕ → Type 0) (journal : JournalState)
+    (lines begun : List (List ℕ)) : Type 0 where
+  pub stands : StandsFor form (lines ++ begun) journal
+  pub at_most_one : length begun ≤ 1
+  pub gate : journal.begun ≡ gate_of form lines begun
+  pub each : Each images (IsAtRest form lines begun)
+
+-- the journal has these lines in some form, and so has each image of the disk; none is begun
 pub record IsDurableFor (images : List ℕ
     → Type 0) (journal : JournalState) (lines : List (List ℕ)) : Type 0 where
   pub form : Form
-  pub stands : StandsFor form lines journal
-  pub each : Each images (IsWholeIn form lines)
+  pub kept : IsKept form images journal lines []

@@ -2,6 +2,7 @@ pub mod Bytes
 pub mod Format
 pub mod States
 pub mod Disks
+pub mod Puts
 pub mod Outcomes
 pub mod Stays
 pub mod Reading

@@ -1,32 +1,34 @@
 //! An open journal.
 
-ghost use Rattle.std.specs.Prelude.{◌≡◌, ◌⊎◌, ◌↔◌, ℕ, ◌+◌, ◌≤◌, ◌<◌, List, [], ◌∷◌, ◌++◌, length, Some, true, false, IfErr, OnOk, OnErr, IsErrOf};
-ghost use Rattle.serv_disk.specs.Faults.{HasRisen};
-ghost use Rattle.serv_disk.specs.Disks.{Each, LeavesOnly};
+ghost use Rattle.std.specs.Prelude.{◌≡◌, ◌⊎◌, ◌↔◌, ℕ, ◌+◌, ◌≤◌, ◌<◌, List, [], ◌∷◌, ◌++◌, length, Some, None, true, false, IfErr, OnOk, OnErr, IsOk, IsErr, IsErrOf, MatchOption};
+ghost use Rattle.serv_disk.specs.Faults.{HasRisen, HasCause};
+ghost use Rattle.serv_disk.specs.Disks.{LeavesOnly};
 ghost use Rattle.serv_journal.specs.Format.{Form, IsLine, version_number};
-ghost use Rattle.serv_journal.specs.States.{StandsFor};
-ghost use Rattle.serv_journal.specs.Disks.{IsWholeIn, IsGoodIn};
+ghost use Rattle.serv_journal.specs.Disks.{IsGoodIn, IsAround, IsKept};
 ghost use Rattle.serv_journal.specs.Outcomes.{Reaches};
 
 use crate::faults::JournalFault;
 use crate::format::Version;
-use crate::records::add_record;
-use serv_disk::Disk;
+use crate::records::{add_record, begin_record};
+use crate::writes::set_byte;
+use serv_disk::{Disk, Failed};
 use std::marker::Model;
 
 /// A journal on a disk that is handed to each call. Its length is the place after the closed commit
-/// byte that comes after its last record.
+/// byte that comes after its last record. That record may be begun: it stands behind a commit byte
+/// that is closed, and is no part of what a crash leaves until the next call opens it.
 #[derive(Drop)]
 pub struct Journal {
     pub(crate) size: u64,
     pub(crate) limit: u64,
     pub(crate) count: u64,
     pub(crate) version: Version,
+    pub(crate) begun: Option<u64>,
     pub(crate) spent: bool,
 }
 
 impl Model for Journal {
-    ghost use Rattle.std.specs.Prelude.{ℕ, ◌+◌, ◌*◌, ◌^◌, ◌<◌, ◌≤◌};
+    ghost use Rattle.std.specs.Prelude.{ℕ, ◌+◌, ◌*◌, ◌^◌, ◌<◌, ◌≤◌, IfSome};
     ghost use Rattle.serv_journal.specs.States.{JournalState};
     ghost use Rattle.serv_journal.specs.Format.{head_size};
 
@@ -37,10 +39,12 @@ impl Model for Journal {
       limit = j.limit;
       count = j.count;
       version = j.version;
+      begun = j.begun;
       spent = j.spent;
     } };
 
-    ghost invariant = { λ j. (j.limit ≤ 2 ^ 32) × (8 + (head_size j.version + 2) * j.count < j.size) };
+    ghost invariant = { λ j. (j.limit ≤ 2 ^ 32) × (8 + (head_size j.version + 2) * j.count < j.size)
+        × IfSome j.begun (λ gate. gate < j.size) };
 }
 
 impl Journal {
@@ -68,6 +72,19 @@ impl Journal {
         }
     }
 
+    /// How many bytes the record of a line adds, where they are within the limit.
+    fn room_for(&self, line: &[u8]) -> Option<u64>
+        requires { IsLine line.now }
+        ensures { MatchOption result (self.now.limit < self.now.size + 7 + length line.now)
+            (λ added. (added ≡ 7 + length line.now) × (self.now.size + 7 + length line.now ≤ self.now.limit)) }
+    {
+        let added = 7 + line.len() as u64;
+        if self.limit < added || self.limit - added < self.size {
+            return None;
+        }
+        Some(added)
+    }
+
     /// Adds a line to a journal of version 2. It takes no memory. After Ok each crash leaves the line.
     pub fn append<D: Disk>(&mut self, disk: &mut D, line: &[u8]) -> Result<(), JournalFault>
         requires line { IsLine line.now }
@@ -75,14 +92,12 @@ impl Journal {
         requires unspent { self.old.spent ≡ false }
         requires reaches { Reaches (D.seen disk.old) self.old.size }
         // A crash at any moment leaves the lines, with this one or without, or torn with it.
-        ensures moments { (form : Form) (lines : List (List ℕ)) → StandsFor form lines self.old
-            → Each (D.images disk.old) (IsWholeIn form lines)
+        ensures moments { (form : Form) (lines : List (List ℕ))
+            → IsKept form (D.images disk.old) self.old lines []
             → LeavesOnly D.moment D.images_since disk.old disk.new (IsGoodIn form lines line.now) }
-        ensures added { (form : Form) (lines : List (List ℕ)) → StandsFor form lines self.old
-            → OnOk result (StandsFor form (lines ++ line.now ∷ []) self.new) }
-        ensures durable { (form : Form) (lines : List (List ℕ)) → StandsFor form lines self.old
-            → Each (D.images disk.old) (IsWholeIn form lines)
-            → OnOk result (Each (D.images disk.new) (IsWholeIn form (lines ++ line.now ∷ []))) }
+        ensures added { (form : Form) (lines : List (List ℕ))
+            → IsKept form (D.images disk.old) self.old lines []
+            → OnOk result (IsKept form (D.images disk.new) self.new (lines ++ line.now ∷ []) []) }
         // `Full` comes exactly where the length would pass the limit, and then nothing is written.
         ensures full { IsErrOf result (JournalFault.Full self.old.size) ↔
             (self.old.limit < self.old.size + 7 + length line.now) }
@@ -97,12 +112,59 @@ impl Journal {
         ensures limit { self.new.limit ≡ self.old.limit }
         ensures same_version { self.new.version ≡ self.old.version }
     {
-        let added = 7 + line.len() as u64;
-        if self.limit < added || self.limit - added < self.size {
+        let Some(added) = self.room_for(line) else {
             return Err(JournalFault::Full(self.size));
-        }
-        match add_record(disk, self.size, (self.count + 1) as u32, line) {
+        };
+        match add_record(disk, self.begun, self.size, (self.count + 1) as u32, line) {
             Ok(()) => {
+                self.size += added;
+                self.count += 1;
+                self.begun = None;
+                Ok(())
+            }
+            Err(_) => {
+                self.spent = true;
+                Err(JournalFault::DiskFault)
+            }
+        }
+    }
+
+    /// Adds a line to a journal of version 2 whose commit byte stays closed until the next call of `begin` or `commit`;
+    /// that of the line that is begun already is set with the same sync. It takes no memory.
+    pub fn begin<D: Disk>(&mut self, disk: &mut D, line: &[u8]) -> Result<(), JournalFault>
+        requires line { IsLine line.now }
+        requires version { self.old.version ≡ Version.Two }
+        requires unspent { self.old.spent ≡ false }
+        requires reaches { Reaches (D.seen disk.old) self.old.size }
+        // After Ok each crash leaves the lines and the one that was begun before.
+        ensures begun { (form : Form) (lines begun : List (List ℕ))
+            → IsKept form (D.images disk.old) self.old lines begun
+            → OnOk result (IsKept form (D.images disk.new) self.new (lines ++ begun) (line.now ∷ [])) }
+        // A crash at any moment leaves the lines, with the one that was begun before or without, or torn with it.
+        ensures moments { (form : Form) (lines begun : List (List ℕ))
+            → IsKept form (D.images disk.old) self.old lines begun
+            → LeavesOnly D.moment D.images_since disk.old disk.new (IsAround form lines begun) }
+        // `Full` comes exactly where the length would pass the limit, and then nothing is written.
+        ensures full { IsErrOf result (JournalFault.Full self.old.size) ↔
+            (self.old.limit < self.old.size + 7 + length line.now) }
+        ensures kept { self.old.limit < self.old.size + 7 + length line.now
+            → (self.new ≡ self.old) × (disk.new ≡ disk.old) }
+        ensures fault { IfErr result (λ fault. (fault ≡ JournalFault.Full self.old.size)
+            ⊎ ((fault ≡ JournalFault.DiskFault) × HasRisen (D.faults disk.old) (D.faults disk.new))) }
+        // The journal is spent exactly after `DiskFault`.
+        ensures spent { IsErrOf result JournalFault.DiskFault ↔ (self.new.spent ≡ true) }
+        ensures faults { D.faults disk.old ≤ D.faults disk.new }
+        ensures size { OnErr result (self.new.size ≡ self.old.size) }
+        ensures same_begun { OnErr result (self.new.begun ≡ self.old.begun) }
+        ensures limit { self.new.limit ≡ self.old.limit }
+        ensures same_version { self.new.version ≡ self.old.version }
+    {
+        let Some(added) = self.room_for(line) else {
+            return Err(JournalFault::Full(self.size));
+        };
+        match begin_record(disk, self.begun, self.size, (self.count + 1) as u32, line) {
+            Ok(()) => {
+                self.begun = Some(self.size - 1);
                 self.size += added;
                 self.count += 1;
                 Ok(())
@@ -110,6 +172,44 @@ impl Journal {
             Err(_) => {
                 self.spent = true;
                 Err(JournalFault::DiskFault)
+            }
+        }
+    }
+
+    /// Sets the commit byte of the line that is begun, if one is. After Ok each crash leaves that line too.
+    pub fn commit<D: Disk>(&mut self, disk: &mut D) -> Result<(), Failed>
+        requires unspent { self.old.spent ≡ false }
+        requires reaches { Reaches (D.seen disk.old) self.old.size }
+        ensures committed { (form : Form) (lines begun : List (List ℕ))
+            → IsKept form (D.images disk.old) self.old lines begun
+            → OnOk result (IsKept form (D.images disk.new) self.new (lines ++ begun) []) }
+        // A crash at any moment leaves the lines, with the one that is begun or without, or torn with it.
+        ensures moments { (form : Form) (lines begun : List (List ℕ))
+            → IsKept form (D.images disk.old) self.old lines begun
+            → LeavesOnly D.moment D.images_since disk.old disk.new (IsAround form lines begun) }
+        // Where none is begun nothing is called.
+        ensures idle { self.old.begun ≡ None → IsOk result × (self.new ≡ self.old) × (disk.new ≡ disk.old) }
+        ensures cause { HasCause (D.faults disk.old) (D.faults disk.new) result }
+        // The journal is spent exactly after a failure.
+        ensures spent { IsErr result ↔ (self.new.spent ≡ true) }
+        ensures size { self.new.size ≡ self.old.size }
+        ensures count { self.new.count ≡ self.old.count }
+        ensures none { OnOk result (self.new.begun ≡ None) }
+        ensures same_begun { OnErr result (self.new.begun ≡ self.old.begun) }
+        ensures limit { self.new.limit ≡ self.old.limit }
+        ensures same_version { self.new.version ≡ self.old.version }
+    {
+        let Some(gate) = self.begun else {
+            return Ok(());
+        };
+        match set_byte(disk, gate, 1) {
+            Ok(()) => {
+                self.begun = None;
+                Ok(())
+            }
+            Err(failed) => {
+                self.spent = true;
+                Err(failed)
             }
         }
     }

@@ -131,6 +131,7 @@ impl Journal {
                 limit,
                 count: found.frames.len() as u64,
                 version: found.version,
+                begun: None,
                 spent: false,
             },
             found.frames,

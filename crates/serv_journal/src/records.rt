@@ -1,14 +1,15 @@
 //! Records of version 2 as bytes.
 
-ghost use Rattle.std.specs.Prelude.{◌≡◌, ℕ, ◌+◌, ◌≤◌, ◌<◌, List, [], ◌∷◌, ◌++◌, length, OnOk};
+ghost use Rattle.std.specs.Prelude.{◌≡◌, ℕ, ◌+◌, ◌≤◌, ◌<◌, List, [], ◌∷◌, ◌++◌, length, None, IfSome, OnOk};
 ghost use Rattle.serv_disk.specs.Faults.{HasCause};
 ghost use Rattle.serv_disk.specs.Disks.{Each, LeavesOnly};
 ghost use Rattle.serv_journal.specs.Bytes.{Starts, IsOpening};
 ghost use Rattle.serv_journal.specs.Format.{IsLine, body, two_bytes, four_bytes};
+ghost use Rattle.serv_journal.specs.Puts.{IsPut, IsPutting};
 ghost use Rattle.serv_journal.specs.Outcomes.{Reaches};
 
 use crate::format::Version;
-use crate::writes::open_after;
+use crate::writes::{put_behind, set_byte};
 use serv_disk::{Disk, Failed};
 
 /// The most bytes that stand between a record's commit byte and the end of the next one.
@@ -41,9 +42,10 @@ pub(crate) fn lay_out(number: u32, line: &[u8], next: u8, room: &mut [u8])
     room[6 + size] = next;
 }
 
-/// Adds a record that is laid out in this room.
-fn add_in<D: Disk>(
+/// Begins a record that is laid out in this room.
+fn begin_in<D: Disk>(
     disk: &mut D,
+    gate: Option<u64>,
     size: u64,
     number: u32,
     line: &[u8],
@@ -51,42 +53,62 @@ fn add_in<D: Disk>(
 ) -> Result<(), Failed>
     requires line { IsLine line.now }
     requires room { length room.old ≡ 7 + length line.now }
-    requires some { 1 ≤ size }
+    requires gate { IfSome gate (λ place. place < size) }
     requires reaches { Reaches (D.seen disk.old) size }
-    ensures durable { (front : List ℕ) → length front + 1 ≡ size
-        → Each (D.images disk.old) (Starts (front ++ 0 ∷ []))
-        → OnOk result (Each (D.images disk.new)
-        (Starts (front ++ 1 ∷ (body Version.Two number line.now ++ 0 ∷ [])))) }
-    ensures moments { (front : List ℕ) → length front + 1 ≡ size
-        → Each (D.images disk.old) (Starts (front ++ 0 ∷ []))
-        → LeavesOnly D.moment D.images_since disk.old disk.new
-        (IsOpening front (body Version.Two number line.now ++ 0 ∷ [])) }
+    ensures put { OnOk result (IsPut gate size (body Version.Two number line.now ++ 0 ∷ [])
+        (D.images disk.old) (D.images disk.new)) }
+    ensures moments { IsPutting D.moment D.images_since gate size (D.images disk.old) disk.old disk.new }
+    ensures reach { OnOk result (Reaches (D.seen disk.new) size) }
     ensures cause { HasCause (D.faults disk.old) (D.faults disk.new) result }
 {
     lay_out(number, line, 0, room);
-    open_after(disk, size, room)
+    put_behind(disk, gate, size, room)
 }
 
-/// Adds a record to a file of this length.
-pub(crate) fn add_record<D: Disk>(
+/// Puts a record behind the closed commit byte with which a file of this length ends, and opens the commit byte of the
+/// record before it, where that is begun. There is one sync.
+pub(crate) fn begin_record<D: Disk>(
     disk: &mut D,
+    gate: Option<u64>,
     size: u64,
     number: u32,
     line: &[u8],
 ) -> Result<(), Failed>
     requires line { IsLine line.now }
+    requires gate { IfSome gate (λ place. place < size) }
+    requires reaches { Reaches (D.seen disk.old) size }
+    ensures put { OnOk result (IsPut gate size (body Version.Two number line.now ++ 0 ∷ [])
+        (D.images disk.old) (D.images disk.new)) }
+    ensures moments { IsPutting D.moment D.images_since gate size (D.images disk.old) disk.old disk.new }
+    ensures reach { OnOk result (Reaches (D.seen disk.new) size) }
+    ensures cause { HasCause (D.faults disk.old) (D.faults disk.new) result }
+{
+    let mut room = [0; ROOM];
+    begin_in(disk, gate, size, number, line, &mut room[..line.len() + 7])
+}
+
+/// Adds a record to a file of this length: begins it, and opens its commit byte.
+pub(crate) fn add_record<D: Disk>(
+    disk: &mut D,
+    gate: Option<u64>,
+    size: u64,
+    number: u32,
+    line: &[u8],
+) -> Result<(), Failed>
+    requires line { IsLine line.now }
+    requires gate { IfSome gate (λ place. place < size) }
     requires some { 1 ≤ size }
     requires reaches { Reaches (D.seen disk.old) size }
-    ensures durable { (front : List ℕ) → length front + 1 ≡ size
+    ensures durable { gate ≡ None → (front : List ℕ) → length front + 1 ≡ size
         → Each (D.images disk.old) (Starts (front ++ 0 ∷ []))
         → OnOk result (Each (D.images disk.new)
         (Starts (front ++ 1 ∷ (body Version.Two number line.now ++ 0 ∷ [])))) }
-    ensures moments { (front : List ℕ) → length front + 1 ≡ size
+    ensures moments { gate ≡ None → (front : List ℕ) → length front + 1 ≡ size
         → Each (D.images disk.old) (Starts (front ++ 0 ∷ []))
         → LeavesOnly D.moment D.images_since disk.old disk.new
         (IsOpening front (body Version.Two number line.now ++ 0 ∷ [])) }
     ensures cause { HasCause (D.faults disk.old) (D.faults disk.new) result }
 {
-    let mut room = [0; ROOM];
-    add_in(disk, size, number, line, &mut room[..line.len() + 7])
+    begin_record(disk, gate, size, number, line)?;
+    set_byte(disk, size - 1, 1)
 }

@@ -1,6 +1,6 @@
 //! From version 1 to version 2.
 
-ghost use Rattle.std.specs.Prelude.{◌≡◌, ◌⊎◌, ◌↔◌, ℕ, ◌+◌, ◌≤◌, ◌<◌, ◌^◌, List, [], ◌∷◌, ◌++◌, length, slice_index_or, Some, true, false, IfErr, OnOk, IsErrOf, MatchOption};
+ghost use Rattle.std.specs.Prelude.{◌≡◌, ◌⊎◌, ◌↔◌, ℕ, ◌+◌, ◌≤◌, ◌<◌, ◌^◌, List, [], ◌∷◌, ◌++◌, length, slice_index_or, Some, None, true, false, IfErr, OnOk, IsErrOf, MatchOption};
 ghost use Rattle.serv_disk.specs.Faults.{HasCause, HasRisen};
 ghost use Rattle.serv_disk.specs.Disks.{Each, Holds, Told, LeavesOnly};
 ghost use Rattle.serv_journal.specs.Bytes.{Starts, IsOpening};
@@ -188,6 +188,7 @@ impl Journal {
             → Each (D.images disk.old) (IsWholeIn form (lines_in frames.now))
             → OnOk result (Each (D.images disk.new)
             (IsWholeIn (upgraded_form form (lines_in frames.now)) (lines_in frames.now))) }
+        ensures none_begun { OnOk result (self.new.begun ≡ None) }
         // `Full` comes exactly where the length would pass the limit, and then nothing is written.
         ensures full { IsErrOf result (JournalFault.Full self.old.size)
             ↔ (self.old.limit < self.old.size + 9 + length (records Version.Two 1 (lines_in frames.now))) }
@@ -209,6 +210,7 @@ impl Journal {
                 self.size = size;
                 self.count = frames.len() as u64;
                 self.version = Version::Two;
+                self.begun = None;
                 Ok(())
             }
             Err(_) => {

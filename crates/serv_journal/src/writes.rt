@@ -1,10 +1,11 @@
 //! Writes of which a crash leaves all, nothing, or what is of no account.
 
-ghost use Rattle.std.specs.Prelude.{◌≡◌, ◌≢◌, ◌⊎◌, ℕ, ◌+◌, ◌-◌, ◌≤◌, ◌<◌, List, [], ◌∷◌, ◌++◌, length, Some, None, OnOk};
+ghost use Rattle.std.specs.Prelude.{◌≡◌, ◌≢◌, ◌⊎◌, ℕ, ◌+◌, ◌-◌, ◌≤◌, ◌<◌, List, [], ◌∷◌, ◌++◌, length, Some, None, IfSome, OnOk};
 ghost use Rattle.serv_disk.specs.Faults.{HasCause};
 ghost use Rattle.serv_images.specs.CutShort.{TornAt};
 ghost use Rattle.serv_disk.specs.Disks.{Holds, Told, Each, After, Only, LeavesOnly};
-ghost use Rattle.serv_journal.specs.Bytes.{Starts, Between, IsOpening};
+ghost use Rattle.serv_journal.specs.Bytes.{Starts, Between};
+ghost use Rattle.serv_journal.specs.Puts.{IsPut, IsPutting};
 ghost use Rattle.serv_journal.specs.Outcomes.{Reaches};
 
 use serv_disk::{Disk, Failed};
@@ -32,6 +33,7 @@ fn stage<D: Disk>(disk: &mut D, at: u64, bytes: &[u8]) -> Result<(), Failed>
         → OnOk result (Each (D.images disk.new) (Starts (front ++ bytes.now))) }
     ensures moments { (front : List ℕ) → length front ≡ at → Each (D.images disk.old) (Starts front)
         → LeavesOnly D.moment D.images_since disk.old disk.new (Starts front) }
+    ensures reach { OnOk result (Reaches (D.seen disk.new) at) }
     ensures cause { HasCause (D.faults disk.old) (D.faults disk.new) result }
 {
     put(disk, at, bytes)
@@ -47,25 +49,44 @@ pub(crate) fn set_byte<D: Disk>(disk: &mut D, at: u64, value: u8) -> Result<(), 
     ensures moments { (front rest : List ℕ) → length front ≡ at
         → Each (D.images disk.old) (Between front rest)
         → LeavesOnly D.moment D.images_since disk.old disk.new (Between front rest) }
+    ensures only { OnOk result (Only (D.seen disk.new) (D.images disk.new)) }
     ensures cause { HasCause (D.faults disk.old) (D.faults disk.new) result }
 {
     put(disk, at, &[value])
 }
 
-/// Puts bytes after the closed commit byte with which a journal of this length ends, and then opens it.
-pub(crate) fn open_after<D: Disk>(disk: &mut D, size: u64, bytes: &[u8]) -> Result<(), Failed>
-    requires some { 1 ≤ size }
-    requires reaches { Reaches (D.seen disk.old) size }
-    ensures durable { (front : List ℕ) → length front + 1 ≡ size
-        → Each (D.images disk.old) (Starts (front ++ 0 ∷ []))
-        → OnOk result (Each (D.images disk.new) (Starts (front ++ 1 ∷ bytes.now))) }
-    ensures moments { (front : List ℕ) → length front + 1 ≡ size
-        → Each (D.images disk.old) (Starts (front ++ 0 ∷ []))
-        → LeavesOnly D.moment D.images_since disk.old disk.new (IsOpening front bytes.now) }
+/// Puts bytes after all that is of account, and opens a commit byte before them with the same sync.
+fn put_and_open<D: Disk>(disk: &mut D, gate: u64, at: u64, bytes: &[u8]) -> Result<(), Failed>
+    requires gate { gate < at }
+    requires reaches { Reaches (D.seen disk.old) at }
+    ensures put { OnOk result (IsPut (Some gate) at bytes.now (D.images disk.old) (D.images disk.new)) }
+    ensures moments { IsPutting D.moment D.images_since (Some gate) at (D.images disk.old) disk.old disk.new }
+    ensures reach { OnOk result (Reaches (D.seen disk.new) at) }
     ensures cause { HasCause (D.faults disk.old) (D.faults disk.new) result }
 {
-    stage(disk, size, bytes)?;
-    set_byte(disk, size - 1, 1)
+    lay(disk, at, bytes)?;
+    set_byte(disk, gate, 1)
+}
+
+/// Puts bytes after all that is of account, and opens the commit byte that waits before them, if one does. There is
+/// one sync.
+pub(crate) fn put_behind<D: Disk>(
+    disk: &mut D,
+    gate: Option<u64>,
+    at: u64,
+    bytes: &[u8],
+) -> Result<(), Failed>
+    requires gate { IfSome gate (λ place. place < at) }
+    requires reaches { Reaches (D.seen disk.old) at }
+    ensures put { OnOk result (IsPut gate at bytes.now (D.images disk.old) (D.images disk.new)) }
+    ensures moments { IsPutting D.moment D.images_since gate at (D.images disk.old) disk.old disk.new }
+    ensures reach { OnOk result (Reaches (D.seen disk.new) at) }
+    ensures cause { HasCause (D.faults disk.old) (D.faults disk.new) result }
+{
+    match gate {
+        Some(place) => put_and_open(disk, place, at, bytes),
+        None => stage(disk, at, bytes),
+    }
 }
 
 /// Sets a commit byte to 0, unless it is.

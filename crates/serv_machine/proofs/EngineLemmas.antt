@@ -138,7 +138,7 @@ module _ {D : Type 0} (images : D → List ℕ → Type 0) (moment : D → ℕ) 
   found_moments : LeavesOnly moment images_since old new (IsGoodFound e.history a)
   found_moments =
       weaker moment images_since old new (IsGoodFor durable.form e.history a) (IsGoodFound e.history a)
-      (moments durable.form (record { stands = durable.stands; each = durable.each })) (λ c good. good_found durable.form e.history a c durable.stands.is_form good)
+      (moments durable.form durable.kept) (λ c good. good_found durable.form e.history a c durable.kept.stands.is_form good)
 
   same_disk : (e' ≡ e) × (new ≡ old) → OnDisk images moment images_since old new e.history e'.history []
   same_disk same = disk_same images moment images_since old new e.history e'.history same.1 (ap (λ (x : EngineState). x.history) same.0) (durable_whole (images old) e durable) only_now
@@ -154,7 +154,7 @@ module _ {D : Type 0} (images : D → List ℕ → Type 0) (moment : D → ℕ) 
       → OnDisk images moment images_since old new e.history e'.history (pending_at a (Err (fault_of f)))
   err_disk engine.DiskFault kept h next good =
       disk_stopped images moment images_since old new e.history e'.history a h (next refl)
-      (λ c image. good_found durable.form e.history a c durable.stands.is_form (good durable.form (record { stands = durable.stands; each = durable.each }) c image)) found_moments
+      (λ c image. good_found durable.form e.history a c durable.kept.stands.is_form (good durable.form durable.kept c image)) found_moments
   err_disk (engine.Refused why) kept h next good = ⊎_elim (λ is. absurd (refused_no why is)) (λ same. same_disk same) kept
     where
       refused_no : (why : Refusal) → engine.Refused why ≡ engine.DiskFault → ⊥

@@ -5,4 +5,4 @@ use Rattle.serv_engine.specs.Engines.{EngineState, IsDurable}
 use Rattle.serv_machine.specs.OnDisk.{HasHistory}
 
 pub durable_whole : (images : List ℕ → Type 0) (e : EngineState) → IsDurable images e → Each images (HasHistory e.history)
-durable_whole images e durable = λ c image. record { form = durable.form; is_form = durable.stands.is_form; whole = durable.each c image }
+durable_whole images e durable = λ c image. record { form = durable.form; is_form = durable.kept.stands.is_form; whole = durable.kept.each c image }

@@ -3,33 +3,28 @@ use Rattle.std.specs.Prelude.{Err}
 use Rattle.svc_world.specs.World.{accepted}
 use Rattle.serv_engine.specs.Histories.{lines_of_history}
 use Rattle.serv_engine.specs.Submitting.{IsAppendFault}
-use Rattle.serv_engine.proofs.DurableLemmas.{no_call, good_moments, stands_with, whole_with}
+use Rattle.serv_engine.proofs.DurableLemmas.{no_call, good_moments, added_with}
 use Rattle.serv_engine.proofs.FaultLemmas.{append_fault, disk_is, kept_full, err_same}
 use Rattle.serv_engine.proofs.adding.append_command.Goals as goal
 
 pub returns-in_err-line-clause-moments : goal.returns-in_err-line-clause-moments
-returns-in_err-line-clause-moments g c = λ form h stands each.
-    no_call g.D.Disk.moment g.D.Disk.images g.D.Disk.images_since c.args.disk.now form h (accepted c.args.key.now c.args.command.now) (g.met.D.Disk.only_now c.args.disk.now) each
+returns-in_err-line-clause-moments g c = λ form h kept.
+    no_call g.D.Disk.moment g.D.Disk.images g.D.Disk.images_since c.args.disk.now form h (accepted c.args.key.now c.args.command.now) (g.met.D.Disk.only_now c.args.disk.now) kept.each
 
 pub returns-in-Ok-clause-moments : goal.returns-in-Ok-clause-moments
-returns-in-Ok-clause-moments g c = λ form h stands each.
+returns-in-Ok-clause-moments g c = λ form h kept.
     good_moments g.D.Disk.moment g.D.Disk.images_since c.args.disk.now c.append.new.disk form h (accepted c.args.key.now c.args.command.now) c.deref.result.now
-    (c.deref.ensures.value ∙ c.in_ok-line.ensures.text) (c.append.ensures.moments form (lines_of_history h) stands each)
+    (c.deref.ensures.value ∙ c.in_ok-line.ensures.text) (c.append.ensures.moments form (lines_of_history h) kept)
 
 pub returns-in-Ok-clause-added : goal.returns-in-Ok-clause-added
-returns-in-Ok-clause-added g c = λ form h stands.
-    stands_with form h (accepted c.args.key.now c.args.command.now) c.deref.result.now c.append.new.self (c.deref.ensures.value ∙ c.in_ok-line.ensures.text)
-    (c.in-Ok.ensures.added form (lines_of_history h) stands)
-
-pub returns-in-Ok-clause-durable : goal.returns-in-Ok-clause-durable
-returns-in-Ok-clause-durable g c = λ form h stands each.
-    whole_with (g.D.Disk.images c.append.new.disk) form h (accepted c.args.key.now c.args.command.now) c.deref.result.now (c.deref.ensures.value ∙ c.in_ok-line.ensures.text)
-    (c.in-Ok.ensures.durable form (lines_of_history h) stands each)
+returns-in-Ok-clause-added g c = λ form h kept.
+    added_with (g.D.Disk.images c.append.new.disk) form h (accepted c.args.key.now c.args.command.now) c.deref.result.now c.append.new.self (c.deref.ensures.value ∙ c.in_ok-line.ensures.text)
+    (c.in-Ok.ensures.added form (lines_of_history h) kept)
 
 pub returns-clause-moments : goal.returns-clause-moments
-returns-clause-moments g c = λ form h stands each.
+returns-clause-moments g c = λ form h kept.
     good_moments g.D.Disk.moment g.D.Disk.images_since c.args.disk.now c.append.new.disk form h (accepted c.args.key.now c.args.command.now) c.deref.result.now
-    (c.deref.ensures.value ∙ c.in_ok-line.ensures.text) (c.append.ensures.moments form (lines_of_history h) stands each)
+    (c.deref.ensures.value ∙ c.in_ok-line.ensures.text) (c.append.ensures.moments form (lines_of_history h) kept)
 
 pub returns-clause-fault : goal.returns-clause-fault
 returns-clause-fault g c =

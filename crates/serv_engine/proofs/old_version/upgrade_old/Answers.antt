@@ -4,6 +4,7 @@ use Rattle.serv_journal.specs.declared.format.Version.TheVariants.{Two}
 use Rattle.serv_journal.specs.Format.{records}
 use Rattle.serv_journal.specs.Reading.{lines_in}
 use Rattle.serv_journal.proofs.FormatLemmas.{number_one, number_two}
+use Rattle.serv_journal.proofs.BegunLemmas.{stands_all}
 use Rattle.serv_journal.proofs.ExactLemmas.{durable_reaches}
 use Rattle.serv_engine.specs.Opening.{IsUpgradeFault}
 use Rattle.serv_engine.proofs.FaultLemmas.{upgrade_fault, kept_full}
@@ -30,7 +31,7 @@ pub upgrade-requires-clause-version : goal.upgrade-requires-clause-version
 upgrade-requires-clause-version g c = number_one c.args.journal.now.version (λ is. c.if-version-eq2.false (c.version.ensures ∙ is))
 
 pub upgrade-requires-clause-lines : goal.upgrade-requires-clause-lines
-upgrade-requires-clause-lines g c = c.requires.durable.stands.fit
+upgrade-requires-clause-lines g c = (stands_all c.requires.durable.form (lines_in c.args.frames.now) c.args.journal.now c.requires.durable.kept.stands).fit
 
 pub upgrade-requires-clause-reaches : goal.upgrade-requires-clause-reaches
 upgrade-requires-clause-reaches g c = λ s is.
@@ -39,10 +40,11 @@ upgrade-requires-clause-reaches g c = λ s is.
 pub returns-in-Ok-clause-durable : goal.returns-in-Ok-clause-durable
 returns-in-Ok-clause-durable g c =
     let d = c.requires.durable in
-    upgraded_durable d.form (g.D.Disk.images c.upgrade.new.disk) c.upgrade.new.self (lines_in c.args.frames.now) (c.in-Ok.ensures.upgraded d.form d.stands) (c.in-Ok.ensures.durable d.form d.stands d.each)
+    let stands = stands_all d.form (lines_in c.args.frames.now) c.args.journal.now d.kept.stands in
+    upgraded_durable d.form (g.D.Disk.images c.upgrade.new.disk) c.upgrade.new.self (lines_in c.args.frames.now) (c.in-Ok.ensures.upgraded d.form stands) c.in-Ok.ensures.none_begun (c.in-Ok.ensures.durable d.form stands d.kept.each)
 
 pub returns-in-Ok-clause-version : goal.returns-in-Ok-clause-version
-returns-in-Ok-clause-version g c = let d = c.requires.durable in (c.in-Ok.ensures.upgraded d.form d.stands).version
+returns-in-Ok-clause-version g c = let d = c.requires.durable in (c.in-Ok.ensures.upgraded d.form (stands_all d.form (lines_in c.args.frames.now) c.args.journal.now d.kept.stands)).version
 
 pub returns-in-Ok-clause-size : goal.returns-in-Ok-clause-size
 returns-in-Ok-clause-size g c = λ form stands.
@@ -53,14 +55,14 @@ pub returns-in-Ok-clause-unspent : goal.returns-in-Ok-clause-unspent
 returns-in-Ok-clause-unspent g c = ok_unspent tt _ c.upgrade.new.self.spent c.in-Ok.ensures.spent.1
 
 pub returns-in-Ok-clause-moments : goal.returns-in-Ok-clause-moments
-returns-in-Ok-clause-moments g c = let d = c.requires.durable in c.upgrade.ensures.moments d.form d.stands d.each
+returns-in-Ok-clause-moments g c = let d = c.requires.durable in c.upgrade.ensures.moments d.form (stands_all d.form (lines_in c.args.frames.now) c.args.journal.now d.kept.stands) d.kept.each
 
 pub returns-in-Ok-clause-room : goal.returns-in-Ok-clause-room
 returns-in-Ok-clause-room g c = λ one.
     ok_fits tt _ c.args.journal.now.limit (c.args.journal.now.size + 9 + length (records Two 1 (lines_in c.args.frames.now))) c.in-Ok.ensures.full.1
 
 pub returns-in-Err-clause-moments : goal.returns-in-Err-clause-moments
-returns-in-Err-clause-moments g c = let d = c.requires.durable in c.upgrade.ensures.moments d.form d.stands d.each
+returns-in-Err-clause-moments g c = let d = c.requires.durable in c.upgrade.ensures.moments d.form (stands_all d.form (lines_in c.args.frames.now) c.args.journal.now d.kept.stands) d.kept.each
 
 pub returns-in-Err-clause-fault : goal.returns-in-Err-clause-fault
 returns-in-Err-clause-fault g c =

@@ -9,7 +9,8 @@ use Rattle.serv_journal.proofs.ExactLemmas.{durable_reaches}
 use Rattle.serv_engine.specs.Histories.{lines_of_history, IsGoodFor}
 use Rattle.serv_engine.specs.Engines.{EngineState, IsDurableIn, IsDurable}
 use Rattle.serv_engine.specs.Submitting.{HasRoom, IsSubmitFault}
-use Rattle.serv_engine.proofs.DurableLemmas.{no_call, durable_in, form_of, durable_more, good_now}
+use Rattle.serv_engine.proofs.DurableLemmas.{no_call, durable_in, durable_more, good_now}
+use Rattle.serv_engine.proofs.RunningLemmas.{durable_is_running}
 use Rattle.serv_engine.proofs.FaultLemmas.{submit_fault, core_kept, fresh_fault}
 use Rattle.serv_engine.proofs.SubmitLemmas.{kept_reply, kept_history, fresh_reply, fresh_history, one_more, next_same, not_both, good_same, length_more, length_same, ok_not_spent, unspent_now, err_not_spent, err_spent, still_same, kept_engine}
 use Rattle.serv_engine.proofs.engine.Engine.submit.Goals as goal
@@ -214,7 +215,7 @@ returns-in-Ok-append_command-clause-durable_in g c =
     let more = one_more h judged_at h_now (accepted key command) c.judge.ensures.history c.accept.ensures.history in
     λ form d.
     let e = subst (λ (s : EngineState). IsDurableIn form (images c.args.disk.now) s) (sym c.self.view_is) d in
-    durable_more form (images c.append_command.new.disk) h (record { history = h_now; journal = c.append_command.new.journal }) (accepted key command) more (c.in-Ok-append_command.ensures.added form h e.stands) (c.in-Ok-append_command.ensures.durable form h e.stands e.each)
+    durable_more form (images c.append_command.new.disk) h (record { history = h_now; journal = c.append_command.new.journal }) (accepted key command) more (c.in-Ok-append_command.ensures.added form h e)
 
 pub returns-in-Ok-append_command-clause-durable : goal.returns-in-Ok-append_command-clause-durable
 returns-in-Ok-append_command-clause-durable g c =
@@ -229,9 +230,9 @@ returns-in-Ok-append_command-clause-durable g c =
     let h_now = c.accept.new.self.history in
     let more = one_more h judged_at h_now (accepted key command) c.judge.ensures.history c.accept.ensures.history in
     let form = c.requires.durable.form in
-    let d = form_of (images disk) c.args.self.now c.requires.durable in
+    let d = c.requires.durable.kept in
     let e = subst (λ (s : EngineState). IsDurableIn form (images disk) s) (sym c.self.view_is) d in
-    durable_in form (images disk_now) (record { history = h_now; journal = j_now }) (durable_more form (images disk_now) h (record { history = h_now; journal = j_now }) (accepted key command) more (c.in-Ok-append_command.ensures.added form h e.stands) (c.in-Ok-append_command.ensures.durable form h e.stands e.each))
+    durable_in form (images disk_now) (record { history = h_now; journal = j_now }) (durable_more form (images disk_now) h (record { history = h_now; journal = j_now }) (accepted key command) more (c.in-Ok-append_command.ensures.added form h e))
 
 pub returns-in-Ok-append_command-clause-room : goal.returns-in-Ok-append_command-clause-room
 returns-in-Ok-append_command-clause-room g c =
@@ -260,9 +261,12 @@ returns-in-Ok-append_command-clause-length g c =
     let more = one_more h judged_at h_now (accepted key command) c.judge.ensures.history c.accept.ensures.history in
     λ place is.
     let form = c.requires.durable.form in
-    let d = form_of (images disk) was c.requires.durable in
+    let d = c.requires.durable.kept in
     let e = subst (λ (s : EngineState). IsDurableIn form (images disk) s) (sym c.self.view_is) d in
-    length_more form (images disk) (images disk_now) was (record { history = h_now; journal = j_now }) d (durable_more form (images disk_now) h (record { history = h_now; journal = j_now }) (accepted key command) more (c.in-Ok-append_command.ensures.added form h e.stands) (c.in-Ok-append_command.ensures.durable form h e.stands e.each)) (ap (λ (s : EngineState). s.journal.version) (sym c.self.view_is) ∙ c.self.invariant) (c.append_command.ensures.same_version ∙ c.self.invariant) place is
+    let now : EngineState = record { history = h_now; journal = j_now } in
+    length_more form (images disk) (images disk_now) was now (durable_is_running form (images disk) was d)
+    (durable_is_running form (images disk_now) now (durable_more form (images disk_now) h now (accepted key command) more (c.in-Ok-append_command.ensures.added form h e)))
+    (ap (λ (s : EngineState). s.journal.version) (sym c.self.view_is) ∙ c.self.invariant) (c.append_command.ensures.same_version ∙ c.self.invariant) place is
 
 pub returns-in-Ok-append_command-clause-bound : goal.returns-in-Ok-append_command-clause-bound
 returns-in-Ok-append_command-clause-bound g c =
@@ -316,7 +320,7 @@ returns-in-Ok-append_command-clause-moments g c =
     let disk = c.args.disk.now in
     λ form d.
     let e = subst (λ (s : EngineState). IsDurableIn form (g.D.Disk.images disk) s) (sym c.self.view_is) d in subst (λ (s : EngineState). LeavesOnly g.D.Disk.moment g.D.Disk.images_since disk c.append_command.new.disk (IsGoodFor form s.history (accepted c.args.key.now c.args.command.now))) c.self.view_is
-    (c.append_command.ensures.moments form c.self.inside.core.history e.stands e.each)
+    (c.append_command.ensures.moments form c.self.inside.core.history e)
 
 pub returns-in-Ok-append_command-clause-good : goal.returns-in-Ok-append_command-clause-good
 returns-in-Ok-append_command-clause-good g c =
@@ -329,7 +333,7 @@ returns-in-Ok-append_command-clause-good g c =
     let disk_now = c.append_command.new.disk in
     λ form d.
     let e = subst (λ (s : EngineState). IsDurableIn form (images disk) s) (sym c.self.view_is) d in good_now moment images since disk disk_now (IsGoodFor form c.args.self.now.history (accepted key command)) (g.met.D.Disk.counts_now) (subst (λ (s : EngineState). LeavesOnly moment since disk disk_now (IsGoodFor form s.history (accepted key command))) c.self.view_is
-    (c.append_command.ensures.moments form c.self.inside.core.history e.stands e.each))
+    (c.append_command.ensures.moments form c.self.inside.core.history e))
 
 pub returns-in-Ok-append_command-clause-limit : goal.returns-in-Ok-append_command-clause-limit
 returns-in-Ok-append_command-clause-limit g c =
@@ -344,7 +348,7 @@ returns-in-Err-append_command-clause-moments g c =
     let disk = c.args.disk.now in
     λ form d.
     let e = subst (λ (s : EngineState). IsDurableIn form (g.D.Disk.images disk) s) (sym c.self.view_is) d in subst (λ (s : EngineState). LeavesOnly g.D.Disk.moment g.D.Disk.images_since disk c.append_command.new.disk (IsGoodFor form s.history (accepted c.args.key.now c.args.command.now))) c.self.view_is
-    (c.append_command.ensures.moments form c.self.inside.core.history e.stands e.each)
+    (c.append_command.ensures.moments form c.self.inside.core.history e)
 
 pub returns-in-Err-append_command-clause-good : goal.returns-in-Err-append_command-clause-good
 returns-in-Err-append_command-clause-good g c =
@@ -357,7 +361,7 @@ returns-in-Err-append_command-clause-good g c =
     let disk_now = c.append_command.new.disk in
     λ form d.
     let e = subst (λ (s : EngineState). IsDurableIn form (images disk) s) (sym c.self.view_is) d in good_now moment images since disk disk_now (IsGoodFor form c.args.self.now.history (accepted key command)) (g.met.D.Disk.counts_now) (subst (λ (s : EngineState). LeavesOnly moment since disk disk_now (IsGoodFor form s.history (accepted key command))) c.self.view_is
-    (c.append_command.ensures.moments form c.self.inside.core.history e.stands e.each))
+    (c.append_command.ensures.moments form c.self.inside.core.history e))
 
 pub returns-in-Err-append_command-clause-limit : goal.returns-in-Err-append_command-clause-limit
 returns-in-Err-append_command-clause-limit g c =

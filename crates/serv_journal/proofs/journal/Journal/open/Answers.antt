@@ -27,7 +27,7 @@ returns-in_err-close_byte-clause-moments g c = λ s is lines line fit is_line go
     (good s (g.met.D.Disk.reads_image c.args.disk.now s is)) (c.in_ok-found.ensures.found s is) torn) h))
 
 pub invariant_of-result : goal.invariant_of-result
-invariant_of-result g c = (c.requires, form_least c.in_ok-found.found.version c.in_ok-found.found.frames c.in_ok-found.found.place c.len.result c.in_ok-found.ensures.form c.len.ensures)
+invariant_of-result g c = (c.requires, form_least c.in_ok-found.found.version c.in_ok-found.found.frames c.in_ok-found.found.place c.len.result c.in_ok-found.ensures.form c.len.ensures, tt)
 
 pub returns-clause-opened : goal.returns-clause-opened
 returns-clause-opened g c = λ s is.
@@ -38,7 +38,7 @@ returns-clause-opened g c = λ s is.
 pub returns-clause-durable : goal.returns-clause-durable
 returns-clause-durable g c =
     let found = c.in_ok-found.found in
-    durable_for (g.D.Disk.seen c.args.disk.now) _ _ _ found.frames found.place c.in_ok-found.ensures.form c.len.ensures refl
+    durable_for (g.D.Disk.seen c.args.disk.now) _ _ _ found.frames found.place c.in_ok-found.ensures.form c.len.ensures refl refl
     (λ s is. opened_found _ found.version found.frames found.place found.commit s _ (c.in_ok-found.ensures.found s is) refl c.len.ensures refl
     (λ front rest long e. c.in_ok-close_byte.ensures.told front rest long (c.read_all.ensures.stays.told ∙ (is ∙ ap (λ x. Some x) e))))
     (c.in_ok-close_byte.ensures.only c.in_ok-found.ensures.only)

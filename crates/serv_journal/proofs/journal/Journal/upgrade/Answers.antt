@@ -11,7 +11,7 @@ use Rattle.serv_journal.proofs.journal.Journal.upgrade.Goals as goal
 pub invariant_of-self : goal.invariant_of-self
 invariant_of-self g c =
     let least = records_least Two 1 (lines_in c.args.frames.now) c.requires.lines in
-    (c.self.invariant.0, omega (arith, least, c.self.invariant.1, c.in-Some.ensures.0, c.len.ensures, length_lines_in c.args.frames.now))
+    (c.self.invariant.0, omega (arith, least, c.self.invariant.1, c.in-Some.ensures.0, c.len.ensures, length_lines_in c.args.frames.now), tt)
 
 pub returns-in-Ok-clause-moments : goal.returns-in-Ok-clause-moments
 returns-in-Ok-clause-moments g c = λ form stands each.

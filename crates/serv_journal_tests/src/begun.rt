@@ -1,0 +1,121 @@
+//! Lines that are begun, and committed by a later call.
+
+use crate::worked::{LIMIT, ONE_LINE, are_lines, disk_of};
+use serv_disk::{MemDisk, Torn};
+use serv_journal::Journal;
+use std::alloc::Global;
+use std::test::Fail;
+
+const LINES: [&[u8]; 3] = [b"k1 day 2024-02-01", b"two", b"three"];
+
+/// `ONE_LINE` with `two` begun behind it.
+const ONE_BEGUN: &[u8] =
+    b"MSRVJ002\x01\x00\x00\x00\x01\x00\x11k1 day 2024-02-01\x00\x00\x00\x00\x02\x00\x03two\x00";
+
+/// The same with `two` committed and `three` begun.
+const TWO_BEGUN: &[u8] = b"MSRVJ002\x01\x00\x00\x00\x01\x00\x11k1 day 2024-02-01\
+\x01\x00\x00\x00\x02\x00\x03two\x00\x00\x00\x00\x03\x00\x05three\x00";
+
+/// Whether a line is begun, where it may be.
+#[tactic(auto, using(serv_journal::proofs::FormatLemmas::number_two))]
+fn begin(journal: &mut Journal, disk: &mut MemDisk, line: &[u8]) -> bool {
+    if line.is_empty() || line.len() > 512 {
+        return false;
+    }
+    if journal.version() != 2 {
+        return false;
+    }
+    if journal.is_spent() {
+        return false;
+    }
+    if journal.length() > disk.content().len() as u64 {
+        return false;
+    }
+    journal.begin(disk, line).is_ok()
+}
+
+/// Whether the line that is begun is committed, where it may be.
+fn commit(journal: &mut Journal, disk: &mut MemDisk) -> bool {
+    if journal.is_spent() {
+        return false;
+    }
+    if journal.length() > disk.content().len() as u64 {
+        return false;
+    }
+    journal.commit(disk).is_ok()
+}
+
+/// How many of the calls that begin two lines and commit the last are done before the disk stops after so many of its
+/// own, and the disk then.
+fn stopped(alloc: Global, calls: u32) -> Result<(u32, MemDisk), Fail> {
+    let mut disk = disk_of(alloc, ONE_LINE)?;
+    let (mut journal, _) = Journal::open(alloc, &mut disk, LIMIT)?;
+    disk.stop_after(calls);
+    let first = begin(&mut journal, &mut disk, LINES[1]);
+    let second = begin(&mut journal, &mut disk, LINES[2]);
+    let third = commit(&mut journal, &mut disk);
+    Ok((
+        u32::from(first) + u32::from(second) + u32::from(third),
+        disk,
+    ))
+}
+
+/// How many lines a crash leaves, where they are some first ones.
+fn left(alloc: Global, disk: MemDisk, torn: Torn) -> Result<usize, Fail> {
+    let mut left = disk.crash(torn, true)?;
+    let (_, frames) = Journal::open(alloc, &mut left, LIMIT)?;
+    let count = frames.len().min(LINES.len());
+    if are_lines(&frames, &LINES[..count]) {
+        Ok(count)
+    } else {
+        Ok(0)
+    }
+}
+
+/// How many calls are done after so many of the disk's, and the least and the most lines that a crash leaves then.
+const STOPS: [(u32, usize, usize); 8] = [
+    (0, 1, 1),
+    (0, 1, 1),
+    (1, 1, 1),
+    (1, 1, 2),
+    (1, 1, 2),
+    (2, 2, 3),
+    (2, 2, 3),
+    (3, 3, 3),
+];
+
+#[test]
+fn begun_lines_that_stop_at_any_call_keep_what_was_committed(rt: HostRuntime) -> Result<(), Fail> {
+    for torn in [Torn::Old, Torn::New, Torn::Zero, Torn::Ones] {
+        for (calls, (done, least, most)) in STOPS.iter().enumerate() {
+            let (given, disk) = stopped(rt.alloc(), calls as u32)?;
+            let count = left(rt.alloc(), disk, torn)?;
+            assert!(rt; given == *done, "{torn:?} after {calls}");
+            assert!(rt;
+                *least <= count && count <= *most,
+                "{torn:?} after {calls}: {count}"
+            );
+        }
+    }
+    Ok(())
+}
+
+/// Whether the file is this one after so many lines were begun, and how many lines a crash leaves then.
+fn begun(alloc: Global, count: usize, file: &[u8]) -> Result<(bool, usize), Fail> {
+    let mut disk = disk_of(alloc, ONE_LINE)?;
+    let (mut journal, _) = Journal::open(alloc, &mut disk, LIMIT)?;
+    for line in LINES[1..].iter().take(count) {
+        let _ = begin(&mut journal, &mut disk, line);
+    }
+    let is_file = disk.content() == file;
+    Ok((is_file, left(alloc, disk, Torn::Ones)?))
+}
+
+#[test]
+fn a_line_that_is_begun_is_no_part_of_the_journal(rt: HostRuntime) -> Result<(), Fail> {
+    for (count, file) in [(0, ONE_LINE), (1, ONE_BEGUN), (2, TWO_BEGUN)] {
+        let given = begun(rt.alloc(), count, file)?;
+        assert!(rt; given == (true, count.max(1)), "{count} begun");
+    }
+    Ok(())
+}
