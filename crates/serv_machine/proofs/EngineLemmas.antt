@@ -1,5 +1,5 @@
 -- What an engine answers, as a machine's answer.
-use Rattle.std.proofs.Common.{◌≡◌, ◌⊎◌, ℕ, ◌+◌, ◌-◌, ◌<◌, ◌≤◌, List, [], ◌∷◌, ◌++◌, length, refl, sym, ap, subst, ◌∙◌, ⊎_elim, arith}
+use Rattle.std.proofs.Common.{◌≡◌, ◌⊎◌, ℕ, ◌+◌, ◌-◌, ◌<◌, ◌≤◌, List, [], ◌∷◌, ◌++◌, length, refl, sym, ap, subst, ◌∙◌, ⊎_elim, inl, arith, append-nil, append_assoc}
 use Rattle.std.proofs.lemmas.Bool.Decides.{nat_tests}
 use Rattle.svc_types.specs.declared.requests.Command.{Command}
 use Rattle.svc_types.specs.declared.replies.Reply.{Reply}
@@ -10,8 +10,15 @@ use Rattle.svc_world.specs.Judging as judging
 use Rattle.svc_world.specs.Judging.{Judgement, judged, IsHistory}
 use Rattle.serv_engine.specs.declared.fault.EngineFault.{EngineFault}
 use Rattle.serv_engine.specs.declared.fault.EngineFault.TheVariants as engine
-use Rattle.serv_engine.specs.Engines.{EngineState, IsDurableIn, IsDurable}
-use Rattle.serv_engine.specs.Histories.{line_of_command, record_length, lengths_of}
+use Rattle.serv_engine.specs.Engines.{EngineState, IsDurableIn, IsDurable, IsRunningIn, IsRunning, WasTaken, kept_of, begun_of}
+use Rattle.serv_engine.specs.declared.taken.Taken.{Taken}
+use Rattle.serv_engine.specs.declared.taken.Taken.TheVariants as taken
+use Rattle.serv_machine.specs.declared.stage.Stage.TheVariants as stage
+use Rattle.serv_machine.specs.Stages.{IsStaged, stage_in}
+use Rattle.serv_engine.specs.Histories.{line_of_command, record_length, lengths_of, IsAroundFor}
+use Rattle.serv_engine.proofs.LengthLemmas.{size_of}
+use Rattle.serv_engine.proofs.RunningLemmas.{running_stands, kept_and_begun}
+use Rattle.serv_journal.specs.declared.format.Version.TheVariants.{Two}
 use Rattle.serv_engine.specs.Submitting.{HasRoom, IsFull, IsSubmitFault}
 use Rattle.serv_machine.specs.declared.faults.ActFault.{ActFault}
 use Rattle.serv_machine.specs.declared.faults.ActFault.TheVariants as fault
@@ -22,10 +29,10 @@ use Rattle.serv_disk.specs.Disks.{Each, LeavesOnly}
 use Rattle.serv_disk.proofs.Moments.{weaker}
 use Rattle.serv_journal.specs.Format.{Form, IsForm}
 use Rattle.serv_engine.specs.Histories.{IsGoodFor, IsGoodFound}
-use Rattle.serv_machine.specs.EngineLaws.{durable_whole}
-use Rattle.serv_machine.specs.OnDisk.{OnDisk}
-use Rattle.serv_machine.proofs.OnDiskLemmas.{disk_same, disk_appended, disk_stopped}
-use Rattle.serv_machine.specs.Engines.{history_of, fault_of}
+use Rattle.serv_machine.specs.EngineLaws.{durable_whole, running_whole}
+use Rattle.serv_machine.specs.OnDisk.{HasHistory, IsAlong, IsTorn, OnDisk}
+use Rattle.serv_machine.proofs.OnDiskLemmas.{disk_same, disk_appended, disk_kept, disk_stopped, disk_torn, good_for, history_before}
+use Rattle.serv_machine.specs.Engines.{history_of, kept_history, fault_of}
 
 with_room : (base limit : ℕ) (h : List Accepted) (a : Accepted) → base + lengths_of h + record_length a ≤ limit → by_room (Journal base limit) h a ≡ Fresh
 with_room base limit h a fits = grind (arith, nat_tests)
@@ -181,5 +188,116 @@ pub fault_fresh : (e : EngineState) (a : Accepted) (said : Judgement) (old new :
 fault_fresh e a said old new f is same = (subst (IsSubmitFault said e.journal a old new) same is).0
 
 -- a fault that is not the disk's leaves the engine and the disk
-pub err_same : {D : Type 0} (old new : D) (e e' : EngineState) (f : EngineFault) → (◌≡◌ {A = Result Reply ActFault} (Err (fault_of f)) (Err fault.DiskFault) → ⊥) → (f ≡ engine.DiskFault) ⊎ ((e' ≡ e) × (new ≡ old)) → (e' ≡ e) × (new ≡ old)
+pub err_same : {D T : Type 0} (old new : D) (e e' : EngineState) (f : EngineFault) → (◌≡◌ {A = Result T ActFault} (Err (fault_of f)) (Err fault.DiskFault) → ⊥) → (f ≡ engine.DiskFault) ⊎ ((e' ≡ e) × (new ≡ old)) → (e' ≡ e) × (new ≡ old)
 err_same old new e e' f other kept = ⊎_elim (λ is. absurd (other (ap (λ x. Err (fault_of x)) is))) (λ same. same) kept
+
+-- ---- a command that is begun
+
+-- the journal's length of an engine that runs
+pub running_base : (images : List ℕ → Type 0) (e : EngineState) → IsRunning images e → e.journal.version ≡ Two → (place : ℕ) × (e.journal.size ≡ place + lengths_of e.history)
+running_base images e r two = (length r.form.front + 1, size_of r.form e.history e.journal (running_stands r.form images e r.kept) two)
+
+-- what an engine's run keeps stays the same
+pub kept_same : (old new : EngineState) → new.history ≡ old.history → kept_of new ≡ kept_of old → new.journal.size ≡ old.journal.size → new.journal.limit ≡ old.journal.limit → kept_history new ≡ kept_history old
+kept_same old new h kept size limit =
+    same_in (new.journal.size - lengths_of new.history) (old.journal.size - lengths_of old.history) new.journal.limit old.journal.limit (kept_of new) (kept_of old)
+    (ap (λ n. n - lengths_of new.history) size ∙ ap (λ x. old.journal.size - lengths_of x) h) limit kept
+
+-- all that was held is kept behind it
+pub kept_behind : (old new : EngineState) (base : ℕ) → kept_of new ≡ old.history → old.journal.size ≡ base + lengths_of old.history → new.journal.size ≡ base + lengths_of new.history → new.journal.limit ≡ old.journal.limit
+    → kept_history new ≡ history_of old
+kept_behind old new base kept size size' limit =
+    same_in _ _ new.journal.limit old.journal.limit (kept_of new) old.history (base_on old.journal.size (lengths_of old.history) new.journal.size (lengths_of new.history) base size size') limit kept
+
+next_history : (h : List Accepted) (a : Accepted) (behind all : List Accepted) → all ≡ h ++ a ∷ behind → IsHistory all → IsHistory (h ++ a ∷ [])
+next_history h a behind all is history = history_before (h ++ a ∷ []) behind (subst IsHistory (is ∙ sym (append_assoc h (a ∷ []) behind)) history)
+
+-- while a command is begun a content goes along it
+pub around_along : (form : Form) (h begun : List Accepted) (file : List ℕ) → IsForm form → IsAroundFor form h begun file → IsAlong h begun file
+around_along form h [] file is_form whole = record { form = form; is_form = is_form; whole = whole }
+around_along form h (a ∷ more) file is_form good = inl (good_found form h a file is_form good)
+
+module _ {D : Type 0} (images : D → List ℕ → Type 0) (moment : D → ℕ) (images_since : D → ℕ → List ℕ → Type 0) (old new : D) (form : Form) (is_form : IsForm form) where
+  -- the disk failed: the next command behind what is kept is the one that was begun, or where none was the new one
+  pub torn_behind : (h begun behind all : List Accepted) → all ≡ (h ++ begun) ++ behind → (begun ++ behind ≡ [] → ⊥) → IsHistory all → Each (images new) (IsAroundFor form h begun)
+      → LeavesOnly moment images_since old new (IsAroundFor form h begun) → IsTorn images moment images_since old new h all
+  torn_behind h [] [] all is some history each run = absurd (some refl)
+  torn_behind h [] (a ∷ behind) all is some history each run =
+      let here : all ≡ h ++ a ∷ behind = is ∙ ap (λ x. x ++ a ∷ behind) (append-nil h) in
+      disk_torn images moment images_since old new h all behind a here (next_history h a behind all here history)
+      (λ c image. good_for h a c (around_along form h [] c is_form (each c image)))
+      (weaker moment images_since old new (IsAroundFor form h []) (IsGoodFound h a) run (λ c whole. good_for h a c (around_along form h [] c is_form whole)))
+  torn_behind h (a ∷ more) behind all is some history each run =
+      let here : all ≡ h ++ a ∷ (more ++ behind) = is ∙ append_assoc h (a ∷ more) behind in
+      disk_torn images moment images_since old new h all (more ++ behind) a here (next_history h a (more ++ behind) all here history)
+      (λ c image. good_found form h a c is_form (each c image))
+      (weaker moment images_since old new (IsAroundFor form h (a ∷ more)) (IsGoodFound h a) run (λ c good. good_found form h a c is_form good))
+
+module _ (e e' : EngineState) (key : List ℕ) (c : Command) (base : ℕ) (size : e.journal.size ≡ base + lengths_of e.history) where
+  abbrev said : Judgement
+  said = judged e.history key c
+
+  pub act_fresh : said ≡ judging.Fresh → HasRoom e.journal (accepted key c) → decided (history_of e) key c ≡ Fresh
+  unfolding decided
+  act_fresh fresh room = fresh_told e (accepted key c) (long_enough e base size) said fresh room
+
+  module _ (unchanged : Type 0) (same : unchanged → e' ≡ e) (is_begun : Type 0) (behind : is_begun → kept_of e' ≡ e.history) where
+    pub staged_by : (t : Taken) → WasTaken said t unchanged is_begun → e'.journal.size ≡ base + lengths_of e'.history → e'.journal.limit ≡ e.journal.limit
+        → IsStaged (stage_in t) (history_of e) (kept_history e) (history_of e') (kept_history e')
+    staged_by (taken.Settled reply) was size' limit = inl (ap history_of (same was.1), ap kept_history (same was.1))
+    staged_by (taken.Begun reply) was size' limit = kept_behind e e' base (behind was.1) size size' limit
+
+    pub fresh_by : (t : Taken) → WasTaken said t unchanged is_begun → (said ≡ judging.Fresh → HasRoom e.journal (accepted key c)) → stage_in t ≡ stage.Begun → decided (history_of e) key c ≡ Fresh
+    fresh_by (taken.Settled reply) was room is = absurd (settled_no is)
+      where
+        settled_no : stage.Settled ≡ stage.Begun → ⊥
+        settled_no is = cc
+    fresh_by (taken.Begun reply) was room is = act_fresh was.0 (room was.0)
+
+memory : ◌≡◌ {A = Result Taken ActFault} (Err fault.OutOfMemory) (Err fault.DiskFault) → ⊥
+memory is = cc
+
+-- a machine's fault of the disk is the engine's
+pub disk_fault_is : (f : EngineFault) → ◌≡◌ {A = Result Taken ActFault} (Err (fault_of f)) (Err fault.DiskFault) → f ≡ engine.DiskFault
+disk_fault_is engine.DiskFault is = refl
+disk_fault_is (engine.Refused why) is = absurd (no why is)
+  where
+    no : (why : Refusal) → ◌≡◌ {A = Result Taken ActFault} (Err (fault.Refused why)) (Err fault.DiskFault) → ⊥
+    no why is = cc
+disk_fault_is (engine.JournalFull bytes) is = absurd (no bytes is)
+  where
+    no : (bytes : ℕ) → ◌≡◌ {A = Result Taken ActFault} (Err (fault.Full bytes)) (Err fault.DiskFault) → ⊥
+    no bytes is = cc
+disk_fault_is engine.OutOfMemory is = absurd (memory is)
+disk_fault_is engine.NotJournal is = absurd (memory is)
+disk_fault_is (engine.Damaged place) is = absurd (memory is)
+
+pub some_behind : (begun : List Accepted) (a : Accepted) → begun ++ a ∷ [] ≡ [] → ⊥
+some_behind [] a is = cc
+some_behind (b ∷ begun) a is = cc
+
+module _ {D : Type 0} (images : D → List ℕ → Type 0) (moment : D → ℕ) (images_since : D → ℕ → List ℕ → Type 0) (old new : D) (e e' : EngineState)
+    (only_now : (c : List ℕ) → images_since old (moment old) c → images old c) (runs : IsRunning (images old) e)
+    (moments : (form : Form) → IsRunningIn form (images old) e → LeavesOnly moment images_since old new (IsAroundFor form (kept_of e) (begun_of e))) where
+  along : LeavesOnly moment images_since old new (IsAlong (kept_of e) (begun_of e))
+  along =
+      weaker moment images_since old new (IsAroundFor runs.form (kept_of e) (begun_of e)) (IsAlong (kept_of e) (begun_of e)) (moments runs.form runs.kept)
+      (λ c around. around_along runs.form (kept_of e) (begun_of e) c runs.kept.stands.is_form around)
+
+  pub kept_disk : (e' ≡ e) × (new ≡ old) → OnDisk images moment images_since old new (kept_of e) (kept_of e') []
+  kept_disk same = disk_same images moment images_since old new (kept_of e) (kept_of e') same.1 (ap kept_of same.0) (running_whole (images old) e runs) only_now
+
+  pub behind_disk : (h : List Accepted) → h ≡ e.history → IsHistory e.history → Each (images new) (HasHistory h) → OnDisk images moment images_since old new (kept_of e) h []
+  behind_disk h is history each =
+      disk_kept images moment images_since old new (kept_of e) h (begun_of e) (is ∙ sym (kept_and_begun e)) (subst IsHistory (sym is) history) each along
+
+  pub taken_disk : (Behind : Type 0) → (Behind → kept_of e' ≡ e.history) → (t : Taken) (said : Judgement) → WasTaken said t ((e' ≡ e) × (new ≡ old)) Behind → IsHistory e.history → IsRunning (images new) e'
+      → OnDisk images moment images_since old new (kept_of e) (kept_of e') []
+  taken_disk Behind behind (taken.Settled reply) j was history runs' = kept_disk was.1
+  taken_disk Behind behind (taken.Begun reply) j was history runs' = behind_disk (kept_of e') (behind was.1) history (running_whole (images new) e' runs')
+
+  pub torn_disk : (behind all : List Accepted) → all ≡ e.history ++ behind → (begun_of e ++ behind ≡ [] → ⊥) → IsHistory all
+      → ((form : Form) → IsRunningIn form (images old) e → Each (images new) (IsAroundFor form (kept_of e) (begun_of e))) → IsTorn images moment images_since old new (kept_of e) all
+  torn_disk behind all is some history good =
+      torn_behind images moment images_since old new runs.form runs.kept.stands.is_form (kept_of e) (begun_of e) behind all (is ∙ ap (λ x. x ++ behind) (sym (kept_and_begun e))) some history
+      (good runs.form runs.kept) (moments runs.form runs.kept)

@@ -6,7 +6,8 @@ use Rattle.serv_disk.specs.Disks.{Each, LeavesOnly}
 use Rattle.serv_disk.proofs.Moments.{started, weaker, joined}
 use Rattle.serv_journal.proofs.ExactLemmas.{whole_good}
 use Rattle.serv_engine.specs.Histories.{line_of_command, lines_of_history, IsGoodFound}
-use Rattle.serv_machine.specs.OnDisk.{HasHistory, IsAlong, OnDisk}
+use Rattle.serv_engine.proofs.HistoryLines.{history_front}
+use Rattle.serv_machine.specs.OnDisk.{HasHistory, IsAlong, IsTorn, OnDisk}
 
 -- what has a history is good for it and a command more
 pub good_for : (h : List Accepted) (a : Accepted) (file : List ℕ) → HasHistory h file → IsGoodFound h a file
@@ -30,6 +31,11 @@ along_after h (a ∷ list) more file along = inr (along_after (h ++ a ∷ []) li
 -- with nothing behind it a history is one
 pub alone : (h h' : List Accepted) → h' ≡ h → IsHistory h → IsHistory h' × IsHistory (h' ++ [])
 alone h h' same is = (subst IsHistory (sym same) is, subst IsHistory (sym (append-nil h' ∙ same)) is)
+
+-- the front of a history is one
+pub history_before : (h list : List Accepted) → IsHistory (h ++ list) → IsHistory h
+history_before h [] is = subst IsHistory (append-nil h) is
+history_before h (a ∷ list) is = history_front h a (history_before (h ++ a ∷ []) list (subst IsHistory (sym (append_assoc h (a ∷ []) list)) is))
 
 module _ {D : Type 0} (images : D → List ℕ → Type 0) (moment : D → ℕ) (images_since : D → ℕ → List ℕ → Type 0) where
   -- no call of the disk
@@ -85,4 +91,25 @@ module _ {D : Type 0} (images : D → List ℕ → Type 0) (moment : D → ℕ) 
     fresh = λ is. (subst IsHistory (sym same) is, subst (λ x. IsHistory (x ++ a ∷ [])) (sym same) (fresh is));
     left = subst (λ x. Each (images new) (IsGoodFound x a)) (sym same) each;
     moments = weaker moment images_since old new (IsGoodFound h a) (IsAlong h (a ∷ [])) run (λ c good. inl good);
+  }
+
+  -- commands that were begun are kept now
+  pub disk_kept : (old new : D) (h h' list : List Accepted) → h' ≡ h ++ list → IsHistory h' → Each (images new) (HasHistory h') → LeavesOnly moment images_since old new (IsAlong h list)
+      → OnDisk images moment images_since old new h h' []
+  disk_kept old new h h' list is history each run = record {
+    list = list;
+    accepted = is;
+    fresh = λ _. alone h' h' refl history;
+    left = each;
+    moments = weaker moment images_since old new (IsAlong h list) (IsAlong h (list ++ [])) run (λ c along. subst (λ x. IsAlong h x c) (sym (append-nil list)) along);
+  }
+
+  -- the disk failed: the next command after those that are kept was perhaps being appended
+  pub disk_torn : (old new : D) (h all rest : List Accepted) (next : Accepted) → all ≡ h ++ next ∷ rest → IsHistory (h ++ next ∷ []) → Each (images new) (IsGoodFound h next) → LeavesOnly moment images_since old new (IsGoodFound h next)
+      → IsTorn images moment images_since old new h all
+  disk_torn old new h all rest next is history each run = record {
+    next = next;
+    rest = rest;
+    all_are = is;
+    disk = disk_stopped old new h h next refl (λ _. history) each run;
   }

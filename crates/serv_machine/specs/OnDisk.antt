@@ -29,3 +29,11 @@ pub record OnDisk {D : Type 0} (images : D → List ℕ → Type 0) (moment : D 
   pub fresh : IsHistory h → IsHistory h' × IsHistory (h' ++ pending)
   pub left : IsLeft (images new) h' pending
   pub moments : LeavesOnly moment images_since old new (IsAlong h (list ++ pending))
+
+-- a run of calls in which the disk failed: it accepts no command, and perhaps the next one of these was being appended
+pub record IsTorn {D : Type 0} (images : D → List ℕ → Type 0) (moment : D → ℕ) (images_since : D
+    → ℕ → List ℕ → Type 0) (old new : D) (h all : List Accepted) : Type 0 where
+  pub next : Accepted
+  pub rest : List Accepted
+  pub all_are : all ≡ h ++ next ∷ rest
+  pub disk : OnDisk images moment images_since old new h h (next ∷ [])

@@ -89,12 +89,10 @@ bound_of_request h (request.Ask q) = query_bound (world h.commands) q
 
 -- ---- where it stops
 
--- the command that was being appended where the disk failed
-abbrev pub pending_of : Request → Result (Unit {0}) Halt → List Accepted
-pending_of r (Ok done) = []
-pending_of r (Err halt.OutOfMemory) = []
-pending_of (request.Do key c) (Err halt.DiskFault) = accepted key c ∷ []
-pending_of (request.Ask q) (Err halt.DiskFault) = []
+-- the command that a request brings, if it is one
+abbrev pub commands_in : Request → List Accepted
+commands_in (request.Do key c) = accepted key c ∷ []
+commands_in (request.Ask q) = []
 
 -- a command that is fresh, and for which there is room, is appended to a journal, and a query is not
 abbrev pub IsAppending : History → Request → Type 0

@@ -1,15 +1,18 @@
 //! The reply to a request, as text.
 
-ghost use Rattle.std.specs.Prelude.{◌≡◌, ◌≢◌, ◌+◌, ◌≤◌, ◌⊎◌, ◌++◌, Err, OnErr, OnOk, IfErr};
+ghost use Rattle.std.specs.Prelude.{◌≡◌, ◌≢◌, ◌+◌, ◌≤◌, ◌++◌, [], Err, Ok, OnErr, OnOk, IfOk};
 ghost use Rattle.svc_types.specs.Requests.{IsCommand, IsQuery, IsRequest};
 ghost use Rattle.svc_types.specs.declared.requests.Request.TheVariants as request;
 ghost use Rattle.serv_disk.specs.Faults.{HasRisen};
-ghost use Rattle.serv_machine.specs.Replies.{bound_of_request, history_after_request, pending_of, reply_to_request, IsAppending};
-ghost use Rattle.serv_machine.specs.OnDisk.{OnDisk};
+ghost use Rattle.serv_machine.specs.Replies.{bound_of_request, commands_in, history_after_request, reply_to_request, IsAppending};
+ghost use Rattle.serv_machine.specs.Stages.{IsNear, IsStaged};
+ghost use Rattle.serv_machine.specs.OnDisk.{IsTorn, OnDisk};
 
 use crate::faults::{ActFault, Halt};
 use crate::machine::Machine;
+use crate::stage::Stage;
 use serv_disk::Disk;
+use serv_engine::Taken;
 use serv_line::{push_full, push_refusal, push_reply};
 use serv_report::push_answer;
 use std::sync::ledger::Ledger;
@@ -17,36 +20,44 @@ use svc_base::{OutOfMemory, Steps};
 use svc_core::CoreFault;
 use svc_types::{Command, Key, Query, Request};
 
-/// Acts on a request, and appends the text of its reply. Where it halts nothing is appended; for want of
-/// memory a command may then be accepted all the same.
+/// Acts on a request, and appends the text of its reply; a fresh command is begun. Where it halts nothing is
+/// appended; for want of memory a command may then be begun, or accepted, all the same.
 pub fn answer_request<D: Disk, M: Machine<D>, L: Ledger>(
     machine: &mut M,
     disk: &mut D,
     request: &Request,
     out: &mut Vec<u8>,
     steps: &mut Steps<L>,
-) -> Result<(), Halt>
+) -> Result<Stage, Halt>
     requires request { IsRequest request.now }
-    requires ready { M.ready machine.old disk.old }
+    requires running { M.running machine.old disk.old }
     ensures reply { OnOk result
         (out.new.items ≡ out.old.items ++ reply_to_request (M.history machine.old) request.now) }
     ensures kept { OnErr result (out.new.items ≡ out.old.items) }
     ensures history { OnOk result
         (M.history machine.new ≡ history_after_request (M.history machine.old) request.now) }
-    ensures near { OnErr result ((M.history machine.new ≡ M.history machine.old)
-        ⊎ (M.history machine.new ≡ history_after_request (M.history machine.old) request.now)) }
-    ensures stopped { result ≡ Err Halt.DiskFault → (M.history machine.new ≡ M.history machine.old)
+    ensures stage { IfOk result (λ stage. IsStaged stage (M.history machine.old) (M.kept machine.old)
+        (M.history machine.new) (M.kept machine.new)) }
+    ensures begun { result ≡ Ok Stage.Begun → IsAppending (M.history machine.old) request.now }
+    ensures near { result ≡ Err Halt.OutOfMemory → IsNear (M.history machine.old) (M.kept machine.old)
+        (history_after_request (M.history machine.old) request.now) (M.kept machine.new) }
+    ensures stopped { result ≡ Err Halt.DiskFault → (M.kept machine.new ≡ M.kept machine.old)
         × HasRisen (D.faults disk.old) (D.faults disk.new) }
     ensures appending { result ≡ Err Halt.DiskFault → IsAppending (M.history machine.old) request.now }
-    ensures disk { OnDisk D.images D.moment D.images_since disk.old disk.new
-        (M.history machine.old).commands (M.history machine.new).commands (pending_of request.now result) }
-    ensures ready { result ≢ Err Halt.DiskFault → M.ready machine.new disk.new }
+    ensures disk { result ≢ Err Halt.DiskFault → OnDisk D.images D.moment D.images_since disk.old disk.new
+        (M.kept machine.old).commands (M.kept machine.new).commands [] }
+    ensures torn { result ≡ Err Halt.DiskFault → IsTorn D.images D.moment D.images_since disk.old disk.new
+        (M.kept machine.old).commands ((M.history machine.old).commands ++ commands_in request.now) }
+    ensures running { result ≢ Err Halt.DiskFault → M.running machine.new disk.new }
     ensures faults { D.faults disk.old ≤ D.faults disk.new }
     ensures steps { steps.new ≤ steps.old + bound_of_request (M.history machine.old) request.now }
 {
     match request {
         Request::Do(key, command) => answer_command(machine, disk, key, command, out, steps),
-        Request::Ask(query) => Ok(answer_query(machine, query, out, steps)?),
+        Request::Ask(query) => {
+            answer_query(machine, query, out, steps)?;
+            Ok(Stage::Settled)
+        }
     }
 }
 
@@ -59,32 +70,51 @@ fn answer_command<D: Disk, M: Machine<D>, L: Ledger>(
     command: &Command,
     out: &mut Vec<u8>,
     steps: &mut Steps<L>,
-) -> Result<(), Halt>
+) -> Result<Stage, Halt>
     requires command { IsCommand command.now }
-    requires ready { M.ready machine.old disk.old }
+    requires running { M.running machine.old disk.old }
     ensures reply { OnOk result (out.new.items
         ≡ out.old.items ++ reply_to_request (M.history machine.old) (request.Do key.now command.now)) }
     ensures kept { OnErr result (out.new.items ≡ out.old.items) }
     ensures history { OnOk result (M.history machine.new
         ≡ history_after_request (M.history machine.old) (request.Do key.now command.now)) }
-    ensures near { OnErr result ((M.history machine.new ≡ M.history machine.old) ⊎ (M.history machine.new
-        ≡ history_after_request (M.history machine.old) (request.Do key.now command.now))) }
-    ensures stopped { result ≡ Err Halt.DiskFault → (M.history machine.new ≡ M.history machine.old)
+    ensures stage { IfOk result (λ stage. IsStaged stage (M.history machine.old) (M.kept machine.old)
+        (M.history machine.new) (M.kept machine.new)) }
+    ensures begun { result ≡ Ok Stage.Begun
+        → IsAppending (M.history machine.old) (request.Do key.now command.now) }
+    ensures near { result ≡ Err Halt.OutOfMemory → IsNear (M.history machine.old) (M.kept machine.old)
+        (history_after_request (M.history machine.old) (request.Do key.now command.now)) (M.kept machine.new) }
+    ensures stopped { result ≡ Err Halt.DiskFault → (M.kept machine.new ≡ M.kept machine.old)
         × HasRisen (D.faults disk.old) (D.faults disk.new) }
     ensures appending { result ≡ Err Halt.DiskFault
         → IsAppending (M.history machine.old) (request.Do key.now command.now) }
-    ensures disk { OnDisk D.images D.moment D.images_since disk.old disk.new
-        (M.history machine.old).commands (M.history machine.new).commands
-        (pending_of (request.Do key.now command.now) result) }
-    ensures ready { result ≢ Err Halt.DiskFault → M.ready machine.new disk.new }
+    ensures disk { result ≢ Err Halt.DiskFault → OnDisk D.images D.moment D.images_since disk.old disk.new
+        (M.kept machine.old).commands (M.kept machine.new).commands [] }
+    ensures torn { result ≡ Err Halt.DiskFault → IsTorn D.images D.moment D.images_since disk.old disk.new
+        (M.kept machine.old).commands
+        ((M.history machine.old).commands ++ commands_in (request.Do key.now command.now)) }
+    ensures running { result ≢ Err Halt.DiskFault → M.running machine.new disk.new }
     ensures faults { D.faults disk.old ≤ D.faults disk.new }
     ensures steps { steps.new ≤ steps.old
         + bound_of_request (M.history machine.old) (request.Do key.now command.now) }
 {
-    match machine.act(disk, key, command, steps) {
-        Ok(reply) => Ok(push_reply(out, &reply)?),
-        Err(ActFault::Refused(why)) => Ok(push_refusal(out, &why)?),
-        Err(ActFault::Full(bytes)) => Ok(push_full(out, bytes)?),
+    match machine.begin(disk, key, command, steps) {
+        Ok(Taken::Settled(reply)) => {
+            push_reply(out, &reply)?;
+            Ok(Stage::Settled)
+        }
+        Ok(Taken::Begun(reply)) => {
+            push_reply(out, &reply)?;
+            Ok(Stage::Begun)
+        }
+        Err(ActFault::Refused(why)) => {
+            push_refusal(out, &why)?;
+            Ok(Stage::Settled)
+        }
+        Err(ActFault::Full(bytes)) => {
+            push_full(out, bytes)?;
+            Ok(Stage::Settled)
+        }
         Err(ActFault::DiskFault) => Err(Halt::DiskFault),
         Err(ActFault::OutOfMemory) => Err(Halt::OutOfMemory),
     }

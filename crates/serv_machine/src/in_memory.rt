@@ -3,6 +3,8 @@
 use crate::faults::ActFault;
 use crate::machine::Machine;
 use crate::nowhere::Nowhere;
+use serv_disk::Failed;
+use serv_engine::Taken;
 use std::sync::ledger::Ledger;
 use svc_base::Steps;
 use svc_checkpoint::Checked;
@@ -11,11 +13,16 @@ use svc_types::{Command, Key, Query, Reply};
 use svc_world::Answer;
 
 impl Machine<Nowhere> for Core<Checked> {
+    ghost use Rattle.std.specs.Prelude.{refl};
     ghost use Rattle.serv_machine.specs.History.{Memory};
 
     ghost history = { λ c. record { commands = c.history; store = Memory } };
 
     ghost ready = { λ _ _. Unit {0} };
+
+    ghost kept = { λ c. record { commands = c.history; store = Memory } };
+
+    ghost running = { λ _ _. Unit {0} };
 
     ghost failed = { λ _. ⊥ };
 
@@ -34,10 +41,31 @@ impl Machine<Nowhere> for Core<Checked> {
         }
     }
 
+    fn begin<L: Ledger>(
+        &mut self,
+        disk: &mut Nowhere,
+        key: &Key,
+        command: &Command,
+        steps: &mut Steps<L>,
+    ) -> Result<Taken, ActFault> {
+        match self.act(disk, key, command, steps) {
+            Ok(reply) => Ok(Taken::Settled(reply)),
+            Err(fault) => Err(fault),
+        }
+    }
+
+    fn commit(&mut self, _: &mut Nowhere) -> Result<(), Failed> {
+        Ok(())
+    }
+
     fn answer<L: Ledger>(&self, query: &Query, steps: &mut Steps<L>) -> Result<Answer, CoreFault> {
         self.history_holds();
         self.ask(query, steps)
     }
 
     ghost keeps = { λ m d is c image. absurd image };
+
+    ghost keeps_running = { λ m d is c image. absurd image };
+
+    ghost settled = { λ m d is. (tt, refl) };
 }

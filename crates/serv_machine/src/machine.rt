@@ -1,6 +1,6 @@
 //! The books of a servicer, wherever they are kept.
 
-ghost use Rattle.std.specs.Prelude.{◌≡◌, ◌≢◌, ◌+◌, ◌≤◌, None, Some, Err, length, IfErr, IfOk, OnErr, OnOk};
+ghost use Rattle.std.specs.Prelude.{◌≡◌, ◌≢◌, ◌+◌, ◌≤◌, ◌++◌, ◌∷◌, [], None, Some, Err, length, IfErr, IfOk, OnErr, OnOk};
 ghost use Rattle.svc_types.specs.Requests.{IsCommand, IsQuery};
 ghost use Rattle.svc_world.specs.World.{accepted, world};
 ghost use Rattle.svc_world.specs.Answers.{answer_to, query_refusal};
@@ -9,13 +9,18 @@ ghost use Rattle.svc_core.specs.Asking.{WantsMemory};
 ghost use Rattle.svc_core.specs.Bound.{query_bound, step_bound};
 ghost use Rattle.svc_core.specs.Core.{IsQueryFault};
 ghost use Rattle.serv_disk.specs.Disks.{Each};
+ghost use Rattle.serv_disk.specs.Faults.{HasCause};
+ghost use Rattle.serv_engine.specs.Engines.{reply_of};
 ghost use Rattle.serv_report.specs.AnswerTexts.{IsSpellable};
-ghost use Rattle.serv_machine.specs.History.{History, decided, after_decision};
+ghost use Rattle.serv_machine.specs.History.{History, Fresh, decided, after_decision};
 ghost use Rattle.serv_machine.specs.Replies.{IsReplyBy, IsFaultBy, pending_at};
-ghost use Rattle.serv_machine.specs.OnDisk.{HasHistory, OnDisk};
+ghost use Rattle.serv_machine.specs.Stages.{IsStaged, stage_in};
+ghost use Rattle.serv_machine.specs.OnDisk.{HasHistory, IsTorn, OnDisk};
 
 use crate::faults::ActFault;
-use serv_disk::Disk;
+use crate::stage::Stage;
+use serv_disk::{Disk, Failed};
+use serv_engine::Taken;
 use std::sync::ledger::Ledger;
 use svc_base::Steps;
 use svc_core::CoreFault;
@@ -30,6 +35,12 @@ pub trait Machine<D: Disk> {
 
     /// The disk has the history, and no call of it has failed.
     ghost ready: { Self → D → Type 0 };
+
+    /// The commands that the disk has: all of the history, or all but the last one, which is begun.
+    ghost kept: { Self → History };
+
+    /// The disk has the kept commands, and no call of it has failed.
+    ghost running: { Self → D → Type 0 };
 
     /// A call of the disk has failed, and no further command is taken.
     ghost failed: { Self → Type 0 };
@@ -62,6 +73,52 @@ pub trait Machine<D: Disk> {
         ensures steps { steps.new ≤ steps.old
             + step_bound (history self.old).commands key.now command.now };
 
+    /// Acts on a command as `act` does, but where it is fresh it is begun: the disk has it after the next call of `begin` that
+    /// begins another, or of `commit`. After `Begun` it has all commands before it.
+    fn begin<L: Ledger>(
+        &mut self,
+        disk: &mut D,
+        key: &Key,
+        command: &Command,
+        steps: &mut Steps<L>,
+    ) -> Result<Taken, ActFault>
+        requires command { IsCommand command.now }
+        requires running { running self.old disk.old }
+        ensures reply { IfOk result (λ taken. IsReplyBy (history self.old) command.now
+            (decided (history self.old) key.now command.now) (reply_of taken)) }
+        ensures fault { IfErr result (IsFaultBy (decided (history self.old) key.now command.now)
+            (D.faults disk.old) (D.faults disk.new)) }
+        ensures after { OnOk result (history self.new ≡ after_decision (history self.old)
+            (accepted key.now command.now) (decided (history self.old) key.now command.now)) }
+        ensures stage { IfOk result (λ taken. IsStaged (stage_in taken)
+            (history self.old) (kept self.old) (history self.new) (kept self.new)) }
+        ensures fresh { IfOk result (λ taken. stage_in taken ≡ Stage.Begun
+            → decided (history self.old) key.now command.now ≡ Fresh) }
+        ensures same { OnErr result ((history self.new ≡ history self.old) × (kept self.new ≡ kept self.old)) }
+        // What a crash leaves, now and at each moment: the kept commands; after a fault of the disk perhaps the next one too.
+        ensures disk { result ≢ Err ActFault.DiskFault → OnDisk D.images D.moment D.images_since disk.old disk.new
+            (kept self.old).commands (kept self.new).commands [] }
+        ensures torn { result ≡ Err ActFault.DiskFault → IsTorn D.images D.moment D.images_since disk.old disk.new
+            (kept self.old).commands ((history self.old).commands ++ accepted key.now command.now ∷ []) }
+        ensures running { result ≢ Err ActFault.DiskFault → running self.new disk.new }
+        ensures failed { result ≡ Err ActFault.DiskFault → failed self.new }
+        ensures faults { D.faults disk.old ≤ D.faults disk.new }
+        ensures steps { steps.new ≤ steps.old
+            + step_bound (history self.old).commands key.now command.now };
+
+    /// Leaves no command begun: the disk has all of them then.
+    fn commit(&mut self, disk: &mut D) -> Result<(), Failed>
+        requires running { running self.old disk.old }
+        ensures history { history self.new ≡ history self.old }
+        ensures same { OnErr result (kept self.new ≡ kept self.old) }
+        ensures disk { OnOk result (OnDisk D.images D.moment D.images_since disk.old disk.new
+            (kept self.old).commands (history self.old).commands []) }
+        ensures torn { OnErr result (IsTorn D.images D.moment D.images_since disk.old disk.new
+            (kept self.old).commands (history self.old).commands) }
+        ensures ready { OnOk result (ready self.new disk.new) }
+        ensures failed { OnErr result (failed self.new) }
+        ensures cause { HasCause (D.faults disk.old) (D.faults disk.new) result };
+
     /// Answers a query.
     fn answer<L: Ledger>(&self, query: &Query, steps: &mut Steps<L>) -> Result<Answer, CoreFault>
         requires { IsQuery query.now }
@@ -74,4 +131,9 @@ pub trait Machine<D: Disk> {
 
     /// Each image of a disk has the history.
     ghost keeps: { (m : Self) (d : D) → ready m d → Each (D.images d) (HasHistory (history m).commands) };
+
+    /// While it runs, each image has what it keeps; one that is ready runs, and keeps its history.
+    ghost keeps_running: { (m : Self) (d : D) → running m d → Each (D.images d) (HasHistory (kept m).commands) };
+
+    ghost settled: { (m : Self) (d : D) → ready m d → running m d × (kept m ≡ history m) };
 }

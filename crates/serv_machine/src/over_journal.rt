@@ -5,8 +5,8 @@ ghost use Rattle.serv_machine.specs.Engines.{fault_of};
 
 use crate::faults::ActFault;
 use crate::machine::Machine;
-use serv_disk::Disk;
-use serv_engine::{Engine, EngineFault};
+use serv_disk::{Disk, Failed};
+use serv_engine::{Engine, EngineFault, Taken};
 use std::sync::ledger::Ledger;
 use svc_base::Steps;
 use svc_checkpoint::Checked;
@@ -31,13 +31,17 @@ fn act_fault(fault: EngineFault) -> ActFault
 impl<D: Disk> Machine<D> for Engine<Checked> {
     ghost use Rattle.std.specs.Prelude.{◌≡◌, false, true};
     ghost use Rattle.serv_journal.specs.declared.format.Version.TheVariants.{Two};
-    ghost use Rattle.serv_engine.specs.Engines.{IsDurable};
-    ghost use Rattle.serv_machine.specs.Engines.{history_of};
-    ghost use Rattle.serv_machine.specs.EngineLaws.{durable_whole};
+    ghost use Rattle.serv_engine.specs.Engines.{IsDurable, IsRunning};
+    ghost use Rattle.serv_machine.specs.Engines.{history_of, kept_history};
+    ghost use Rattle.serv_machine.specs.EngineLaws.{durable_kept, durable_runs, durable_whole, running_whole};
 
     ghost history = { history_of };
 
     ghost ready = { λ e d. (e.journal.spent ≡ false) × (e.journal.version ≡ Two) × IsDurable (D.images d) e };
+
+    ghost kept = { kept_history };
+
+    ghost running = { λ e d. (e.journal.spent ≡ false) × (e.journal.version ≡ Two) × IsRunning (D.images d) e };
 
     ghost failed = { λ e. e.journal.spent ≡ true };
 
@@ -55,6 +59,29 @@ impl<D: Disk> Machine<D> for Engine<Checked> {
         }
     }
 
+    fn begin<L: Ledger>(
+        &mut self,
+        disk: &mut D,
+        key: &Key,
+        command: &Command,
+        steps: &mut Steps<L>,
+    ) -> Result<Taken, ActFault> {
+        let _ = key.bytes();
+        self.core().history_holds();
+        match Engine::<Checked>::begin(self, disk, key, command, steps) {
+            Ok(taken) => Ok(taken),
+            Err(fault) => Err(act_fault(fault)),
+        }
+    }
+
+    fn commit(&mut self, disk: &mut D) -> Result<(), Failed> {
+        self.core().history_holds();
+        match Engine::<Checked>::commit(self, disk) {
+            Ok(()) => Ok(()),
+            Err(fault) => Err(fault),
+        }
+    }
+
     fn answer<L: Ledger>(&self, query: &Query, steps: &mut Steps<L>) -> Result<Answer, CoreFault> {
         let core = self.core();
         core.history_holds();
@@ -62,4 +89,8 @@ impl<D: Disk> Machine<D> for Engine<Checked> {
     }
 
     ghost keeps = { λ e d is. durable_whole (D.images d) e is.2 };
+
+    ghost keeps_running = { λ e d is. running_whole (D.images d) e is.2 };
+
+    ghost settled = { λ e d is. ((is.0, is.1, durable_runs (D.images d) e is.2), durable_kept (D.images d) e is.2) };
 }

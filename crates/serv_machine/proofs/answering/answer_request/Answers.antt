@@ -1,16 +1,13 @@
 use Rattle.std.proofs.Common.{refl}
-use Rattle.std.proofs.lemmas.Result.{err_from_is_err_and}
 use Rattle.serv_machine.proofs.OnDiskLemmas.{disk_none}
 use Rattle.serv_machine.proofs.answering.answer_request.Goals as goal
 
 pub returns-in_err-answer_query-in-Ask-clause-disk : goal.returns-in_err-answer_query-in-Ask-clause-disk
-returns-in_err-answer_query-in-Ask-clause-disk g c =
-    let p = err_from_is_err_and c.from_residual.result c.from_residual.ensures.1 in
-    rw (p.1, p.2)
-    (disk_none g.D.Disk.images g.D.Disk.moment g.D.Disk.images_since c.args.disk.now _ _ refl
-    (g.met.M.Machine.keeps c.args.machine.now c.args.disk.now c.requires.ready) (g.met.D.Disk.only_now c.args.disk.now))
+returns-in_err-answer_query-in-Ask-clause-disk g c = λ other.
+    disk_none g.D.Disk.images g.D.Disk.moment g.D.Disk.images_since c.args.disk.now _ _ refl
+    (g.met.M.Machine.keeps_running c.args.machine.now c.args.disk.now c.requires.running) (g.met.D.Disk.only_now c.args.disk.now)
 
 pub returns-in_ok-answer_query-in-Ask-clause-disk : goal.returns-in_ok-answer_query-in-Ask-clause-disk
-returns-in_ok-answer_query-in-Ask-clause-disk g c =
+returns-in_ok-answer_query-in-Ask-clause-disk g c = λ other.
     disk_none g.D.Disk.images g.D.Disk.moment g.D.Disk.images_since c.args.disk.now _ _ refl
-    (g.met.M.Machine.keeps c.args.machine.now c.args.disk.now c.requires.ready) (g.met.D.Disk.only_now c.args.disk.now)
+    (g.met.M.Machine.keeps_running c.args.machine.now c.args.disk.now c.requires.running) (g.met.D.Disk.only_now c.args.disk.now)
