@@ -15,7 +15,7 @@ use svc_checkpoint::Checked;
 use svc_types::{Reply, Request};
 
 /// The journal of the line `k1 day 2024-02-01`, 33 bytes.
-const ONE_LINE: &[u8] = b"MSRVJ002\x01\x00\x00\x00\x01\x00\x11k1 day 2024-02-01\x00";
+pub(crate) const ONE_LINE: &[u8] = b"MSRVJ002\x01\x00\x00\x00\x01\x00\x11k1 day 2024-02-01\x00";
 
 /// The same with another number.
 const WRONG_NUMBER: &[u8] = b"MSRVJ002\x01\x00\x00\x00\x02\x00\x11k1 day 2024-02-01\x00";
@@ -43,7 +43,7 @@ fn push_record(bytes: &mut Vec<u8>, number: u8, line: &str) -> Result<(), AllocE
 }
 
 /// A disk with this content.
-fn disk_of(alloc: Global, content: &[u8]) -> Result<MemDisk, OutOfMemory> {
+pub(crate) fn disk_of(alloc: Global, content: &[u8]) -> Result<MemDisk, OutOfMemory> {
     let mut disk = MemDisk::new(content.to_vec(alloc)?, Vec::new(alloc))?;
     disk.reserve(64, 4096)?;
     Ok(disk)
@@ -87,7 +87,7 @@ fn opened_counted<L: Ledger>(
 }
 
 /// What opening a disk with this content answers: the number of commands, or the fault.
-fn opened(alloc: Global, content: &[u8]) -> Result<u32, EngineFault> {
+pub(crate) fn opened(alloc: Global, content: &[u8]) -> Result<u32, EngineFault> {
     let mut disk = disk_of(alloc, content)?;
     opened_counted::<Brand>(alloc, Blank::new(1), &mut disk)
 }
@@ -131,7 +131,7 @@ const RECORDS: [(&str, &str, &str); 8] = [
     ("? custodial", DAY, "Err(Damaged(8))"),
 ];
 
-const DAY: &str = "k1 day 2024-02-01";
+pub(crate) const DAY: &str = "k1 day 2024-02-01";
 
 /// Whether opening the journal of two lines answers so.
 fn opens_two(alloc: Global, first: &str, second: &str, answer: &str) -> Result<bool, AllocError> {
@@ -240,10 +240,10 @@ const OK_1: &str = "Ok(Reply { number: 1, extra: Plain })";
 const OK_2: &str = "Ok(Reply { number: 2, extra: Plain })";
 
 /// The journal of two days.
-const TWO_LINES: &[u8] = b"MSRVJ002\x01\x00\x00\x00\x01\x00\x11k1 day 2024-02-01\
+pub(crate) const TWO_LINES: &[u8] = b"MSRVJ002\x01\x00\x00\x00\x01\x00\x11k1 day 2024-02-01\
     \x01\x00\x00\x00\x02\x00\x11k2 day 2024-02-02\x00";
 
-const NEXT: &str = "k2 day 2024-02-02";
+pub(crate) const NEXT: &str = "k2 day 2024-02-02";
 
 const PAYMENT: &str = "k2 pay 1 2024-02-01 5.00";
 
