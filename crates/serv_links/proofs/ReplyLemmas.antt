@@ -1,6 +1,8 @@
--- What is told is the response.
-use Rattle.std.proofs.Common.{◌≡◌, ℕ, List, Bool, ap, ◌∙◌, None}
+-- What is told is the response, and its text is ASCII.
+use Rattle.std.proofs.Common.{◌≡◌, ℕ, List, Bool, sym, ap, subst, ◌∙◌, None}
 use Rattle.std.specs.Prelude.{Option}
+use Rattle.std.specs.Str.{IsAscii}
+use Rattle.std.proofs.lemmas.Str.{IsAscii-take}
 use Rattle.svc_types.specs.declared.requests.Request.{Request}
 use Rattle.serv_json.specs.Replies.{reply_text}
 use Rattle.serv_http.specs.Responses.{response}
@@ -18,3 +20,8 @@ pub response_told : (h : History) (r : Request) (t : Told) (ends : Bool) → IsT
 unfolding response_to body_to_request
 response_told h r t ends told =
     same_parts (λ s c n text. response s (reply_text c n (without_last text)) ends None) _ _ _ _ _ _ _ _ told.status_is told.code_is told.number_is told.text_is
+
+pub told_ascii : (h : History) (r : Request) (t : Told) → IsToldFor h r t → IsAscii t.text.items
+told_ascii h r t told = subst IsAscii (sym told.text_is) told.ascii
+
+pub ruleset ascii_fronts = IsAscii-take

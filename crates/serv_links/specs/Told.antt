@@ -1,5 +1,6 @@
 -- What is told in reply to a request of the books.
 use Rattle.std.specs.Prelude.{◌≡◌, ℕ, ◌+◌, ◌≤◌, ◌⊎◌, List, [], ◌∷◌, Bool, true, false, Option}
+use Rattle.std.specs.Str.{IsAscii}
 use Rattle.svc_types.specs.declared.requests.Command.{Command}
 use Rattle.svc_types.specs.declared.requests.Request.{Request}
 use Rattle.svc_types.specs.declared.requests.Request.TheVariants as request
@@ -17,12 +18,13 @@ abbrev pub status_if : Bool → ℕ
 status_if true = 409
 status_if false = 200
 
--- this status, code, number and text are told
+-- this status, code, number and text are told; the text is ASCII
 pub record IsTold (t : Told) (status code : ℕ) (number : Option ℕ) (text : List ℕ) : Type 0 where
   pub status_is : status_if t.refused ≡ status
   pub code_is : t.code ≡ code
   pub number_is : t.number ≡ number
   pub text_is : t.text.items ≡ text
+  pub ascii : IsAscii text
 
 -- the reply to a request is told
 abbrev pub IsToldFor : History → Request → Told → Type 0

@@ -111,6 +111,7 @@ fn tell<D: Disk, M: Machine<D>, L: Ledger>(
 }
 
 /// Acts on a request, and gives the response, after which the connection ends or goes on.
+#[tactic(auto, using(crate::proofs::ReplyLemmas::told_ascii))]
 pub(crate) fn reply<D: Disk, M: Machine<D>, L: Ledger>(
     alloc: Global,
     machine: &mut M,

@@ -1,6 +1,7 @@
 //! What is told in reply to a request of the books.
 
 ghost use Rattle.std.specs.Prelude.{◌≡◌, IfOk, Some, None};
+ghost use Rattle.std.specs.Str.{IsAscii};
 ghost use Rattle.serv_line.specs.Refusals.{code_of, text_of_refusal};
 ghost use Rattle.serv_line.specs.Replies.{text_of_full, text_of_reply};
 ghost use Rattle.serv_report.specs.AnswerTexts.{IsSpellable, text_of_answer};
@@ -9,6 +10,7 @@ ghost use Rattle.serv_http.specs.Responses.{response};
 ghost use Rattle.serv_links.specs.Responses.{without_last};
 ghost use Rattle.serv_links.specs.Told.{IsTold, status_if};
 
+use serv_ascii::{reach_answer, reach_refusal};
 use serv_http::respond;
 use serv_json::write_json;
 use serv_line::{refusal_code, write_full, write_refusal, write_reply};
@@ -30,6 +32,7 @@ pub(crate) struct Told {
 
 impl Told {
     /// The reply to an accepted command.
+    #[tactic(auto, using(serv_ascii::proofs::AsciiLemmas::reply_is_ascii))]
     pub(crate) fn reply(alloc: Global, reply: &Reply) -> Result<Told, OutOfMemory>
         ensures { IfOk result (λ t. IsTold t 200 0 (Some reply.now.number) (text_of_reply reply.now)) }
     {
@@ -42,9 +45,11 @@ impl Told {
     }
 
     /// The rule that refuses a request.
+    #[tactic(auto, using(serv_ascii::proofs::AsciiLemmas::refusal_is_ascii))]
     pub(crate) fn refusal(alloc: Global, why: &Refusal) -> Result<Told, OutOfMemory>
         ensures { IfOk result (λ t. IsTold t 409 (code_of why.now) None (text_of_refusal why.now)) }
     {
+        reach_refusal(why);
         Ok(Told {
             refused: true,
             code: refusal_code(why),
@@ -54,6 +59,7 @@ impl Told {
     }
 
     /// That the journal of so many bytes has no room.
+    #[tactic(auto, using(serv_ascii::proofs::AsciiLemmas::full_is_ascii))]
     pub(crate) fn full(alloc: Global, bytes: u64) -> Result<Told, OutOfMemory>
         ensures { IfOk result (λ t. IsTold t 409 26 None (text_of_full bytes)) }
     {
@@ -66,10 +72,12 @@ impl Told {
     }
 
     /// The answer to a query.
+    #[tactic(auto, using(serv_ascii::proofs::AnswerLemmas::answer_is_ascii))]
     pub(crate) fn answer(alloc: Global, answer: &Answer) -> Result<Told, OutOfMemory>
         requires { IsSpellable answer.now }
         ensures { IfOk result (λ t. IsTold t 200 0 None (text_of_answer answer.now)) }
     {
+        reach_answer(answer);
         Ok(Told {
             refused: false,
             code: 0,
@@ -78,20 +86,20 @@ impl Told {
         })
     }
 
-    /// The body: the code, the number and the text, which is ASCII.
+    /// The body: the code, the number and the text. Errs only where memory is short.
+    #[tactic(auto, using(crate::proofs::ReplyLemmas::ascii_fronts))]
     fn body(&self, alloc: Global) -> Result<Vec<u8>, OutOfMemory>
+        requires { IsAscii self.now.text.items }
         ensures { IfOk result (λ body. body.items
             ≡ reply_text self.now.code self.now.number (without_last self.now.text.items)) }
     {
         let text = &self.text[..self.text.len().saturating_sub(1)];
-        if !text.is_ascii() {
-            return Err(OutOfMemory);
-        }
         write_json(alloc, self.code, self.number, text)
     }
 
-    /// The response, after which the connection ends or goes on.
+    /// The response, after which the connection ends or goes on. Errs only where memory is short.
     pub(crate) fn response(&self, alloc: Global, ends: bool) -> Result<Vec<u8>, OutOfMemory>
+        requires { IsAscii self.now.text.items }
         ensures { IfOk result (λ bytes. bytes.items ≡ response (status_if self.now.refused)
             (reply_text self.now.code self.now.number (without_last self.now.text.items)) ends None) }
     {
