@@ -1,21 +1,27 @@
 -- The replies to lines and rows that are written, and the commands that these bring.
-use Rattle.std.proofs.Common.{◌≡◌, ℕ, ◌+◌, List, [], ◌∷◌, ◌++◌, length, refl, sym, ap, ◌∙◌, arith, append-nil, append_assoc, length-append}
-use Rattle.std.specs.Prelude.{Option, Some}
+use Rattle.std.proofs.Common.{◌≡◌, ℕ, ◌+◌, Bool, true, false, List, [], ◌∷◌, ◌++◌, length, refl, sym, ap, subst, ◌∙◌, arith, append-nil, append_assoc, length-append}
+use Rattle.std.specs.Prelude.{Option, Some, Result, Ok, Err, OnOk, IfErr}
 use Rattle.std.specs.Io.KnownBytes.{Appends}
+use Rattle.std.proofs.KnownBytes.{Appends-nil}
 use Rattle.svc_world.specs.World.{Accepted}
 use Rattle.serv_disk.specs.Disks.{Each}
 use Rattle.serv_disk.specs.Stamps.{Stamp, Notes}
+use Rattle.serv_machine.specs.declared.faults.Halt.{Halt}
+use Rattle.serv_machine.specs.declared.faults.Halt.TheVariants as halt
+use Rattle.serv_machine.specs.declared.stage.Stage.TheVariants.{Settled, Begun}
 use Rattle.serv_machine.specs.History.{History}
 use Rattle.serv_machine.specs.OnDisk.{HasHistory, OnDisk}
 use Rattle.serv_machine.specs.Upheld.{HasCommands, Upholds}
-use Rattle.serv_machine.proofs.UpheldLemmas.{commands_kept, upheld_wider, upheld_later, upheld_written}
+use Rattle.serv_machine.proofs.UpheldLemmas.{commands_kept, commands_left, upheld_none, upheld_wider, upheld_later, upheld_written, upheld_then}
+use Rattle.serv_top.specs.declared.serving.Stop.{Stop}
 use Rattle.serv_top.specs.Lines.{ended_lines, open_line}
-use Rattle.serv_top.specs.Machine.{Said, Stand, reply_to, history_after}
+use Rattle.serv_top.specs.Machine.{Said, Stand, stand, Running}
 use Rattle.serv_top.specs.Replies.{replies_to, history_after_all}
-use Rattle.serv_top.specs.Serving.{Served}
-use Rattle.serv_top.specs.Imported.{AreFirst, AreFirstIn, FileSays}
-use Rattle.serv_top.specs.Upheld.{AreSaidFirst, AreReplies}
-use Rattle.serv_top.proofs.Cutting.{ended_from, ended_lines-append, replies_to-push, history_after_all-push}
+use Rattle.serv_top.specs.Serving.{Gathered, IsHalted, IsReplied, IsWaiting, Stops}
+use Rattle.serv_top.specs.Imported.{AreFirstIn, FileSays}
+use Rattle.serv_top.specs.Upheld.{Say, AreFirst, AreSaidFirst, AreReplies}
+use Rattle.serv_top.proofs.Cutting.{ended_from, ended_lines-append}
+use Rattle.serv_top.proofs.GatheredLemmas.{after_with, text_with}
 
 -- of more requests these are the first too
 pub replies_wider : (First Wider : List Said → Type 0) (moment : ℕ) (since : ℕ → List ℕ → Type 0) (now : List Accepted) (h : History) (held : Option (List ℕ)) (log log' : Option (List Stamp))
@@ -24,18 +30,107 @@ replies_wider First Wider moment since now h held log log' then up =
     upheld_wider (AreReplies First h) (AreReplies Wider h) moment since now
     (λ bytes commands are. record { said = are.said; first = then are.said are.first; bytes_are = are.bytes_are; commands_are = are.commands_are }) held log log' up
 
--- a text is written that ends where the replies to some first requests do
-pub replies_written : {D : Type 0} (images : D → List ℕ → Type 0) (moment : D → ℕ) (images_since : D → ℕ → List ℕ → Type 0) (d : D) (only : (c : List ℕ) → images_since d (moment d) c → images d c)
-    (First : List Said → Type 0) (h t : History) (said : List Said) (now list : List Accepted) (held held' : Option (List ℕ)) (written text : List ℕ) (log log' log'' : Option (List Stamp))
-    → First said → t ≡ history_after_all h said → now ≡ t.commands ++ list → Each (images d) (HasCommands t.commands) → Appends held held' written → written ++ text ≡ replies_to h said
-    → Upholds (AreReplies First h) (moment d) (images_since d) now held log log' → ((x : List ℕ) → held' ≡ Some x → Notes (moment d) (length x + length text) log' log'')
-    → Upholds (AreReplies First h) (moment d) (images_since d) now held log log''
-replies_written images moment images_since d only First h t said now list held held' written text log log' log'' first stands now_is has wrote gathered up notes =
-    let both = length-append written text in
-    let all : length (written ++ text) ≡ length (replies_to h said) = ap length gathered in
-    upheld_written images moment images_since d only (AreReplies First h) now t.commands list now_is has (length (replies_to h said))
-    (record { said = said; first = first; bytes_are = refl; commands_are = ap (λ (x : History). x.commands) stands })
-    held held' written text log log' log'' wrote (omega (arith, both, all)) up notes
+pub all_first : (saids : List Said) → AreFirst saids saids
+all_first saids = record { others = []; saids_are = sym (append-nil saids) }
+
+-- ---- the writes of a call
+
+module _ {D : Type 0} (images : D → List ℕ → Type 0) (moment : D → ℕ) (images_since : D → ℕ → List ℕ → Type 0) where
+  -- a text is written that ends where the replies to some first requests do
+  replies_written : (d : D) (only : (c : List ℕ) → images_since d (moment d) c → images d c) (First : List Said → Type 0) (h t : History) (said : List Said) (now list : List Accepted)
+      (held held' : Option (List ℕ)) (written text : List ℕ) (log log' : Option (List Stamp)) → First said → t ≡ history_after_all h said → now ≡ t.commands ++ list
+      → Each (images d) (HasCommands t.commands) → Appends held held' written → written ++ text ≡ replies_to h said
+      → ((x : List ℕ) → held' ≡ Some x → Notes (moment d) (length x + length text) log log') → Upholds (AreReplies First h) (moment d) (images_since d) now held log log'
+  replies_written d only First h t said now list held held' written text log log' first stands now_is has wrote gathered notes =
+      let both = length-append written text in
+      let all : length (written ++ text) ≡ length (replies_to h said) = ap length gathered in
+      upheld_written images moment images_since d only (AreReplies First h) now t.commands list now_is has (length (replies_to h said))
+      (record { said = said; first = first; bytes_are = refl; commands_are = ap (λ (x : History). x.commands) stands })
+      held held' written text log log log' wrote (omega (arith, both, all)) (upheld_none (AreReplies First h) (moment d) (images_since d) now held log) notes
+
+  -- all of it is kept
+  kept_written : (d : D) (only : (c : List ℕ) → images_since d (moment d) c → images d c) (First : List Said → Type 0) (h kept : History) (said : List Said)
+      (held held' : Option (List ℕ)) (written text : List ℕ) (log log' : Option (List Stamp)) → First said → kept ≡ history_after_all h said
+      → Each (images d) (HasHistory kept.commands) → Appends held held' written → written ++ text ≡ replies_to h said
+      → ((x : List ℕ) → held' ≡ Some x → Notes (moment d) (length x + length text) log log') → Upholds (AreReplies First h) (moment d) (images_since d) kept.commands held log log'
+  kept_written d only First h kept said held held' written text log log' first stands has wrote gathered notes =
+      replies_written d only First h kept said kept.commands [] held held' written text log log' first stands (sym (append-nil kept.commands)) (commands_kept (images d) kept.commands has) wrote gathered notes
+
+  module _ {waiting : ℕ} {said : List Said} {s : Stand} {t : Running} {held held' : Option (List ℕ)} {begun : Bool} {front : List ℕ} (g : Gathered waiting said s t held held' begun front)
+      {log log' : Option (List Stamp)} where
+    -- those of what stands before the reply to a command that is begun
+    pub writes_back : (d : D) (only : (c : List ℕ) → images_since d (moment d) c → images d c) (last : Said) (t' : Running) (text : List ℕ) → IsReplied last Begun t t' front text → Each (images d) (HasHistory t'.kept.commands)
+        → ((x : List ℕ) → held' ≡ Some x → Notes (moment d) (length x + length front) log log')
+        → Upholds (AreReplies (AreFirst (said ++ last ∷ [])) s.history) (moment d) (images_since d) t'.kept.commands held log log'
+    writes_back d only last t' text replied has notes =
+        kept_written d only (AreFirst (said ++ last ∷ [])) s.history t'.kept said held held' g.written front log log' (record { others = last ∷ []; saids_are = refl }) (replied.staged ∙ g.after) has g.wrote g.gathered notes
+
+    -- those of all, after the reply to another request
+    pub writes_on : (d : D) (only : (c : List ℕ) → images_since d (moment d) c → images d c) (last : Said) (t' : Running) (kept : History) (text : List ℕ) → IsReplied last Settled t t' front text → kept ≡ t'.held
+        → Each (images d) (HasHistory kept.commands) → ((x : List ℕ) → held' ≡ Some x → Notes (moment d) (length x + length text) log log')
+        → Upholds (AreReplies (AreFirst (said ++ last ∷ [])) s.history) (moment d) (images_since d) kept.commands held log log'
+    writes_on d only last t' kept text replied same has notes =
+        kept_written d only (AreFirst (said ++ last ∷ [])) s.history kept (said ++ last ∷ []) held held' g.written text log log' (all_first (said ++ last ∷ [])) (same ∙ after_with waiting said s g last t'.held replied.after) has
+        g.wrote (text_with waiting said s g last text replied.added) notes
+
+    -- those of all, after no request more
+    pub writes_all : (d : D) (only : (c : List ℕ) → images_since d (moment d) c → images d c) (kept : History) → kept ≡ t.held → Each (images d) (HasHistory kept.commands)
+        → ((x : List ℕ) → held' ≡ Some x → Notes (moment d) (length x + length front) log log')
+        → Upholds (AreReplies (AreFirst said) s.history) (moment d) (images_since d) kept.commands held log log'
+    writes_all d only kept same has notes =
+        kept_written d only (AreFirst said) s.history kept said held held' g.written front log log' (all_first said) (same ∙ g.after) has g.wrote g.gathered notes
+
+    -- those of all that are written where a request has no reply
+    pub writes_given_up : (old new : D) (only : (c : List ℕ) → images_since new (moment new) c → images new c) (now pending : List Accepted) → OnDisk images moment images_since old new t.kept.commands now pending
+        → (begun ≡ true → log' ≡ log) → ((x : List ℕ) → held' ≡ Some x → Notes (moment new) (length x + length front) log log')
+        → Upholds (AreReplies (AreFirst said) s.history) (moment new) (images_since new) now held log log'
+    writes_given_up old new only now pending disk quiet notes = by_case begun refl g.waits
+      where
+        by_case : (b : Bool) → begun ≡ b → IsWaiting b waiting said s.history t g.written front → Upholds (AreReplies (AreFirst said) s.history) (moment new) (images_since new) now held log log'
+        by_case false e waits =
+            replies_written new only (AreFirst said) s.history t.held said now disk.list held held' g.written front log log' (all_first said) g.after
+            (disk.accepted ∙ ap (λ (h : History). h.commands ++ disk.list) waits.0)
+            (subst (λ (h : History). Each (images new) (HasCommands h.commands)) waits.0 (commands_left (images new) t.kept.commands now disk.list pending disk.accepted disk.left)) g.wrote g.gathered notes
+        by_case true e back =
+            subst (λ x. Upholds (AreReplies (AreFirst said) s.history) (moment new) (images_since new) now held log x) (sym (quiet e))
+            (upheld_none (AreReplies (AreFirst said) s.history) (moment new) (images_since new) now held log)
+
+  -- what was upheld before a call, and the writes of the call
+  pub upheld_call : (old new : D) (now now' pending : List Accepted) → OnDisk images moment images_since old new now now' pending → (First Wider : List Said → Type 0) (h : History) (held : Option (List ℕ))
+      (log log' log'' : Option (List Stamp)) → ((said : List Said) → First said → Wider said) → Upholds (AreReplies Wider h) (moment old) (images_since old) now held log log'
+      → Upholds (AreReplies First h) (moment new) (images_since new) now' held log' log'' → Upholds (AreReplies Wider h) (moment new) (images_since new) now' held log log''
+  upheld_call old new now now' pending disk First Wider h held log log' log'' then up writes =
+      let before = upheld_later images moment images_since old new now now' pending disk (AreReplies Wider h) held log log' up in
+      let after = replies_wider First Wider (moment new) (images_since new) now' h held log' log'' then writes in
+      upheld_then (AreReplies Wider h) (AreReplies Wider h) (AreReplies Wider h) (moment new) (images_since new) now' [] (λ bytes commands is. is) (λ bytes commands is. subst (λ n. AreReplies Wider h n commands) (omega arith) is)
+      held held log log' log'' (Appends-nil held) before after
+
+  -- by its result
+  pub upheld_result : (old new : D) (r : Result (Unit {0}) Stop) (kept kept' : History) (steps waiting : ℕ) (s : Stand) (First Wider : List Said → Type 0) (held held' : Option (List ℕ)) (log log' log'' : Option (List Stamp))
+      → OnOk r (OnDisk images moment images_since old new kept.commands kept'.commands []) → IfErr r (λ why. Stops images moment images_since old new why First waiting s kept (stand kept' steps) held held')
+      → ((said : List Said) → First said → Wider said) → Upholds (AreReplies Wider s.history) (moment old) (images_since old) kept.commands held log log'
+      → Upholds (AreReplies First s.history) (moment new) (images_since new) kept'.commands held log' log'' → Upholds (AreReplies Wider s.history) (moment new) (images_since new) kept'.commands held log log''
+  upheld_result old new (Ok x) kept kept' steps waiting s First Wider held held' log log' log'' disk stops then up writes =
+      upheld_call old new kept.commands kept'.commands [] disk First Wider s.history held log log' log'' then up writes
+  upheld_result old new (Err e) kept kept' steps waiting s First Wider held held' log log' log'' disk stops then up writes =
+      upheld_call old new kept.commands kept'.commands stops.pending stops.disk First Wider s.history held log log' log'' then up writes
+
+  -- where a request has no reply
+  pub upheld_halted : {waiting : ℕ} {said : List Said} {s : Stand} {t : Running} {held held' : Option (List ℕ)} {begun : Bool} {front : List ℕ} (g : Gathered waiting said s t held held' begun front) {log' log'' : Option (List Stamp)}
+      (old new : D) (only : (c : List ℕ) → images_since new (moment new) c → images new c) (last : Said) (t' : Running) (Wider : List Said → Type 0) → ((first : List Said) → AreFirst said first → Wider first) → (begun ≡ true → log'' ≡ log')
+      → ((x : List ℕ) → held' ≡ Some x → Notes (moment new) (length x + length front) log' log'') → (log : Option (List Stamp)) → Upholds (AreReplies Wider s.history) (moment old) (images_since old) t.kept.commands held log log'
+      → (why : Halt) → IsHalted images moment images_since old new why last t t' → Upholds (AreReplies Wider s.history) (moment new) (images_since new) t'.kept.commands held log log''
+  upheld_halted {waiting} {said} {s} {t} {held} {held'} {begun} {front} g {log'} {log''} old new only last t' Wider then quiet notes log up why is = by_halt why is
+    where
+      by_run : (pending : List Accepted) → OnDisk images moment images_since old new t.kept.commands t'.kept.commands pending → Upholds (AreReplies Wider s.history) (moment new) (images_since new) t'.kept.commands held log log''
+      by_run pending disk =
+          upheld_call old new t.kept.commands t'.kept.commands pending disk (AreFirst said) Wider s.history held log log' log'' then up
+          (writes_given_up g old new only t'.kept.commands pending disk quiet notes)
+
+      by_halt : (why : Halt) → IsHalted images moment images_since old new why last t t' → Upholds (AreReplies Wider s.history) (moment new) (images_since new) t'.kept.commands held log log''
+      by_halt halt.OutOfMemory is = by_run [] is.disk
+      by_halt halt.DiskFault is =
+          by_run (is.torn.next ∷ []) (subst (λ (h : History). OnDisk images moment images_since old new t.kept.commands h.commands (is.torn.next ∷ [])) (sym is.same) is.torn.disk)
 
 -- ---- lines
 
@@ -46,32 +141,19 @@ lines_before bytes more lines others is = is ∙ ap (λ ls. ls ++ others) (ended
 pub first_of_more : (lines more : List (List ℕ)) (said : List Said) → AreSaidFirst lines said → AreSaidFirst (lines ++ more) said
 first_of_more lines more said is = record { acted = is.acted; others = is.others ++ more; lines_are = ap (λ ls. ls ++ more) is.lines_are ∙ append_assoc is.acted is.others more; say = is.say }
 
--- what is not written yet of the replies to lines is written
-pub lines_written : {D : Type 0} (images : D → List ℕ → Type 0) (moment : D → ℕ) (images_since : D → ℕ → List ℕ → Type 0) (d : D) (only : (c : List ℕ) → images_since d (moment d) c → images d c)
-    (waiting : ℕ) (bytes : List ℕ) (s t : Stand) (held held' : Option (List ℕ)) (line text : List ℕ) (lines others : List (List ℕ)) (now list : List Accepted) (log log' log'' : Option (List Stamp))
-    → Served waiting bytes s t held held' line text → lines ≡ ended_lines bytes ++ others → now ≡ t.history.commands ++ list → Each (images d) (HasCommands t.history.commands)
-    → Upholds (AreReplies (AreSaidFirst lines) s.history) (moment d) (images_since d) now held log log' → ((x : List ℕ) → held' ≡ Some x → Notes (moment d) (length x + length text) log' log'')
-    → Upholds (AreReplies (AreSaidFirst lines) s.history) (moment d) (images_since d) now held log log''
-lines_written images moment images_since d only waiting bytes s t held held' line text lines others now list log log' log'' run is now_is has up notes =
-    replies_written images moment images_since d only (AreSaidFirst lines) s.history t.history run.said now list held held' run.written text log log' log''
-    (record { acted = ended_lines bytes; others = others; lines_are = is; say = run.say }) run.moved.0 now_is has run.wrote run.gathered up notes
+say_front : (lines : List (List ℕ)) (said more : List Said) → Say lines (said ++ more) → AreSaidFirst lines said
+say_front lines [] more say = record { acted = []; others = lines; lines_are = refl; say = tt }
+say_front [] (x ∷ said) more say = absurd say
+say_front (line ∷ lines) (x ∷ said) more say =
+    let rest = say_front lines said more say.1 in
+    record { acted = line ∷ rest.acted; others = rest.others; lines_are = ap (λ ls. line ∷ ls) rest.lines_are; say = (say.0, rest.say) }
+
+-- the first ones of what some first lines say
+pub first_lines : (lines front others : List (List ℕ)) (saids : List Said) → lines ≡ front ++ others → Say front saids → (said : List Said) → AreFirst saids said → AreSaidFirst lines said
+first_lines lines front others saids is say said first =
+    subst (λ ls. AreSaidFirst ls said) (sym is) (first_of_more front others said (say_front front said first.others (subst (Say front) first.saids_are say)))
 
 -- ---- rows
-
--- the reply to one row more is written
-pub row_written : {D : Type 0} (images : D → List ℕ → Type 0) (moment : D → ℕ) (images_since : D → ℕ → List ℕ → Type 0) (old new : D) (only : (c : List ℕ) → images_since new (moment new) c → images new c)
-    (h t t' : History) (done others saids : List Said) (said : Said) (held held' : Option (List ℕ)) (text : List ℕ) (log log' log'' : Option (List Stamp))
-    → saids ≡ done ++ said ∷ others → Appends held held' (replies_to h done) → t ≡ history_after_all h done → t' ≡ history_after t said → text ≡ reply_to t said
-    → OnDisk images moment images_since old new t.commands t'.commands [] → Each (images new) (HasHistory t'.commands)
-    → Upholds (AreReplies (AreFirst saids) h) (moment old) (images_since old) t.commands held log log' → ((x : List ℕ) → held' ≡ Some x → Notes (moment new) (length x + length text) log' log'')
-    → Upholds (AreReplies (AreFirst saids) h) (moment new) (images_since new) t'.commands held log log''
-row_written images moment images_since old new only h t t' done others saids said held held' text log log' log'' is wrote stands moved reply disk has up notes =
-    let all : List Said = done ++ said ∷ [] in
-    replies_written images moment images_since new only (AreFirst saids) h t' all t'.commands [] held held' (replies_to h done) text log log' log''
-    (record { others = others; saids_are = is ∙ sym (append_assoc done (said ∷ []) others) })
-    (moved ∙ ap (λ x. history_after x said) stands ∙ sym (history_after_all-push h done said)) (sym (append-nil t'.commands)) (commands_kept (images new) t'.commands has) wrote
-    (ap (λ x. replies_to h done ++ x) (reply ∙ ap (λ x. reply_to x said) stands) ∙ sym (replies_to-push h done said))
-    (upheld_later images moment images_since old new t.commands t'.commands [] disk (AreReplies (AreFirst saids) h) held log log' up) notes
 
 -- the rows that are answered are those of a file
 pub file_written : (bytes : List ℕ) (saids : List Said) (moment : ℕ) (since : ℕ → List ℕ → Type 0) (now : List Accepted) (h : History) (held : Option (List ℕ)) (log log' : Option (List Stamp))

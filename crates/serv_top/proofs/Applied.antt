@@ -25,8 +25,8 @@ use Rattle.serv_machine.specs.OnDisk.{OnDisk}
 use Rattle.serv_machine.proofs.EngineLemmas.{long_enough}
 use Rattle.serv_top.specs.declared.status.Status.{Status}
 use Rattle.serv_top.specs.declared.status.Status.TheVariants as status
-use Rattle.serv_top.specs.Machine.{Said, Asks, Faulty, Unfit, Stand, stand, Stays, IsTried, history_after}
-use Rattle.serv_top.specs.Replies.{MovesAll, IsTriedNext, history_after_all}
+use Rattle.serv_top.specs.Machine.{Said, Asks, Faulty, Unfit, Stand, stand, history_after}
+use Rattle.serv_top.specs.Replies.{IsBegun, IsCutIn, IsHeldUp, IsMaybeNext, MovesAll, history_after_all}
 use Rattle.serv_top.specs.Outcome.{Ended, Ends, IsOutput, input_limit}
 use Rattle.serv_top.specs.Stop.{status_of_fault}
 use Rattle.serv_top.specs.Journal.{KeepsGood, IsCause, IsOnly, IsUnopened, IsOpened, IsRunOver, IsApplied, journal_limit}
@@ -63,33 +63,36 @@ store_of h = h.store
 pub store_moves : (saids : List Said) (s s' : Stand) → MovesAll saids s s' → s'.history.store ≡ s.history.store
 store_moves saids s s' moved = ap store_of moved.0 ∙ store_all s.history saids
 
-store_tried : (line : List ℕ) (s s' : Stand) → IsTried line s s' → s'.history.store ≡ s.history.store
-store_tried line s s' tried = ⊎_elim (λ same. ap store_of same) (λ moved. ap store_of moved ∙ store_after s.history tried.said) tried.near
+store_maybe : (h h' : History) (ahead : List Said) → IsMaybeNext h ahead h' → h'.store ≡ h.store
+store_maybe h h' [] is = ap store_of is
+store_maybe h h' (said ∷ ahead) is = ⊎_elim (λ same. ap store_of same) (λ next. ap store_of next ∙ store_after h said) is
 
-store_next : (lines : List (List ℕ)) (s s' : Stand) → IsTriedNext lines s s' → s'.history.store ≡ s.history.store
-store_next [] s s' is = absurd is
-store_next (line ∷ lines) s s' is = store_tried line s s' is
+module _ (First : List Said → Type 0) (waiting : ℕ) (s s' : Stand) (written : List ℕ) where
+  pub store_cut : IsCutIn First waiting s s' written → s'.history.store ≡ s.history.store
+  store_cut is = ap store_of is.after ∙ store_all s.history is.done
 
-store_near : (lines : List (List ℕ)) (s s' : Stand) → Stays s s' ⊎ IsTriedNext lines s s' → s'.history.store ≡ s.history.store
-store_near lines s s' near = ⊎_elim (λ same. ap store_of same.0) (λ next. store_next lines s s' next) near
+  pub store_begun : IsBegun First waiting s s' written → s'.history.store ≡ s.history.store
+  store_begun is = store_maybe (history_after_all s.history is.done) s'.history is.ahead is.after ∙ store_all s.history is.done
+
+  pub store_held_up : (pending : List Accepted) → IsHeldUp First waiting s s' pending written → s'.history.store ≡ s.history.store
+  store_held_up pending is = ap store_of is.after ∙ store_all s.history is.done
 
 store_ended : (waiting : ℕ) (st : Status) (s s' : Stand) (pending : List Accepted) (taken : List ℕ) (left : Option (List ℕ)) (written : List ℕ) → IsOutput waiting st s s' pending taken left written
     → s'.history.store ≡ s.history.store
 store_ended waiting status.Done s s' pending taken left written is = store_moves is.3.said s s' is.3.moved
 store_ended waiting status.ReadFault s s' pending taken left written is = store_moves is.2.said s s' is.2.moved
-store_ended waiting status.WriteFault s s' pending taken left written is = ⊎_elim (λ cut. store_moves cut.said s s' cut.moved) (λ cut. store_moves cut.1.said s s' cut.1.moved) is.2
+store_ended waiting status.WriteFault s s' pending taken left written is = ⊎_elim (λ cut. store_cut _ waiting s s' written cut) (λ cut. store_cut _ waiting s s' written cut.1) is.2
 store_ended waiting status.DiskFault s s' pending taken left written is =
-    ⊎_elim (λ held. ap store_of held.stuck.same ∙ store_moves held.said s held.before held.moved) (λ held. ap store_of held.1.stuck.same ∙ store_moves held.1.said s held.1.before held.1.moved) is.1
+    ⊎_elim (λ held. store_held_up _ waiting s s' written pending held) (λ held. store_held_up _ waiting s s' written pending held.1) is.1
 store_ended waiting (status.TooMuch n) s s' pending taken left written is = store_moves is.3.said s s' is.3.moved
-store_ended waiting status.OutOfMemory s s' pending taken left written is =
-    ⊎_elim (λ begun. store_near begun.others begun.before s' begun.after ∙ store_moves begun.said s begun.before begun.moved)
-    (λ begun. store_near begun.1.others begun.1.before s' begun.1.after ∙ store_moves begun.1.said s begun.1.before begun.1.moved) is.2
+store_ended waiting status.OutOfMemory s s' pending taken left written is = ⊎_elim (λ begun. store_begun _ waiting s s' written begun) (λ begun. store_begun _ waiting s s' written begun.1) is.2
 store_ended waiting other s s' pending taken left written is = absurd is
 
 -- ---- a journal was opened
 
-same_store : (e e' : EngineState) → (history_of e').store ≡ (history_of e).store → history_of e' ≡ in_journal (e.journal.size - lengths_of e.history) e.journal.limit e'.history
-same_store e e' same = let make : Store → History = λ store. record { commands = e'.history; store = store } in ap make same
+-- kept where the engine's commands are
+same_store : (e : EngineState) (h : History) → h.store ≡ (history_of e).store → h ≡ in_journal (e.journal.size - lengths_of e.history) e.journal.limit h.commands
+same_store e h same = let make : Store → History = λ store. record { commands = h.commands; store = store } in ap make same
 
 pub opened : {D : Type 0} (seen : D → Option (List ℕ)) (images : D → List ℕ → Type 0) (moment : D → ℕ) (images_since : D → ℕ → List ℕ → Type 0) (old mid : D) (e : EngineState) (steps begun : ℕ)
     → IsHistory e.history → ((s : List ℕ) → seen old ≡ Some s → IsFound journal_limit e.journal.size e.history s)
@@ -110,39 +113,39 @@ opened seen images moment images_since old mid e steps begun is_history found go
     }
 
 pub run_over : {D : Type 0} (E : Stand → Stand → List Accepted → Type 0) (seen : D → Option (List ℕ)) (images : D → List ℕ → Type 0) (moment : D → ℕ) (images_since : D → ℕ → List ℕ → Type 0)
-    (old mid new : D) (e e' : EngineState) (steps begun steps' : ℕ) (pending : List Accepted)
+    (old mid new : D) (e : EngineState) (h : History) (steps begun steps' : ℕ) (pending : List Accepted)
     → IsOpened seen images moment images_since old mid steps begun (e.journal.size - lengths_of e.history) e.history → e.journal.limit ≡ journal_limit
-    → (history_of e').store ≡ (history_of e).store → E (stand (history_of e) begun) (stand (history_of e') steps') pending
-    → OnDisk images moment images_since mid new e.history e'.history pending
+    → h.store ≡ (history_of e).store → E (stand (history_of e) begun) (stand h steps') pending
+    → OnDisk images moment images_since mid new e.history h.commands pending
     → IsRunOver E seen images moment images_since old new steps steps'
-run_over {D} E seen images moment images_since old mid new e e' steps begun steps' pending opening limit same ends disk =
+run_over {D} E seen images moment images_since old mid new e h steps begun steps' pending opening limit same ends disk =
     let place : ℕ = e.journal.size - lengths_of e.history in
-    let kept = same_store e e' same in
-    let now : E (stand (in_journal place e.journal.limit e.history) begun) (stand (in_journal place e.journal.limit e'.history) steps') pending =
-    subst (λ h. E (stand (in_journal place e.journal.limit e.history) begun) (stand h steps') pending) kept ends in
+    let kept = same_store e h same in
+    let now : E (stand (in_journal place e.journal.limit e.history) begun) (stand (in_journal place e.journal.limit h.commands) steps') pending =
+    subst (λ x. E (stand (in_journal place e.journal.limit e.history) begun) (stand x steps') pending) kept ends in
     record {
       commands = e.history;
       base = place;
       opened = mid;
       begun = begun;
       opening = opening;
-      after = e'.history;
+      after = h.commands;
       pending = pending;
-      ended = subst (λ n. E (stand (in_journal place n e.history) begun) (stand (in_journal place n e'.history) steps') pending) limit now;
-      sound = stay_sound e.history e'.history disk.list pending disk.accepted (disk.fresh opening.is_history);
+      ended = subst (λ n. E (stand (in_journal place n e.history) begun) (stand (in_journal place n h.commands) steps') pending) limit now;
+      sound = stay_sound e.history h.commands disk.list pending disk.accepted (disk.fresh opening.is_history);
       disk = disk;
     }
 
-pub applied : {D : Type 0} (seen : D → Option (List ℕ)) (images : D → List ℕ → Type 0) (moment : D → ℕ) (images_since : D → ℕ → List ℕ → Type 0) (old mid new : D) (st : Status) (e e' : EngineState)
+pub applied : {D : Type 0} (seen : D → Option (List ℕ)) (images : D → List ℕ → Type 0) (moment : D → ℕ) (images_since : D → ℕ → List ℕ → Type 0) (old mid new : D) (st : Status) (e : EngineState) (h : History)
     (steps begun steps' : ℕ) (left left' held held' : Option (List ℕ)) (log log' : Option (List Stamp))
     → IsOpened seen images moment images_since old mid steps begun (e.journal.size - lengths_of e.history) e.history → e.journal.limit ≡ journal_limit
-    → Ends images moment images_since mid new 0 st (stand (history_of e) begun) (stand (history_of e') steps') left left' held held'
-    → IsAcknowledged (λ taken. AreSaidFirst (lines_of taken)) (moment new) (images_since new) e'.history (history_of e) left left' held log log'
+    → Ends images moment images_since mid new 0 st (stand (history_of e) begun) (stand h steps') left left' held held'
+    → IsAcknowledged (λ taken. AreSaidFirst (lines_of taken)) (moment new) (images_since new) h.commands (history_of e) left left' held log log'
     → IsApplied seen images moment images_since old new st steps steps' left left' held held' log log'
-applied {D} seen images moment images_since old mid new st e e' steps begun steps' left left' held held' log log' opening limit ends acked =
+applied {D} seen images moment images_since old mid new st e h steps begun steps' left left' held held' log log' opening limit ends acked =
     run_over (λ s s' pending. Ended 0 st s s' pending left left' held held'
-    × IsAcknowledged (λ taken. AreSaidFirst (lines_of taken)) (moment new) (images_since new) s'.history.commands s.history left left' held log log') seen images moment images_since old mid new e e' steps begun steps' ends.pending opening limit
-    (store_ended 0 st (stand (history_of e) begun) (stand (history_of e') steps') ends.pending ends.ended.taken left' ends.ended.written ends.ended.says) (ends.ended, acked) ends.disk
+    × IsAcknowledged (λ taken. AreSaidFirst (lines_of taken)) (moment new) (images_since new) s'.history.commands s.history left left' held log log') seen images moment images_since old mid new e h steps begun steps' ends.pending opening limit
+    (store_ended 0 st (stand (history_of e) begun) (stand h steps') ends.pending ends.ended.taken left' ends.ended.written ends.ended.says) (ends.ended, acked) ends.disk
 
 -- ---- none was opened
 

@@ -3,8 +3,9 @@ use Rattle.std.proofs.Common.{◌≡◌, ℕ, ◌+◌, arith, List, [], ◌∷�
 use Rattle.std.specs.Prelude.{◌==◌, if◌then◌else◌, true, false}
 use Rattle.serv_top.specs.Lines.{onto_first, onto_ended, lines_of, ended_lines, open_from, open_line}
 use Rattle.serv_machine.specs.History.{History}
-use Rattle.serv_top.specs.Machine.{Said, Says, reply_to, history_after, bound_of, Stand, Moves}
-use Rattle.serv_top.specs.Replies.{Say, history_after_all, replies_to, bound_of_all, MovesAll}
+use Rattle.serv_top.specs.Machine.{Said, Says, reply_to, history_after, bound_of}
+use Rattle.serv_top.specs.Replies.{history_after_all, replies_to, bound_of_all}
+use Rattle.serv_top.specs.Upheld.{Say}
 
 -- the lines that end, where the stream goes on from this piece of a line
 abbrev pub ended_from : List ℕ → List ℕ → List (List ℕ)
@@ -107,12 +108,6 @@ bound_of_all-push h [] said = omega arith
 bound_of_all-push h (first ∷ saids) said =
     let rest = bound_of_all-push (history_after h first) saids said in
     omega (arith, rest)
-
-pub moves_more : (saids : List Said) (said : Said) (s s' s'' : Stand) → MovesAll saids s s' → Moves said s' s'' → MovesAll (saids ++ said ∷ []) s s''
-moves_more saids said s s' s'' all one =
-    let grown : bound_of_all s.history (saids ++ said ∷ []) ≡ bound_of_all s.history saids + bound_of s'.history said =
-    bound_of_all-push s.history saids said ∙ ap (λ h. bound_of_all s.history saids + bound_of h said) (sym all.0) in
-    (one.0 ∙ ap (λ h. history_after h said) all.0 ∙ sym (history_after_all-push s.history saids said), omega (arith, grown, all.1, one.1))
 
 ended_from-append : (line bytes more : List ℕ) → ended_from line (bytes ++ more) ≡ ended_from line bytes ++ ended_from (open_from line bytes) more
 ended_from-append line [] more = refl

@@ -17,7 +17,8 @@ use Rattle.serv_machine.specs.History.{Store, Memory, Journal, History, Full, Fr
 use Rattle.serv_machine.specs.Replies.{text_of_decision, reply_to_request, history_after_request}
 use Rattle.serv_top.specs.Lines.{IsPlain, onto_first, onto_ended, lines_of, ended_lines}
 use Rattle.serv_top.specs.Machine.{Said, Asks, asks, Stand}
-use Rattle.serv_top.specs.Replies.{Say, Answers, history_after_all, replies_to}
+use Rattle.serv_top.specs.Replies.{Answers, history_after_all, replies_to}
+use Rattle.serv_top.specs.Upheld.{Say}
 use Rattle.serv_top.specs.Extracts.{lines_of_commands, HasRoomFor, replies_after, AreTakenOn}
 use Rattle.serv_top.proofs.LineLemmas.{say_one}
 
@@ -121,10 +122,10 @@ replies_asked (a ∷ more) before store h room =
     ∙ ap (λ rest. text_of_reply (next_reply before a.command) ++ rest) (replies_asked more (before ++ a ∷ []) store h.1 more_room)
 
 pub taken_on : (h : List Accepted) (s t : Stand) (written : List ℕ) → IsHistory h → s.history.commands ≡ [] → HasRoomFor s.history.store h
-    → Answers (lines_of_history h) s t written → AreTakenOn h t written
+    → Answers (Say (lines_of_history h)) s t written → AreTakenOn h t written
 unfolding held
 taken_on h s t written is empty room answers =
-    let same : answers.said ≡ asked h = say_one (lines_of_history h) answers.said (asked h) answers.say (say_asked h is.formed) in
+    let same : answers.said ≡ asked h = say_one (lines_of_history h) answers.said (asked h) answers.whole (say_asked h is.formed) in
     let from : s.history ≡ held [] s.history.store = ap (λ cs. held cs s.history.store) empty in
     record {
       commands_are =

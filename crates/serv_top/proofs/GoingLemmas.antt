@@ -1,5 +1,5 @@
 -- Lines that are answered to the end of a stream: what was answered stays on the disk.
-use Rattle.std.proofs.Common.{◌≡◌, ℕ, ◌+◌, List, ◌++◌, length, sym, subst, arith, length-append}
+use Rattle.std.proofs.Common.{◌≡◌, ℕ, ◌+◌, Bool, List, ◌++◌, length, sym, subst, arith, length-append}
 use Rattle.std.specs.Prelude.{Option}
 use Rattle.std.specs.Io.KnownBytes.{Consumes}
 use Rattle.std.proofs.KnownBytes.{Consumes-trans}
@@ -7,18 +7,18 @@ use Rattle.svc_world.specs.World.{Accepted}
 use Rattle.serv_disk.specs.Stamps.{Stamp}
 use Rattle.serv_machine.specs.History.{History}
 use Rattle.serv_top.specs.Lines.{lines_of, ended_lines, open_line}
-use Rattle.serv_top.specs.Machine.{Stand}
+use Rattle.serv_top.specs.Machine.{Stand, Running}
 use Rattle.serv_top.specs.Serving.{Served}
 use Rattle.serv_machine.specs.Upheld.{Upholds}
 use Rattle.serv_top.specs.Upheld.{AreReplies, AreSaidFirst, IsAcknowledged}
 use Rattle.serv_top.proofs.Cutting.{unended, ended_from, ended_lines-append, lines_of-from}
-use Rattle.serv_top.proofs.Running.{Running}
+use Rattle.serv_top.proofs.Running.{Course}
 use Rattle.serv_top.proofs.AnsweredLemmas.{replies_wider, first_of_more}
 
 -- the bytes taken are served, and what was answered of their lines is upheld
-pub record Going (moment : ℕ) (since : ℕ → List ℕ → Type 0) (waiting : ℕ) (s s' : Stand) (left left' held held' : Option (List ℕ)) (line text : List ℕ) (count : ℕ) (log log' : Option (List Stamp)) : Type 0 where
-  pub run : Running waiting s s' left left' held held' line text count
-  pub upheld : Upholds (AreReplies (AreSaidFirst (ended_lines run.taken)) s.history) moment since s'.history.commands held log log'
+pub record Going (moment : ℕ) (since : ℕ → List ℕ → Type 0) (waiting : ℕ) (s : Stand) (t : Running) (left left' held held' : Option (List ℕ)) (begun : Bool) (line text : List ℕ) (count : ℕ) (log log' : Option (List Stamp)) : Type 0 where
+  pub run : Course waiting s t left left' held held' begun line text count
+  pub upheld : Upholds (AreReplies (AreSaidFirst (ended_lines run.taken)) s.history) moment since t.kept.commands held log log'
 
 module _ (moment : ℕ) (since : ℕ → List ℕ → Type 0) (now : List Accepted) (h : History) (held : Option (List ℕ)) (log log' : Option (List Stamp)) where
   -- more bytes were taken
@@ -41,12 +41,12 @@ module _ (moment : ℕ) (since : ℕ → List ℕ → Type 0) (now : List Accept
   acknowledged left left' taken took up = record { taken = taken; took = took; upheld = up }
 
 -- more bytes are taken and served
-pub going_more : {moment : ℕ} {since : ℕ → List ℕ → Type 0} {waiting : ℕ} {s s' : Stand} {left left' held held' : Option (List ℕ)} {line text : List ℕ} {count : ℕ} {log log' : Option (List Stamp)}
-    (going : Going moment since waiting s s' left left' held held' line text count log log') (bytes : List ℕ) (n : ℕ) (s'' : Stand) (left'' held'' : Option (List ℕ)) (line' text' : List ℕ)
-    (later : ℕ) (since' : ℕ → List ℕ → Type 0) (log'' : Option (List Stamp)) → length bytes ≡ n → Consumes left' left'' bytes → Served waiting (going.run.taken ++ bytes) s s'' held held'' line' text'
-    → Upholds (AreReplies (AreSaidFirst (ended_lines (going.run.taken ++ bytes))) s.history) later since' s''.history.commands held log log''
-    → Going later since' waiting s s'' left left'' held held'' line' text' (count + n) log log''
-going_more {left} {left'} going bytes n s'' left'' held'' line' text' later since' log'' long took served up =
+pub going_more : {moment : ℕ} {since : ℕ → List ℕ → Type 0} {waiting : ℕ} {s : Stand} {t : Running} {left left' held held' : Option (List ℕ)} {begun : Bool} {line text : List ℕ} {count : ℕ} {log log' : Option (List Stamp)}
+    (going : Going moment since waiting s t left left' held held' begun line text count log log') (bytes : List ℕ) (n : ℕ) (t' : Running) (left'' held'' : Option (List ℕ)) (begun' : Bool) (line' text' : List ℕ)
+    (later : ℕ) (since' : ℕ → List ℕ → Type 0) (log'' : Option (List Stamp)) → length bytes ≡ n → Consumes left' left'' bytes → Served waiting (going.run.taken ++ bytes) s t' held held'' begun' line' text'
+    → Upholds (AreReplies (AreSaidFirst (ended_lines (going.run.taken ++ bytes))) s.history) later since' t'.kept.commands held log log''
+    → Going later since' waiting s t' left left'' held held'' begun' line' text' (count + n) log log''
+going_more {left} {left'} going bytes n t' left'' held'' begun' line' text' later since' log'' long took served up =
     let counted = going.run.count_is in
     let joined = length-append going.run.taken bytes in
     record {

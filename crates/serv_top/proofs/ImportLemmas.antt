@@ -1,12 +1,11 @@
 -- The rows of a file, one after another.
-use Rattle.std.proofs.Common.{◌≡◌, ◌⊎◌, ℕ, ◌+◌, ◌-◌, ◌<◌, ◌≤◌, List, [], ◌∷◌, ◌++◌, length, take, drop, get_or, map, refl, sym, ap, subst, ◌∙◌, inl, inr, ⊎_elim, arith, append-nil, append_assoc, length-append, zero, suc, add-one}
+use Rattle.std.proofs.Common.{◌≡◌, ◌⊎◌, ℕ, ◌+◌, ◌-◌, ◌<◌, ◌≤◌, false, List, [], ◌∷◌, ◌++◌, length, take, drop, get_or, map, refl, sym, ap, subst, ◌∙◌, inl, inr, ⊎_elim, arith, append-nil, append_assoc, zero, suc, add-one}
 use Rattle.std.specs.Prelude.{Option, Some}
-use Rattle.std.specs.Io.KnownBytes.{Appends, Consumes}
-use Rattle.std.proofs.KnownBytes.{Appends-nil, Appends-trans}
-use Rattle.svc_types.specs.declared.requests.Request.TheVariants as request
+use Rattle.std.specs.Io.KnownBytes.{Consumes}
+use Rattle.std.proofs.KnownBytes.{Appends-nil}
 use Rattle.svc_world.specs.World.{Accepted}
 use Rattle.svc_world.specs.Judging.{IsHistory}
-use Rattle.serv_disk.specs.Faults.{HasRisen, IsProperPrefix}
+use Rattle.serv_disk.specs.Faults.{HasRisen}
 use Rattle.serv_disk.specs.Stamps.{Stamp}
 use Rattle.serv_engine.specs.Histories.{IsGoodFound, lengths_of}
 use Rattle.serv_engine.specs.Engines.{EngineState}
@@ -15,23 +14,23 @@ use Rattle.serv_import.specs.declared.row.RowRequest.{RowRequest}
 use Rattle.serv_import.specs.declared.row.RowRequest.TheVariants as row
 use Rattle.serv_import.specs.Batches.{AreAnswers, HasHeader, IsBatch}
 use Rattle.serv_import.proofs.UniqueLemmas.{one_batch}
-use Rattle.serv_machine.specs.declared.faults.Halt.TheVariants as halt
+use Rattle.serv_machine.specs.History.{History}
 use Rattle.serv_machine.specs.OnDisk.{OnDisk}
 use Rattle.serv_machine.proofs.OnDiskLemmas.{disk_more}
 use Rattle.serv_top.specs.declared.serving.Stop.{Stop}
 use Rattle.serv_top.specs.declared.serving.Stop.TheVariants as stop
 use Rattle.serv_top.specs.declared.status.Status.{Status}
 use Rattle.serv_top.specs.declared.status.Status.TheVariants as status
-use Rattle.serv_top.specs.Machine.{Said, Unfit, reply_to, Stand, stand, Stays, Moves}
-use Rattle.serv_top.specs.Replies.{MovesAll, replies_to}
+use Rattle.serv_top.specs.Machine.{Said, Unfit, Stand, stand, Running}
+use Rattle.serv_top.specs.Replies.{IsStopped}
+use Rattle.serv_top.specs.Serving.{Gathered, Stops}
 use Rattle.serv_top.specs.Outcome.{input_limit}
 use Rattle.serv_top.specs.Stop.{status_of}
-use Rattle.serv_top.specs.Upheld.{IsAcknowledged}
-use Rattle.serv_top.specs.Imported.{AreFirstIn, FileSays, said_of, IsRow, AreRows, IsStoppedOn, StopsOn, IsAnswered, IsTriedFirst, IsRowsOutput, RowsEnd, IsUnread, rows, headless, FileEnds, Imports, ImportEnds, IsImported}
+use Rattle.serv_top.specs.Upheld.{AreFirst, IsAcknowledged}
+use Rattle.serv_top.specs.Imported.{AreFirstIn, FileSays, said_of, IsRow, AreRows, IsRowsOutput, RowsEnd, IsUnread, rows, headless, FileEnds, Imports, ImportEnds, IsImported}
 use Rattle.serv_top.specs.Journal.{IsOpened, IsUnopened, journal_limit}
-use Rattle.serv_top.proofs.Applied.{run_over, unopened_ends, few_taken, store_of, store_after, store_moves}
-use Rattle.serv_top.proofs.Cutting.{replies_to-push, moves_more}
-use Rattle.serv_top.proofs.ServedLemmas.{before_last-push}
+use Rattle.serv_top.proofs.Applied.{run_over, unopened_ends, few_taken, store_of, store_moves, store_cut, store_begun, store_held_up}
+use Rattle.serv_top.proofs.GatheredLemmas.{stopped_wider}
 use Rattle.serv_top.specs.Ends.{Completes}
 
 -- ---- rows that ask commands
@@ -51,86 +50,58 @@ row_at [] i d are small = absurd (omega arith)
 row_at (r ∷ list) zero d are small = are.0
 row_at (r ∷ list) (suc i) d are small = row_at list i d are.1 (omega arith)
 
--- ---- one row
+-- ---- one row after another
 
--- ---- one row after others
+module _ {D : Type 0} (images : D → List ℕ → Type 0) (moment : D → ℕ) (images_since : D → ℕ → List ℕ → Type 0) (old mid new : D) (all : List Said) (s s' : Stand) (kept : History) (held held' : Option (List ℕ))
+    (first : OnDisk images moment images_since old mid s.history.commands kept.commands []) where
+  stopped_rows : (why : Stop) (pending : List Accepted) (written : List ℕ) → IsStopped why (AreFirst all) 0 s s' pending written → IsRowsOutput (status_of why) all s s' pending written
+  stopped_rows stop.WriteFault pending written is = is
+  stopped_rows stop.DiskFault pending written is = is
+  stopped_rows stop.OutOfMemory pending written is = is
 
-pub record RowsDone (saids : List Said) (s s' : Stand) (held held' : Option (List ℕ)) : Type 0 where
-  pub written : List ℕ
-  pub wrote : Appends held held' written
-  pub answered : IsAnswered saids s s' written
+  -- it stops at one of them
+  pub rows_stopped : (why : Stop) (saids : List Said) → ((said : List Said) → AreFirst saids said → AreFirst all said) → Stops images moment images_since mid new why (AreFirst saids) 0 s kept s' held held'
+      → RowsEnd images moment images_since old new (status_of why) all s s' held held'
+  rows_stopped why saids then stops =
+      let stopped = stopped_wider (AreFirst saids) (AreFirst all) then 0 s s' why stops.pending held held' stops.stopped in
+      record {
+        pending = stops.pending;
+        written = stopped.written;
+        wrote = stopped.wrote;
+        says = stopped_rows why stops.pending stopped.written stopped.says;
+        disk = disk_more images moment images_since old mid new s.history.commands kept.commands s'.history.commands stops.pending first stops.disk;
+      }
 
-pub rows_none : (s s' : Stand) (held : Option (List ℕ)) → s'.history ≡ s.history → s'.steps ≡ s.steps → RowsDone [] s s' held held
-rows_none s s' held same steps = record { written = []; wrote = Appends-nil held; answered = record { text = refl; moved = (same, omega (arith, steps)) } }
+  -- all are answered
+  pub rows_settled : (t : Running) → s' ≡ stand t.kept t.steps → Gathered 0 all s t held held' false [] → OnDisk images moment images_since mid new kept.commands s'.history.commands []
+      → RowsEnd images moment images_since old new status.Done all s s' held held'
+  rows_settled t is g second = record {
+    pending = [];
+    written = g.written;
+    wrote = g.wrote;
+    says = (
+      refl,
+      record {
+        said = all;
+        whole = refl;
+        text = sym (append-nil g.written) ∙ g.gathered;
+        moved = (ap (λ (x : Stand). x.history) is ∙ g.waits.0 ∙ g.after, omega (arith, ap (λ (x : Stand). x.steps) is, g.cost));
+      },
+    );
+    disk = disk_more images moment images_since old mid new s.history.commands kept.commands s'.history.commands [] first second;
+  }
 
--- the text of the replies with one more
-one_more : (saids : List Said) (said : Said) (s s' : Stand) → MovesAll saids s s' → replies_to s.history (saids ++ said ∷ []) ≡ replies_to s.history saids ++ reply_to s'.history said
-one_more saids said s s' moved =
-    replies_to-push s.history saids said ∙ ap (λ h. replies_to s.history saids ++ reply_to h said) (sym moved.0)
-
-pub rows_more : (saids : List Said) (said : Said) (s s' s'' : Stand) (held held' held'' : Option (List ℕ)) → RowsDone saids s s' held held' → Appends held' held'' (reply_to s'.history said) → Moves said s' s''
-    → RowsDone (saids ++ said ∷ []) s s'' held held''
-rows_more saids said s s' s'' held held' held'' done wrote moved = record {
-  written = done.written ++ reply_to s'.history said;
-  wrote = Appends-trans held held' held'' done.written (reply_to s'.history said) done.wrote wrote;
-  answered = record {
-    text = ap (λ t. t ++ reply_to s'.history said) done.answered.text ∙ sym (one_more saids said s s' done.answered.moved);
-    moved = moves_more saids said s s' s'' done.answered.moved moved;
-  };
+-- the rows up to one are some first ones of all
+pub first_rows : (all done others : List Said) (said : Said) → all ≡ done ++ said ∷ others → (saids : List Said) → AreFirst (done ++ said ∷ []) saids → AreFirst all saids
+first_rows all done others said is saids first = record {
+  others = first.others ++ others;
+  saids_are = is ∙ sym (append_assoc done (said ∷ []) others) ∙ ap (λ ss. ss ++ others) first.saids_are ∙ append_assoc saids first.others others;
 }
 
--- a part of one more reply
-cut_more : (saids : List Said) (said : Said) (s s' : Stand) (written part : List ℕ) → IsAnswered saids s s' written → IsProperPrefix part (reply_to s'.history said)
-    → IsProperPrefix (written ++ part) (replies_to s.history (saids ++ said ∷ []))
-cut_more saids said s s' written part done cut = record {
-  rest = cut.rest;
-  some = cut.some;
-  joined = one_more saids said s s' done.moved ∙ ap (λ t. t ++ reply_to s'.history said) (sym done.text) ∙ ap (λ t. written ++ t) cut.joined ∙ sym (append_assoc written part cut.rest);
-}
-
-stopped_output : (why : Stop) (all saids others : List Said) (said : Said) (s s' s'' : Stand) (pending : List Accepted) (written part : List ℕ) → all ≡ saids ++ said ∷ others → IsAnswered saids s s' written
-    → IsStoppedOn why said s' s'' pending part → IsRowsOutput (status_of why) all s s'' pending (written ++ part)
-stopped_output stop.WriteFault all saids others said s s' s'' pending written part e done is = (
-  is.0,
-  record {
-    acted = saids ++ said ∷ [];
-    others = others;
-    saids_are = e ∙ sym (append_assoc saids (said ∷ []) others);
-    moved = moves_more saids said s s' s'' done.moved is.1;
-    cut = cut_more saids said s s' written part done is.2;
-    late = omega (arith, ap (λ l. length (replies_to s.history l)) (before_last-push saids said), ap length done.text, length-append written part);
-  },
-)
-stopped_output stop.DiskFault all saids others said s s' s'' pending written part e done is = record {
-  acted = saids;
-  next = said;
-  others = others;
-  saids_are = e;
-  before = s';
-  answered = record { text = ap (λ t. written ++ t) is.0 ∙ append-nil written ∙ done.text; moved = done.moved };
-  stuck = is.1;
-}
-stopped_output stop.OutOfMemory all saids others said s s' s'' pending written part e done is = (
-  is.0,
-  record {
-    acted = saids;
-    others = said ∷ others;
-    saids_are = e;
-    before = s';
-    answered = record { text = ap (λ t. written ++ t) is.1 ∙ append-nil written ∙ done.text; moved = done.moved };
-    after = inr is.2;
-  },
-)
-
-pub rows_stopped : {D : Type 0} (images : D → List ℕ → Type 0) (moment : D → ℕ) (images_since : D → ℕ → List ℕ → Type 0) (old mid new : D) (why : Stop) (all saids others : List Said) (said : Said) (s s' s'' : Stand)
-    (held held' held'' : Option (List ℕ)) → all ≡ saids ++ said ∷ others → RowsDone saids s s' held held' → OnDisk images moment images_since old mid s.history.commands s'.history.commands []
-    → StopsOn images moment images_since mid new why said s' s'' held' held'' → RowsEnd images moment images_since old new (status_of why) all s s'' held held''
-rows_stopped images moment images_since old mid new why all saids others said s s' s'' held held' held'' e done disk stops = record {
-  pending = stops.pending;
-  written = done.written ++ stops.written;
-  wrote = Appends-trans held held' held'' done.written stops.written done.wrote stops.wrote;
-  says = stopped_output why all saids others said s s' s'' stops.pending done.written stops.written e done.answered stops.says;
-  disk = disk_more images moment images_since old mid new s.history.commands s'.history.commands s''.history.commands stops.pending disk stops.disk;
+pub rows_before : (all done others : List Said) (said : Said) → all ≡ done ++ said ∷ others → (saids : List Said) → AreFirst done saids → AreFirst all saids
+rows_before all done others said is saids first = record {
+  others = first.others ++ said ∷ others;
+  saids_are = is ∙ ap (λ ss. ss ++ said ∷ others) first.saids_are ∙ append_assoc saids first.others (said ∷ others);
 }
 
 -- rows up to a place, the row there, and the rows behind it
@@ -203,31 +174,26 @@ quiet st taken is = (λ e. subst (λ (x : Status). IsUnread x taken) e is, λ e.
 -- ---- where commands are kept stays the same
 
 store_rows : (st : Status) (saids : List Said) (s s' : Stand) (pending : List Accepted) (written : List ℕ) → IsRowsOutput st saids s s' pending written → s'.history.store ≡ s.history.store
-store_rows status.Done saids s s' pending written is = store_moves saids s s' is.1.moved
-store_rows status.WriteFault saids s s' pending written is = store_moves is.1.acted s s' is.1.moved
-store_rows status.DiskFault saids s s' pending written is = ap store_of is.stuck.same ∙ store_moves is.acted s is.before is.answered.moved
-store_rows status.OutOfMemory saids s s' pending written is = store_first is.1.others is.1.before s' is.1.after ∙ store_moves is.1.acted s is.1.before is.1.answered.moved
-  where
-    store_first : (others : List Said) (t t' : Stand) → Stays t t' ⊎ IsTriedFirst others t t' → t'.history.store ≡ t.history.store
-    store_first [] t t' near = ⊎_elim (λ same. ap store_of same.0) (λ tried. absurd tried) near
-    store_first (said ∷ others) t t' near =
-        ⊎_elim (λ same. ap store_of same.0) (λ tried. ⊎_elim (λ same. ap store_of same) (λ moved. ap store_of moved ∙ store_after t.history said) tried.near) near
+store_rows status.Done saids s s' pending written is = store_moves is.1.said s s' is.1.moved
+store_rows status.WriteFault saids s s' pending written is = store_cut (AreFirst saids) 0 s s' written is.1
+store_rows status.DiskFault saids s s' pending written is = store_held_up (AreFirst saids) 0 s s' written pending is
+store_rows status.OutOfMemory saids s s' pending written is = store_begun (AreFirst saids) 0 s s' written is.1
 store_rows other saids s s' pending written is = absurd is
 
 pub store_import : (st : Status) (s s' : Stand) (pending : List Accepted) (left left' held held' : Option (List ℕ)) → Imports st s s' pending left left' held held' → s'.history.store ≡ s.history.store
 store_import st s s' pending left left' held held' is =
     ⊎_elim (λ unread. ap store_of unread.1.stays.0) (λ file. store_rows st file.2.saids s s' pending is.written file.2.rows) is.says
 
-pub imported : {D : Type 0} (seen : D → Option (List ℕ)) (images : D → List ℕ → Type 0) (moment : D → ℕ) (images_since : D → ℕ → List ℕ → Type 0) (old mid new : D) (st : Status) (e e' : EngineState)
+pub imported : {D : Type 0} (seen : D → Option (List ℕ)) (images : D → List ℕ → Type 0) (moment : D → ℕ) (images_since : D → ℕ → List ℕ → Type 0) (old mid new : D) (st : Status) (e : EngineState) (h : History)
     (steps begun steps' : ℕ) (left left' held held' : Option (List ℕ)) (log log' : Option (List Stamp))
     → IsOpened seen images moment images_since old mid steps begun (e.journal.size - lengths_of e.history) e.history → e.journal.limit ≡ journal_limit
-    → ImportEnds images moment images_since mid new st (stand (history_of e) begun) (stand (history_of e') steps') left left' held held'
-    → IsAcknowledged AreFirstIn (moment new) (images_since new) e'.history (history_of e) left left' held log log'
+    → ImportEnds images moment images_since mid new st (stand (history_of e) begun) (stand h steps') left left' held held'
+    → IsAcknowledged AreFirstIn (moment new) (images_since new) h.commands (history_of e) left left' held log log'
     → IsImported seen images moment images_since old new st steps steps' left left' held held' log log'
-imported {D} seen images moment images_since old mid new st e e' steps begun steps' left left' held held' log log' opening limit ends acked =
+imported {D} seen images moment images_since old mid new st e h steps begun steps' left left' held held' log log' opening limit ends acked =
     run_over (λ s s' pending. Imports st s s' pending left left' held held'
-    × IsAcknowledged AreFirstIn (moment new) (images_since new) s'.history.commands s.history left left' held log log') seen images moment images_since old mid new e e' steps begun steps' ends.pending opening limit
-    (store_import st (stand (history_of e) begun) (stand (history_of e') steps') ends.pending left left' held held' ends.imported) (ends.imported, acked) ends.disk
+    × IsAcknowledged AreFirstIn (moment new) (images_since new) s'.history.commands s.history left left' held log log') seen images moment images_since old mid new e h steps begun steps' ends.pending opening limit
+    (store_import st (stand (history_of e) begun) (stand h steps') ends.pending left left' held held' ends.imported) (ends.imported, acked) ends.disk
 
 -- ---- completeness
 

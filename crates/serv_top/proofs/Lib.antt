@@ -3,6 +3,9 @@ pub mod Pieces
 pub mod Cutting
 pub mod PlainLemmas
 pub mod LineLemmas
+pub mod FreshLemmas
+pub mod GatheredLemmas
+pub mod RequestLemmas
 pub mod CutLemmas
 pub mod WholeLemmas
 pub mod ServedLemmas

@@ -124,7 +124,7 @@ module _ {C : Type 0} (left held : C → Option (List ℕ)) (log : C → Option 
         let all : LinksEnd images moment images_since mid new P status_ most coming coming' backed backed' held0 held' (stand (history_of e) begun) (stand (history_of e') steps') =
         subst (λ z. LinksEnd images moment images_since mid new P status_ most coming coming' backed backed' held0 held' (stand (history_of e) begun) z) is'
         (subst (λ z. LinksEnd images moment images_since mid new P status_ most coming coming' backed backed' held0 held' z s') is end) in
-        run_over (λ s s' pending. ServesLinks P status_ most coming coming' backed backed' held0 held' s s' pending) seen images moment images_since old mid new e e' steps begun steps' all.pending opening limit
+        run_over (λ s s' pending. ServesLinks P status_ most coming coming' backed backed' held0 held' s s' pending) seen images moment images_since old mid new e (history_of e') steps begun steps' all.pending opening limit
         (store_links (links.stand (history_of e') steps') all.served.ends all.served.served.came all.served.served.back (links.stand (history_of e) begun) (links.stand (history_of e') steps') all.pending all.served.served.served) all.served all.disk
 
 -- the summary was written, or a part of it, or no memory was there for it

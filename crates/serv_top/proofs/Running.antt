@@ -1,5 +1,5 @@
 -- A run in its course: what it has taken, accepted and written so far, and what that is where it ends.
-use Rattle.std.proofs.Common.{◌≡◌, ◌≢◌, ℕ, ◌+◌, ◌<◌, ◌≤◌, List, [], ◌++◌, length, refl, sym, ap, subst, ◌∙◌, arith, inl, inr, append-nil, length-append}
+use Rattle.std.proofs.Common.{◌≡◌, ◌≢◌, ℕ, ◌+◌, ◌<◌, ◌≤◌, Bool, false, List, [], ◌++◌, length, refl, sym, ap, subst, ◌∙◌, arith, inl, inr, append-nil, length-append}
 use Rattle.std.specs.Prelude.{Option}
 use Rattle.std.specs.Io.KnownBytes.{Consumes, IsAtEnd}
 use Rattle.std.proofs.KnownBytes.{Consumes-nil, Consumes-trans, Appends-nil}
@@ -14,42 +14,35 @@ use Rattle.serv_top.specs.declared.serving.Stop.TheVariants as stop
 use Rattle.serv_top.specs.declared.status.Status.{Status}
 use Rattle.serv_top.specs.declared.status.Status.TheVariants as status
 use Rattle.serv_top.specs.Lines.{lines_of, ended_lines}
-use Rattle.serv_top.specs.Machine.{Stand, stand}
+use Rattle.serv_top.specs.Machine.{Stand, stand, Running}
+use Rattle.serv_top.specs.Replies.{Answers}
 use Rattle.serv_top.specs.Serving.{AllServed, Served, Stopped, Stops}
+use Rattle.serv_top.specs.Upheld.{Say, AreSaidFirst}
 use Rattle.serv_top.specs.Stop.{status_of}
 use Rattle.serv_top.specs.Outcome.{Ended, Ends, Ran, input_limit}
 use Rattle.serv_top.proofs.ServedLemmas.{served_none}
 use Rattle.serv_top.proofs.SoundLemmas.{nothing_sound, begun_sound}
 
 -- the bytes taken are served
-pub record Running (waiting : ℕ) (s s' : Stand) (left left' held held' : Option (List ℕ)) (line text : List ℕ) (count : ℕ) : Type 0 where
+pub record Course (waiting : ℕ) (s : Stand) (t : Running) (left left' held held' : Option (List ℕ)) (begun : Bool) (line text : List ℕ) (count : ℕ) : Type 0 where
   pub taken : List ℕ
   pub took : Consumes left left' taken
-  pub served : Served waiting taken s s' held held' line text
+  pub served : Served waiting taken s t held held' begun line text
   pub count_is : count ≡ length taken
 
-pub running_none : (waiting : ℕ) (s s' : Stand) (left held : Option (List ℕ)) (line text : List ℕ) → line ≡ [] → text ≡ [] → s'.history ≡ s.history → s'.steps ≤ s.steps
-    → Running waiting s s' left left held held line text 0
-running_none waiting s s' left held line text no_line no_text same cost =
-    record { taken = []; took = Consumes-nil left; served = served_none waiting s s' held line text no_line no_text same cost; count_is = refl }
-
--- more bytes are taken and served
-pub running_more : {waiting : ℕ} {s s' : Stand} {left left' held held' : Option (List ℕ)} {line text : List ℕ} {count : ℕ} (run : Running waiting s s' left left' held held' line text count)
-    (bytes : List ℕ) (n : ℕ) (s'' : Stand) (left'' held'' : Option (List ℕ)) (line' text' : List ℕ) → length bytes ≡ n → Consumes left' left'' bytes
-    → Served waiting (run.taken ++ bytes) s s'' held held'' line' text' → Running waiting s s'' left left'' held held'' line' text' (count + n)
-running_more {left} {left'} run bytes n s'' left'' held'' line' text' long took served =
-    let counted = run.count_is in
-    let joined = length-append run.taken bytes in
-    record { taken = run.taken ++ bytes; took = Consumes-trans left left' left'' run.taken bytes run.took took; served = served; count_is = omega arith }
+pub course_none : (waiting : ℕ) (s : Stand) (t : Running) (left held : Option (List ℕ)) (begun : Bool) (line text : List ℕ) → line ≡ [] → text ≡ [] → begun ≡ false → t.held ≡ s.history → t.kept ≡ t.held → t.steps ≤ s.steps
+    → Course waiting s t left left held held begun line text 0
+course_none waiting s t left held begun line text no_line no_text none same kept cost =
+    record { taken = []; took = Consumes-nil left; served = served_none waiting s t held begun line text no_line no_text none same kept cost; count_is = refl }
 
 -- the end of the input
-pub end_took : {waiting : ℕ} {s s' : Stand} {left left' held held' : Option (List ℕ)} {line text : List ℕ} {count : ℕ} (run : Running waiting s s' left left' held held' line text count)
+pub end_took : {waiting : ℕ} {s : Stand} {t : Running} {left left' held held' : Option (List ℕ)} {begun : Bool} {line text : List ℕ} {count : ℕ} (run : Course waiting s t left left' held held' begun line text count)
     (left'' : Option (List ℕ)) → Consumes left' left'' [] → Consumes left left'' run.taken
 end_took {left} {left'} run left'' took = subst (Consumes left left'') (append-nil run.taken) (Consumes-trans left left' left'' run.taken [] run.took took)
 
 -- it stops at some of the lines that ended in these bytes
 stopped_ended : (waiting : ℕ) (why : Stop) (bytes : List ℕ) (s s' : Stand) (pending : List Accepted) (left left' held held' : Option (List ℕ)) → Consumes left left' bytes → length bytes ≤ input_limit
-    → Stopped why waiting (ended_lines bytes) s s' pending held held' → Ended waiting (status_of why) s s' pending left left' held held'
+    → Stopped why (AreSaidFirst (ended_lines bytes)) waiting s s' pending held held' → Ended waiting (status_of why) s s' pending left left' held held'
 stopped_ended waiting stop.WriteFault bytes s s' pending left left' held held' took within stopped =
     record { taken = bytes; written = stopped.written; took = took; wrote = stopped.wrote; says = (stopped.says.0, within, inl stopped.says.1) }
 stopped_ended waiting stop.DiskFault bytes s s' pending left left' held held' took within stopped =
@@ -58,7 +51,7 @@ stopped_ended waiting stop.OutOfMemory bytes s s' pending left left' held held' 
     record { taken = bytes; written = stopped.written; took = took; wrote = stopped.wrote; says = (stopped.says.0, within, inl stopped.says.1) }
 
 stopped_last : (waiting : ℕ) (why : Stop) (bytes : List ℕ) (s s' : Stand) (pending : List Accepted) (left left' held held' : Option (List ℕ)) → Consumes left left' bytes → length bytes ≤ input_limit → IsAtEnd left'
-    → Stopped why waiting (lines_of bytes) s s' pending held held' → Ended waiting (status_of why) s s' pending left left' held held'
+    → Stopped why (AreSaidFirst (lines_of bytes)) waiting s s' pending held held' → Ended waiting (status_of why) s s' pending left left' held held'
 stopped_last waiting stop.WriteFault bytes s s' pending left left' held held' took within end stopped =
     record { taken = bytes; written = stopped.written; took = took; wrote = stopped.wrote; says = (stopped.says.0, within, inr (end, stopped.says.1)) }
 stopped_last waiting stop.DiskFault bytes s s' pending left left' held held' took within end stopped =
@@ -66,96 +59,83 @@ stopped_last waiting stop.DiskFault bytes s s' pending left left' held held' too
 stopped_last waiting stop.OutOfMemory bytes s s' pending left left' held held' took within end stopped =
     record { taken = bytes; written = stopped.written; took = took; wrote = stopped.wrote; says = (stopped.says.0, within, inr (end, stopped.says.1)) }
 
-module _ {D : Type 0} (images : D → List ℕ → Type 0) (moment : D → ℕ) (images_since : D → ℕ → List ℕ → Type 0) (old mid new : D) where
+-- all lines that ended are answered, where no reply waits
+all_answered : {waiting : ℕ} {bytes : List ℕ} {s : Stand} {t : Running} {held held' : Option (List ℕ)} {begun : Bool} {line text : List ℕ} (run : Served waiting bytes s t held held' begun line text) → text ≡ [] → t.kept ≡ t.held
+    → Answers (Say (ended_lines bytes)) s (stand t.kept t.steps) run.gathers.written
+all_answered {text = text} run none kept =
+    let g = run.gathers in
+    record { said = run.said; whole = run.say; text = sym (append-nil g.written) ∙ ap (λ x. g.written ++ x) (sym none) ∙ g.gathered; moved = (kept ∙ g.after, g.cost) }
+
+module _ {D : Type 0} (images : D → List ℕ → Type 0) (moment : D → ℕ) (images_since : D → ℕ → List ℕ → Type 0) (old mid new : D) {waiting : ℕ} {s : Stand} {t : Running}
+    {left left' held held' : Option (List ℕ)} {begun : Bool} {line text : List ℕ} {count : ℕ} (run : Course waiting s t left left' held held' begun line text count) (s' : Stand) (left'' held'' : Option (List ℕ)) where
   -- it stops at one of the bytes that were taken last
-  pub ends_at_bytes : (waiting : ℕ) (s t s' : Stand) (left left' left'' held held' held'' : Option (List ℕ)) (line text : List ℕ) (count : ℕ) (run : Running waiting s t left left' held held' line text count)
-      (bytes : List ℕ) (n : ℕ) → length bytes ≡ n → count + n ≤ input_limit → Consumes left' left'' bytes → OnDisk images moment images_since old mid s.history.commands t.history.commands []
-      → (why : Stop) → Stops images moment images_since mid new why waiting (ended_lines (run.taken ++ bytes)) s t s' held held''
+  pub ends_at_bytes : (bytes : List ℕ) (n : ℕ) → length bytes ≡ n → count + n ≤ input_limit → Consumes left' left'' bytes → OnDisk images moment images_since old mid s.history.commands t.kept.commands []
+      → (why : Stop) → Stops images moment images_since mid new why (AreSaidFirst (ended_lines (run.taken ++ bytes))) waiting s t.kept s' held held''
       → Ends images moment images_since old new waiting (status_of why) s s' left left'' held held''
-  ends_at_bytes waiting s t s' left left' left'' held held' held'' line text count run bytes n long within took first why stops =
+  ends_at_bytes bytes n long within took first why stops =
       let counted = run.count_is in
       let joined = length-append run.taken bytes in
       let small : length (run.taken ++ bytes) ≤ input_limit = omega arith in
       record {
         pending = stops.pending;
         ended = stopped_ended waiting why (run.taken ++ bytes) s s' stops.pending left left'' held held'' (Consumes-trans left left' left'' run.taken bytes run.took took) small stops.stopped;
-        disk = disk_more images moment images_since old mid new s.history.commands t.history.commands s'.history.commands stops.pending first stops.disk;
+        disk = disk_more images moment images_since old mid new s.history.commands t.kept.commands s'.history.commands stops.pending first stops.disk;
       }
 
   -- it stops at the last piece
-  pub ends_at_end : (waiting : ℕ) (s t s' : Stand) (left left' left'' held held' held'' : Option (List ℕ)) (line text : List ℕ) (count : ℕ) (run : Running waiting s t left left' held held' line text count)
-      → count < input_limit → Consumes left' left'' [] → IsAtEnd left'' → OnDisk images moment images_since old mid s.history.commands t.history.commands []
-      → (why : Stop) → Stops images moment images_since mid new why waiting (lines_of run.taken) s t s' held held''
+  pub ends_at_end : count < input_limit → Consumes left' left'' [] → IsAtEnd left'' → OnDisk images moment images_since old mid s.history.commands t.kept.commands []
+      → (why : Stop) → Stops images moment images_since mid new why (AreSaidFirst (lines_of run.taken)) waiting s t.kept s' held held''
       → Ends images moment images_since old new waiting (status_of why) s s' left left'' held held''
-  ends_at_end waiting s t s' left left' left'' held held' held'' line text count run below took end first why stops =
+  ends_at_end below took end first why stops =
       let counted = run.count_is in
       let small : length run.taken ≤ input_limit = omega arith in
       record {
         pending = stops.pending;
         ended = stopped_last waiting why run.taken s s' stops.pending left left'' held held'' (end_took run left'' took) small end stops.stopped;
-        disk = disk_more images moment images_since old mid new s.history.commands t.history.commands s'.history.commands stops.pending first stops.disk;
+        disk = disk_more images moment images_since old mid new s.history.commands t.kept.commands s'.history.commands stops.pending first stops.disk;
       }
 
   -- all lines are answered
-  pub ends_done : (waiting : ℕ) (s t s' : Stand) (left left' left'' held held' held'' : Option (List ℕ)) (line text : List ℕ) (count : ℕ) (run : Running waiting s t left left' held held' line text count)
-      → count < input_limit → Consumes left' left'' [] → IsAtEnd left'' → OnDisk images moment images_since old mid s.history.commands t.history.commands []
-      → OnDisk images moment images_since mid new t.history.commands s'.history.commands [] → AllServed (lines_of run.taken) s s' held held''
+  pub ends_done : count < input_limit → Consumes left' left'' [] → IsAtEnd left'' → OnDisk images moment images_since old mid s.history.commands t.kept.commands []
+      → OnDisk images moment images_since mid new t.kept.commands s'.history.commands [] → AllServed (lines_of run.taken) s s' held held''
       → Ends images moment images_since old new waiting status.Done s s' left left'' held held''
-  ends_done waiting s t s' left left' left'' held held' held'' line text count run below took end first second all =
+  ends_done below took end first second all =
       let counted = run.count_is in
       record {
         pending = [];
         ended = record { taken = run.taken; written = all.written; took = end_took run left'' took; wrote = all.wrote; says = (refl, end, omega arith, all.answers) };
-        disk = disk_more images moment images_since old mid new s.history.commands t.history.commands s'.history.commands [] first second;
+        disk = disk_more images moment images_since old mid new s.history.commands t.kept.commands s'.history.commands [] first second;
       }
 
-  pub disk_on : (s t s' : Stand) → OnDisk images moment images_since old mid s.history.commands t.history.commands [] → OnDisk images moment images_since mid new t.history.commands s'.history.commands []
-      → OnDisk images moment images_since old new s.history.commands s'.history.commands []
-  disk_on s t s' first second = disk_more images moment images_since old mid new s.history.commands t.history.commands s'.history.commands [] first second
-
-module _ {D : Type 0} (images : D → List ℕ → Type 0) (moment : D → ℕ) (images_since : D → ℕ → List ℕ → Type 0) (old new : D) where
+module _ {D : Type 0} (images : D → List ℕ → Type 0) (moment : D → ℕ) (images_since : D → ℕ → List ℕ → Type 0) (old new : D) {waiting : ℕ} {s : Stand} {t : Running}
+    {left left' held held' : Option (List ℕ)} {begun : Bool} {line text : List ℕ} {count : ℕ} (run : Course waiting s t left left' held held' begun line text count) (none : text ≡ []) (kept : t.kept ≡ t.held)
+    (disk : OnDisk images moment images_since old new s.history.commands t.kept.commands []) where
   -- a read failed: what was taken before is served
-  pub ends_unread : (waiting : ℕ) (s s' : Stand) (left left' left'' held held' : Option (List ℕ)) (line text : List ℕ) (count : ℕ) (run : Running waiting s s' left left' held held' line text count)
-      → text ≡ [] → count < input_limit → left'' ≡ left' → OnDisk images moment images_since old new s.history.commands s'.history.commands []
-      → Ends images moment images_since old new waiting status.ReadFault s s' left left'' held held'
-  ends_unread waiting s s' left left' left'' held held' line text count run none below same disk =
+  pub ends_unread : (left'' : Option (List ℕ)) → count < input_limit → left'' ≡ left' → Ends images moment images_since old new waiting status.ReadFault s (stand t.kept t.steps) left left'' held held'
+  ends_unread left'' below same =
       let counted = run.count_is in
       record {
         pending = [];
         ended = record {
           taken = run.taken;
-          written = run.served.written;
+          written = run.served.gathers.written;
           took = subst (λ x. Consumes left x run.taken) (sym same) run.took;
-          wrote = run.served.wrote;
-          says = (refl, omega arith, record { said = run.served.said; say = run.served.say; text = whole_text run.served.written text none ∙ run.served.gathered; moved = run.served.moved });
+          wrote = run.served.gathers.wrote;
+          says = (refl, omega arith, all_answered run.served none kept);
         };
         disk = disk;
       }
-    where
-      whole_text : (written text : List ℕ) → text ≡ [] → written ≡ written ++ text
-      whole_text written text none = sym (append-nil written) ∙ ap (λ t. written ++ t) (sym none)
 
   -- too much was taken
-  pub ends_full : (waiting : ℕ) (s s' : Stand) (left left' held held' : Option (List ℕ)) (line text : List ℕ) (count : ℕ) (run : Running waiting s s' left left' held held' line text count)
-      → text ≡ [] → count ≤ input_limit → input_limit ≤ count → OnDisk images moment images_since old new s.history.commands s'.history.commands []
-      → Ends images moment images_since old new waiting (status.TooMuch count) s s' left left' held held'
-  ends_full waiting s s' left left' held held' line text count run none within full disk =
+  pub ends_full : count ≤ input_limit → input_limit ≤ count → Ends images moment images_since old new waiting (status.TooMuch count) s (stand t.kept t.steps) left left' held held'
+  ends_full within full =
       let counted = run.count_is in
       let all : count ≡ input_limit = omega (arith, within, full) in
       record {
         pending = [];
-        ended = record {
-          taken = run.taken;
-          written = run.served.written;
-          took = run.took;
-          wrote = run.served.wrote;
-          says = (refl, counted, all, record { said = run.served.said; say = run.served.say; text = whole_text run.served.written text none ∙ run.served.gathered; moved = run.served.moved });
-        };
+        ended = record { taken = run.taken; written = run.served.gathers.written; took = run.took; wrote = run.served.gathers.wrote; says = (refl, counted, all, all_answered run.served none kept) };
         disk = disk;
       }
-    where
-      whole_text : (written text : List ℕ) → text ≡ [] → written ≡ written ++ text
-      whole_text written text none = sym (append-nil written) ∙ ap (λ t. written ++ t) (sym none)
 
 -- a run in memory that takes nothing
 pub ran_nothing : (waiting steps : ℕ) (left held : Option (List ℕ)) → Ran waiting status.OutOfMemory steps steps left left held held
@@ -167,7 +147,7 @@ ran_nothing waiting steps left held = record {
     written = [];
     took = Consumes-nil left;
     wrote = Appends-nil held;
-    says = (refl, omega arith, inl (record { acted = []; others = []; lines_are = refl; said = []; say = tt; before = stand nothing steps; moved = (refl, omega arith); rest = []; text = refl; few = omega arith; after = inl (refl, omega arith) }));
+    says = (refl, omega arith, inl (record { done = []; ahead = []; first = record { acted = []; others = []; lines_are = refl; say = tt }; near = omega arith; after = refl; cost = omega arith; rest = []; text = refl; few = omega arith }));
   };
 }
 

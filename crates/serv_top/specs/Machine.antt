@@ -1,16 +1,14 @@
 -- What a line says to the machine, its reply, what is held after it, and how many steps it may take.
-use Rattle.std.specs.Prelude.{◌≡◌, ℕ, ◌+◌, ◌≤◌, ◌⊎◌, List, [], ◌∷◌}
-use Rattle.svc_types.specs.declared.requests.Command.{Command}
+use Rattle.std.specs.Prelude.{◌≡◌, ℕ, ◌≤◌, List, []}
 use Rattle.svc_types.specs.declared.requests.Request.{Request}
-use Rattle.svc_types.specs.declared.requests.Request.TheVariants as request
 use Rattle.svc_types.specs.Requests.{IsRequest}
-use Rattle.svc_world.specs.World.{Accepted, accepted}
+use Rattle.svc_world.specs.World.{Accepted}
 use Rattle.serv_line.specs.Lines.{line_of}
 use Rattle.serv_line.specs.LineFaults.{IsFault}
 use Rattle.serv_line.specs.Replies.{text_of_bad}
 use Rattle.serv_rows.specs.Texts.{text_of_bad_row}
-use Rattle.serv_machine.specs.History.{History, Fresh, decided}
-use Rattle.serv_machine.specs.Replies.{reply_to_request, history_after_request, bound_of_request}
+use Rattle.serv_machine.specs.History.{History}
+use Rattle.serv_machine.specs.Replies.{reply_to_request, history_after_request, bound_of_request, commands_in, IsAppending}
 
 -- what a line says: it asks something, or its fault stands at a place; and what a row of a file says: it asks something, or
 -- the row with this number goes wrong in a column
@@ -42,6 +40,18 @@ bound_of h (Asks r) = bound_of_request h r
 bound_of h (Faulty place) = 0
 bound_of h (Unfit number column) = 0
 
+-- the command that it brings, if it brings one
+abbrev pub commands_of : Said → List Accepted
+commands_of (Asks r) = commands_in r
+commands_of (Faulty place) = []
+commands_of (Unfit number column) = []
+
+-- it brings a command that is fresh, and for which there is room
+abbrev pub IsFresh : History → Said → Type 0
+IsFresh h (Asks r) = IsAppending h r
+IsFresh h (Faulty place) = ⊥
+IsFresh h (Unfit number column) = ⊥
+
 -- ---- where the machine stands
 
 -- what is held, and how many steps were taken
@@ -56,23 +66,11 @@ stand h steps = record { history = h; steps = steps }
 abbrev pub Stays : Stand → Stand → Type 0
 Stays s s' = (s'.history ≡ s.history) × (s'.steps ≤ s.steps)
 
--- a line was acted on, within its bound
-abbrev pub Moves : Said → Stand → Stand → Type 0
-Moves said s s' = (s'.history ≡ history_after s.history said) × (s'.steps ≤ s.steps + bound_of s.history said)
+-- what is held, what of it is kept, and how many steps were taken
+pub record Running : Type 0 where
+  pub held : History
+  pub kept : History
+  pub steps : ℕ
 
--- a line was acted on or not, within its bound
-pub record IsTried (line : List ℕ) (s s' : Stand) : Type 0 where
-  pub said : Said
-  pub says : Says line said
-  pub near : (s'.history ≡ s.history) ⊎ (s'.history ≡ history_after s.history said)
-  pub cost : s'.steps ≤ s.steps + bound_of s.history said
-
--- the disk failed while the command of a line, which is fresh, was being appended; it is not accepted
-pub record IsStuck (line : List ℕ) (s s' : Stand) (pending : List Accepted) : Type 0 where
-  pub key : List ℕ
-  pub command : Command
-  pub says : Says line (Asks (request.Do key command))
-  pub fresh : decided s.history key command ≡ Fresh
-  pub pending_is : pending ≡ accepted key command ∷ []
-  pub same : s'.history ≡ s.history
-  pub cost : s'.steps ≤ s.steps + bound_of s.history (Asks (request.Do key command))
+abbrev pub running : History → History → ℕ → Running
+running held kept steps = record { held = held; kept = kept; steps = steps }

@@ -9,6 +9,7 @@ use Rattle.serv_top.specs.declared.status.Status.TheVariants.{Done, ReadFault, W
 use Rattle.serv_top.specs.Lines.{lines_of, ended_lines}
 use Rattle.serv_top.specs.Machine.{Stand, stand}
 use Rattle.serv_top.specs.Replies.{Answers, IsBegun, IsCutIn, IsHeldUp}
+use Rattle.serv_top.specs.Upheld.{Say, AreSaidFirst}
 use Rattle.serv_top.specs.Sound.{StaySound}
 
 -- how many bytes of input are too many
@@ -24,17 +25,17 @@ HoldsOfLines P taken left = P (ended_lines taken) ⊎ (IsAtEnd left × P (lines_
 -- come where lines are answered
 abbrev pub IsOutput : ℕ → Status → Stand → Stand → List Accepted → List ℕ → Option (List ℕ) → List ℕ → Type 0
 IsOutput waiting Done s s' pending taken left written =
-    (pending ≡ []) × IsAtEnd left × (length taken < input_limit) × Answers (lines_of taken) s s' written
+    (pending ≡ []) × IsAtEnd left × (length taken < input_limit) × Answers (Say (lines_of taken)) s s' written
 IsOutput waiting ReadFault s s' pending taken left written =
-    (pending ≡ []) × (length taken < input_limit) × Answers (ended_lines taken) s s' written
+    (pending ≡ []) × (length taken < input_limit) × Answers (Say (ended_lines taken)) s s' written
 IsOutput waiting WriteFault s s' pending taken left written =
-    (pending ≡ []) × (length taken ≤ input_limit) × HoldsOfLines (λ lines. IsCutIn waiting lines s s' written) taken left
+    (pending ≡ []) × (length taken ≤ input_limit) × HoldsOfLines (λ lines. IsCutIn (AreSaidFirst lines) waiting s s' written) taken left
 IsOutput waiting DiskFault s s' pending taken left written =
-    (length taken ≤ input_limit) × HoldsOfLines (λ lines. IsHeldUp waiting lines s s' pending written) taken left
+    (length taken ≤ input_limit) × HoldsOfLines (λ lines. IsHeldUp (AreSaidFirst lines) waiting s s' pending written) taken left
 IsOutput waiting (TooMuch n) s s' pending taken left written =
-    (pending ≡ []) × (n ≡ length taken) × (n ≡ input_limit) × Answers (ended_lines taken) s s' written
+    (pending ≡ []) × (n ≡ length taken) × (n ≡ input_limit) × Answers (Say (ended_lines taken)) s s' written
 IsOutput waiting OutOfMemory s s' pending taken left written =
-    (pending ≡ []) × (length taken ≤ input_limit) × HoldsOfLines (λ lines. IsBegun waiting lines s s' written) taken left
+    (pending ≡ []) × (length taken ≤ input_limit) × HoldsOfLines (λ lines. IsBegun (AreSaidFirst lines) waiting s s' written) taken left
 IsOutput waiting other s s' pending taken left written = ⊥
 
 -- what is taken from the source, accepted and written to the sink, where these tell what is left and what is held

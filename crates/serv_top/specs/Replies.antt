@@ -1,16 +1,12 @@
--- What the machine says to the lines of a stream, one after the other.
+-- What is said to requests, one after the other, and what is written of it. What some first ones of them say is a parameter:
+-- `First`; it is that of lines, or of the rows of a file.
 use Rattle.std.specs.Prelude.{◌≡◌, ℕ, ◌+◌, ◌≤◌, ◌⊎◌, List, [], ◌∷◌, ◌++◌, length}
-use Rattle.serv_disk.specs.Faults.{IsProperPrefix}
 use Rattle.svc_world.specs.World.{Accepted}
+use Rattle.serv_disk.specs.Faults.{IsProperPrefix}
 use Rattle.serv_machine.specs.History.{History}
-use Rattle.serv_top.specs.Machine.{Said, Says, reply_to, history_after, bound_of, Stand, Stays, IsTried, IsStuck}
-
--- what the lines say, each in turn
-abbrev pub Say : List (List ℕ) → List Said → Type 0
-Say [] [] = Unit {0}
-Say [] (said ∷ more) = ⊥
-Say (line ∷ lines) [] = ⊥
-Say (line ∷ lines) (said ∷ more) = Says line said × Say lines more
+use Rattle.serv_top.specs.declared.serving.Stop.{Stop}
+use Rattle.serv_top.specs.declared.serving.Stop.TheVariants.{WriteFault, DiskFault, OutOfMemory}
+use Rattle.serv_top.specs.Machine.{Said, reply_to, history_after, bound_of, commands_of, IsFresh, Stand}
 
 -- the history after all of it
 abbrev pub history_after_all : History → List Said → History
@@ -32,78 +28,77 @@ abbrev pub MovesAll : List Said → Stand → Stand → Type 0
 MovesAll saids s s' =
     (s'.history ≡ history_after_all s.history saids) × (s'.steps ≤ s.steps + bound_of_all s.history saids)
 
--- all these lines were acted on, and the replies to them are written
-pub record Answers (lines : List (List ℕ)) (s s' : Stand) (written : List ℕ) : Type 0 where
-  pub said : List Said
-  pub say : Say lines said
-  pub text : written ≡ replies_to s.history said
-  pub moved : MovesAll said s s'
-
 -- all of it but the last
 abbrev pub before_last : List Said → List Said
 before_last [] = []
 before_last (said ∷ []) = []
 before_last (said ∷ (next ∷ more)) = said ∷ before_last (next ∷ more)
 
--- some first lines were acted on, or all of them, and of the replies to them a front part that is not all of it is written:
--- whole replies, and at most a part of one; of those to all but the last line, at most this many bytes are missing
-pub record IsCutIn (waiting : ℕ) (lines : List (List ℕ)) (s s' : Stand) (written : List ℕ) : Type 0 where
-  pub acted : List (List ℕ)
-  pub others : List (List ℕ)
-  pub lines_are : lines ≡ acted ++ others
+-- all requests were acted on, and the replies to them are written
+pub record Answers (Whole : List Said → Type 0) (s s' : Stand) (written : List ℕ) : Type 0 where
   pub said : List Said
-  pub say : Say acted said
+  pub whole : Whole said
+  pub text : written ≡ replies_to s.history said
   pub moved : MovesAll said s s'
-  pub cut : IsProperPrefix written (replies_to s.history said)
-  pub late : length (replies_to s.history (before_last said)) ≤ length written + waiting
 
--- the same by what is written alone: the replies to some first lines are written whole, and of the reply to the next line
--- a part that is not all of it
-pub record IsCutAt (lines : List (List ℕ)) (h : History) (written : List ℕ) : Type 0 where
-  pub answered : List (List ℕ)
-  pub next : List ℕ
-  pub others : List (List ℕ)
-  pub lines_are : lines ≡ answered ++ next ∷ others
+-- Of the replies to what was acted on a front part that is not all of it is written: whole replies, and at most a part of one; of
+-- those to all but the last, at most this many bytes are missing. Steps may have been taken for the next one.
+pub record IsCutIn (First : List Said → Type 0) (waiting : ℕ) (s s' : Stand) (written : List ℕ) : Type 0 where
+  pub done : List Said
+  pub ahead : List Said
+  pub first : First (done ++ ahead)
+  pub near : length ahead ≤ 1
+  pub after : s'.history ≡ history_after_all s.history done
+  pub cost : s'.steps ≤ s.steps + bound_of_all s.history (done ++ ahead)
+  pub cut : IsProperPrefix written (replies_to s.history done)
+  pub late : length (replies_to s.history (before_last done)) ≤ length written + waiting
+
+-- the same by what is written alone: the replies to some first requests are written whole, and of the reply to the next one a
+-- part that is not all of it
+pub record IsCutAt (First : List Said → Type 0) (h : History) (written : List ℕ) : Type 0 where
   pub said : List Said
-  pub say : Say answered said
   pub last : Said
-  pub says : Says next last
+  pub first : First (said ++ last ∷ [])
   pub part : List ℕ
   pub text : written ≡ replies_to h said ++ part
   pub partial : IsProperPrefix part (reply_to (history_after_all h said) last)
 
--- the next one of some lines was acted on or not
-abbrev pub IsTriedNext : List (List ℕ) → Stand → Stand → Type 0
-IsTriedNext [] s s' = ⊥
-IsTriedNext (line ∷ lines) s s' = IsTried line s s'
+-- nothing was accepted, or the next one was
+abbrev pub IsMaybeNext : History → List Said → History → Type 0
+IsMaybeNext h [] h' = h' ≡ h
+IsMaybeNext h (said ∷ ahead) h' = (h' ≡ h) ⊎ (h' ≡ history_after h said)
 
--- some first lines were acted on, or all of them, and perhaps one line more; the replies to the first ones are written, but for
--- at most this many bytes at the end
-pub record IsBegun (waiting : ℕ) (lines : List (List ℕ)) (s s' : Stand) (written : List ℕ) : Type 0 where
-  pub acted : List (List ℕ)
-  pub others : List (List ℕ)
-  pub lines_are : lines ≡ acted ++ others
-  pub said : List Said
-  pub say : Say acted said
-  pub before : Stand
-  pub moved : MovesAll said s before
+-- The replies to some first ones are written, but for at most this many bytes at the end. The next one may have been accepted, and
+-- steps may have been taken for the next two.
+pub record IsBegun (First : List Said → Type 0) (waiting : ℕ) (s s' : Stand) (written : List ℕ) : Type 0 where
+  pub done : List Said
+  pub ahead : List Said
+  pub first : First (done ++ ahead)
+  pub near : length ahead ≤ 2
+  pub after : IsMaybeNext (history_after_all s.history done) ahead s'.history
+  pub cost : s'.steps ≤ s.steps + bound_of_all s.history (done ++ ahead)
   pub rest : List ℕ
-  pub text : replies_to s.history said ≡ written ++ rest
+  pub text : replies_to s.history done ≡ written ++ rest
   pub few : length rest ≤ waiting
-  pub after : Stays before s' ⊎ IsTriedNext others before s'
 
--- some first lines were acted on; the replies to them are written, but for at most this many bytes at the end; the disk failed
--- while the command of the next line was being appended
-pub record IsHeldUp (waiting : ℕ) (lines : List (List ℕ)) (s s' : Stand) (pending : List Accepted) (written : List ℕ) : Type 0 where
-  pub acted : List (List ℕ)
-  pub next : List ℕ
-  pub others : List (List ℕ)
-  pub lines_are : lines ≡ acted ++ next ∷ others
-  pub said : List Said
-  pub say : Say acted said
-  pub before : Stand
-  pub moved : MovesAll said s before
+-- The replies to some first ones are written, but for at most this many bytes at the end; the disk failed while the command of the
+-- next one, which is fresh, was being appended. Steps may have been taken for the one after it.
+pub record IsHeldUp (First : List Said → Type 0) (waiting : ℕ) (s s' : Stand) (pending : List Accepted) (written : List ℕ) : Type 0 where
+  pub done : List Said
+  pub next : Said
+  pub ahead : List Said
+  pub first : First (done ++ next ∷ ahead)
+  pub near : length ahead ≤ 1
+  pub after : s'.history ≡ history_after_all s.history done
+  pub fresh : IsFresh s'.history next
+  pub pending_is : pending ≡ commands_of next
+  pub cost : s'.steps ≤ s.steps + bound_of_all s.history (done ++ next ∷ ahead)
   pub rest : List ℕ
-  pub text : replies_to s.history said ≡ written ++ rest
+  pub text : replies_to s.history done ≡ written ++ rest
   pub few : length rest ≤ waiting
-  pub stuck : IsStuck next before s' pending
+
+-- what is kept and written where no further request is answered, and the command that was being appended
+abbrev pub IsStopped : Stop → (List Said → Type 0) → ℕ → Stand → Stand → List Accepted → List ℕ → Type 0
+IsStopped WriteFault First waiting s s' pending written = (pending ≡ []) × IsCutIn First waiting s s' written
+IsStopped DiskFault First waiting s s' pending written = IsHeldUp First waiting s s' pending written
+IsStopped OutOfMemory First waiting s s' pending written = (pending ≡ []) × IsBegun First waiting s s' written

@@ -1,11 +1,18 @@
 -- Which bytes that are written answer which requests, and the commands that these bring.
-use Rattle.std.specs.Prelude.{◌≡◌, ℕ, List, ◌++◌, length, Option}
+use Rattle.std.specs.Prelude.{◌≡◌, ℕ, List, [], ◌∷◌, ◌++◌, length, Option}
 use Rattle.svc_world.specs.World.{Accepted}
 use Rattle.serv_disk.specs.Stamps.{Stamp}
 use Rattle.serv_machine.specs.History.{History}
 use Rattle.serv_machine.specs.Upheld as upheld
-use Rattle.serv_top.specs.Machine.{Said}
-use Rattle.serv_top.specs.Replies.{Say, replies_to, history_after_all}
+use Rattle.serv_top.specs.Machine.{Said, Says}
+use Rattle.serv_top.specs.Replies.{replies_to, history_after_all}
+
+-- what the lines say, each in turn
+abbrev pub Say : List (List ℕ) → List Said → Type 0
+Say [] [] = Unit {0}
+Say [] (said ∷ more) = ⊥
+Say (line ∷ lines) [] = ⊥
+Say (line ∷ lines) (said ∷ more) = Says line said × Say lines more
 
 -- what some first ones of these lines say
 pub record AreSaidFirst (lines : List (List ℕ)) (said : List Said) : Type 0 where
@@ -13,6 +20,11 @@ pub record AreSaidFirst (lines : List (List ℕ)) (said : List Said) : Type 0 wh
   pub others : List (List ℕ)
   pub lines_are : lines ≡ acted ++ others
   pub say : Say acted said
+
+-- some first ones of what is said
+pub record AreFirst (saids said : List Said) : Type 0 where
+  pub others : List Said
+  pub saids_are : saids ≡ said ++ others
 
 -- so many bytes are the replies to some first requests over a history, after which these commands are accepted
 pub record AreReplies (First : List Said → Type 0) (h : History) (bytes : ℕ) (commands : List Accepted) : Type 0 where

@@ -1,26 +1,26 @@
 //! The rows of a file, answered over a journal.
 
-ghost use Rattle.std.specs.Prelude.{◌≡◌, ◌≢◌, ℕ, ◌<◌, ◌≤◌, ◌^◌, ◌⊎◌, ◌++◌, ◌∷◌, [], List, Option, map, length, Err, IfOk, IfErr, OnErr, OnOk};
-ghost use Rattle.std.specs.Io.KnownBytes.{Appends, Consumes, IsAtEnd};
+ghost use Rattle.std.specs.Prelude.{◌≡◌, ℕ, ◌<◌, ◌≤◌, ◌^◌, ◌⊎◌, ◌++◌, ◌∷◌, [], List, Option, map, length, Err, IfOk, IfErr, OnErr, OnOk};
+ghost use Rattle.std.specs.Io.KnownBytes.{Consumes, IsAtEnd};
 ghost use Rattle.serv_disk.specs.Faults.{HasRisen};
-ghost use Rattle.serv_machine.specs.OnDisk.{OnDisk};
-ghost use Rattle.serv_top.specs.Journal.{HasFileFaults, IsUnopened};
-ghost use Rattle.serv_machine.specs.History.{History};
-ghost use Rattle.serv_top.specs.Machine.{Moves, Said, reply_to, stand};
-ghost use Rattle.serv_top.specs.Replies.{history_after_all, replies_to};
-ghost use Rattle.serv_top.specs.Outcome.{input_limit};
 ghost use Rattle.serv_disk.specs.Stamps.{Stamp};
+ghost use Rattle.serv_machine.specs.OnDisk.{OnDisk};
 ghost use Rattle.serv_machine.specs.Upheld.{Upholds};
-ghost use Rattle.serv_top.specs.Upheld.{AreReplies, IsAcknowledged};
-ghost use Rattle.serv_top.specs.Imported.{AreFirst, AreFirstIn, AreRows, FileEnds, HaltsOn, ImportEnds, IsImported, IsRow, IsSaid, IsUnread, RowsEnd, StopsOn, said_of};
+ghost use Rattle.serv_top.specs.Journal.{HasFileFaults, IsUnopened};
+ghost use Rattle.serv_top.specs.Machine.{Said, Stand, running, stand};
+ghost use Rattle.serv_top.specs.Outcome.{input_limit};
+ghost use Rattle.serv_top.specs.Serving.{Gathered, IsHalted, IsReplied, Stops};
+ghost use Rattle.serv_top.specs.Upheld.{AreFirst, AreReplies, IsAcknowledged};
+ghost use Rattle.serv_top.specs.Imported.{AreFirstIn, AreRows, FileEnds, ImportEnds, IsImported, IsRow, IsUnread, RowsEnd, said_of};
 
 use crate::over_journal::open_journal;
+use crate::replies::Replies;
 use crate::serving::{Stop, stop_at};
 use crate::status::Status;
 use crate::stream::INPUT_LIMIT;
-use serv_disk::{Disk, Sink, Source, read_some, write_beside};
+use serv_disk::{Disk, Sink, Source, read_some};
 use serv_import::{ImportFault, RowRequest, batch};
-use serv_machine::{Halt, Machine, answer_request};
+use serv_machine::{Halt, Machine, Stage, answer_request};
 use serv_rows::push_bad_row;
 use std::alloc::Global;
 use std::sync::ledger::Ledger;
@@ -30,8 +30,8 @@ use svc_types::Request;
 /// How many bytes are asked for at a time.
 const ROOM: usize = 1 << 16;
 
-/// Opens the journal of the disk, reads the whole source, and answers its rows. Each reply is written before
-/// the next row is acted on.
+/// Opens the journal of the disk, reads the whole source, and answers its rows. Each reply is written once
+/// the disk has its command, before the row after the next is acted on.
 pub(crate) fn import<S: Source, K: Sink, D: Disk, L: Ledger>(
     alloc: Global,
     src: &mut S,
@@ -69,10 +69,10 @@ fn import_by<D: Disk, M: Machine<D>, S: Source, K: Sink, L: Ledger>(
 ) -> Status
     requires { M.ready machine.old disk.old }
     ensures ends { ImportEnds D.images D.moment D.images_since disk.old disk.new result
-        (stand (M.history machine.old) steps.old) (stand (M.history machine.new) steps.new)
+        (stand (M.history machine.old) steps.old) (stand (M.kept machine.new) steps.new)
         (S.left src.old) (S.left src.new) (K.held snk.old) (K.held snk.new) }
     ensures acknowledged { IsAcknowledged AreFirstIn (D.moment disk.new) (D.images_since disk.new)
-        (M.history machine.new).commands (M.history machine.old)
+        (M.kept machine.new).commands (M.history machine.old)
         (S.left src.old) (S.left src.new) (K.held snk.old) (K.log snk.old) (K.log snk.new) }
     ensures read { result ≡ Status.ReadFault → HasRisen (S.faults src.old) (S.faults src.new) }
     ensures write { result ≡ Status.WriteFault → HasRisen (K.faults snk.old) (K.faults snk.new) }
@@ -126,10 +126,10 @@ fn answer_file<D: Disk, M: Machine<D>, K: Sink, L: Ledger>(
     requires size { length bytes.now ≤ 2 ^ 26 }
     requires ready { M.ready machine.old disk.old }
     ensures ends { FileEnds D.images D.moment D.images_since disk.old disk.new result bytes.now
-        (stand (M.history machine.old) steps.old) (stand (M.history machine.new) steps.new)
+        (stand (M.history machine.old) steps.old) (stand (M.kept machine.new) steps.new)
         (K.held snk.old) (K.held snk.new) }
     ensures upheld { Upholds (AreReplies (AreFirstIn bytes.now) (M.history machine.old)) (D.moment disk.new)
-        (D.images_since disk.new) (M.history machine.new).commands (K.held snk.old) (K.log snk.old) (K.log snk.new) }
+        (D.images_since disk.new) (M.kept machine.new).commands (K.held snk.old) (K.log snk.old) (K.log snk.new) }
     ensures write { result ≡ Status.WriteFault → HasRisen (K.faults snk.old) (K.faults snk.new) }
     ensures disk { result ≡ Status.DiskFault → HasRisen (D.faults disk.old) (D.faults disk.new) }
     ensures write_later { K.faults snk.old ≤ K.faults snk.new }
@@ -156,85 +156,101 @@ fn answer_rows<D: Disk, M: Machine<D>, K: Sink, L: Ledger>(
     requires rows { AreRows rows.now }
     requires ready { M.ready machine.old disk.old }
     ensures ends { RowsEnd D.images D.moment D.images_since disk.old disk.new result (map said_of rows.now)
-        (stand (M.history machine.old) steps.old) (stand (M.history machine.new) steps.new)
+        (stand (M.history machine.old) steps.old) (stand (M.kept machine.new) steps.new)
         (K.held snk.old) (K.held snk.new) }
     ensures upheld { Upholds (AreReplies (AreFirst (map said_of rows.now)) (M.history machine.old)) (D.moment disk.new)
-        (D.images_since disk.new) (M.history machine.new).commands (K.held snk.old) (K.log snk.old) (K.log snk.new) }
+        (D.images_since disk.new) (M.kept machine.new).commands (K.held snk.old) (K.log snk.old) (K.log snk.new) }
     ensures write { result ≡ Status.WriteFault → HasRisen (K.faults snk.old) (K.faults snk.new) }
     ensures disk { result ≡ Status.DiskFault → HasRisen (D.faults disk.old) (D.faults disk.new) }
     ensures write_later { K.faults snk.old ≤ K.faults snk.new }
     ensures disk_later { D.faults disk.old ≤ D.faults disk.new }
 {
-    let mut out = Vec::new(alloc);
+    let mut replies = Replies::new(alloc, 0);
     for row in rows {
-        match answer_row(row, &mut out, machine, disk, snk, steps) {
+        match answer_row(row, &mut replies, machine, disk, snk, steps) {
             Ok(()) => {}
             Err(stop) => return stop.status(),
         }
     }
-    Status::Done
+    match replies.settle(machine, disk, snk) {
+        Ok(()) => Status::Done,
+        Err(stop) => stop.status(),
+    }
 }
 
-/// Acts on a row, and writes its reply.
+/// Acts on a row, and writes the replies before its own, and its own once the disk has all that it brings.
 fn answer_row<D: Disk, M: Machine<D>, K: Sink, L: Ledger>(
     row: &RowRequest,
-    out: &mut Vec<u8>,
+    replies: &mut Replies,
     machine: &mut M,
     disk: &mut D,
     snk: &mut K,
     steps: &mut Steps<L>,
 ) -> Result<(), Stop>
     requires row { IsRow row.now }
-    requires ready { M.ready machine.old disk.old }
-    ensures wrote { OnOk result (Appends (K.held snk.old) (K.held snk.new)
-        (reply_to (M.history machine.old) (said_of row.now))) }
-    ensures moved { OnOk result (Moves (said_of row.now) (stand (M.history machine.old) steps.old)
-        (stand (M.history machine.new) steps.new)) }
-    ensures stopped { IfErr result (λ why. StopsOn D.images D.moment D.images_since disk.old disk.new why
-        (said_of row.now) (stand (M.history machine.old) steps.old) (stand (M.history machine.new) steps.new)
-        (K.held snk.old) (K.held snk.new)) }
-    ensures upheld { (h : History) (done others saids : List Said) (held : Option (List ℕ)) (log : Option (List Stamp))
-        → saids ≡ done ++ said_of row.now ∷ others → Appends held (K.held snk.old) (replies_to h done)
-        → M.history machine.old ≡ history_after_all h done
-        → Upholds (AreReplies (AreFirst saids) h) (D.moment disk.old) (D.images_since disk.old)
-        (M.history machine.old).commands held log (K.log snk.old)
-        → Upholds (AreReplies (AreFirst saids) h) (D.moment disk.new) (D.images_since disk.new)
-        (M.history machine.new).commands held log (K.log snk.new) }
+    requires running { M.running machine.old disk.old }
+    ensures gathered { (said : List Said) (s : Stand) (held : Option (List ℕ))
+        → Gathered replies.old.waiting said s
+        (running (M.history machine.old) (M.kept machine.old) steps.old) held (K.held snk.old)
+        replies.old.begun replies.old.text.items
+        → OnOk result (Gathered replies.old.waiting (said ++ said_of row.now ∷ []) s
+        (running (M.history machine.new) (M.kept machine.new) steps.new) held (K.held snk.new)
+        replies.new.begun replies.new.text.items) }
+    ensures stopped { (said : List Said) (s : Stand) (held : Option (List ℕ))
+        → Gathered replies.old.waiting said s
+        (running (M.history machine.old) (M.kept machine.old) steps.old) held (K.held snk.old)
+        replies.old.begun replies.old.text.items
+        → IfErr result (λ why. Stops D.images D.moment D.images_since disk.old disk.new why
+        (AreFirst (said ++ said_of row.now ∷ [])) replies.old.waiting s (M.kept machine.old)
+        (stand (M.kept machine.new) steps.new) held (K.held snk.new)) }
+    ensures upheld { (said others saids : List Said) (s : Stand) (held : Option (List ℕ)) (log : Option (List Stamp))
+        → saids ≡ said ++ said_of row.now ∷ others
+        → Gathered replies.old.waiting said s
+        (running (M.history machine.old) (M.kept machine.old) steps.old) held (K.held snk.old)
+        replies.old.begun replies.old.text.items
+        → Upholds (AreReplies (AreFirst saids) s.history) (D.moment disk.old) (D.images_since disk.old)
+        (M.kept machine.old).commands held log (K.log snk.old)
+        → Upholds (AreReplies (AreFirst saids) s.history) (D.moment disk.new) (D.images_since disk.new)
+        (M.kept machine.new).commands held log (K.log snk.new) }
+    ensures waiting { replies.new.waiting ≡ replies.old.waiting }
     ensures disk { OnOk result (OnDisk D.images D.moment D.images_since disk.old disk.new
-        (M.history machine.old).commands (M.history machine.new).commands []) }
-    ensures ready { OnOk result (M.ready machine.new disk.new) }
+        (M.kept machine.old).commands (M.kept machine.new).commands []) }
+    ensures running { OnOk result (M.running machine.new disk.new) }
     ensures later { K.faults snk.old ≤ K.faults snk.new }
     ensures cause { result ≡ Err Stop.WriteFault → HasRisen (K.faults snk.old) (K.faults snk.new) }
     ensures disk_later { D.faults disk.old ≤ D.faults disk.new }
     ensures disk_cause { result ≡ Err Stop.DiskFault → HasRisen (D.faults disk.old) (D.faults disk.new) }
 {
-    out.clear();
-    match reply_to_row(row, out, machine, disk, steps) {
-        Ok(()) => match write_beside(snk, disk, out) {
-            Ok(()) => Ok(()),
-            Err(_) => Err(Stop::WriteFault),
-        },
-        Err(halt) => Err(stop_at(halt)),
+    let before = replies.text.len();
+    match reply_to_row(row, &mut replies.text, machine, disk, steps) {
+        Ok(stage) => replies.advance(before, stage, machine, disk, snk),
+        Err(halt) => {
+            replies.give_up(disk, snk);
+            Err(stop_at(halt))
+        }
     }
 }
 
-/// Acts on a row, and appends its reply. Where it halts nothing is appended.
+/// Acts on a row, and appends its reply; a fresh command is begun. Where it halts nothing is appended.
 fn reply_to_row<D: Disk, M: Machine<D>, L: Ledger>(
     row: &RowRequest,
     out: &mut Vec<u8>,
     machine: &mut M,
     disk: &mut D,
     steps: &mut Steps<L>,
-) -> Result<(), Halt>
+) -> Result<Stage, Halt>
     requires row { IsRow row.now }
-    requires ready { M.ready machine.old disk.old }
-    ensures replied { OnOk result (IsSaid (said_of row.now) (stand (M.history machine.old) steps.old)
-        (stand (M.history machine.new) steps.new) out.old.items out.new.items) }
-    ensures halts { IfErr result (λ why. HaltsOn D.images D.moment D.images_since disk.old disk.new why
-        (said_of row.now) (stand (M.history machine.old) steps.old) (stand (M.history machine.new) steps.new)) }
+    requires running { M.running machine.old disk.old }
+    ensures replied { IfOk result (λ stage. IsReplied (said_of row.now) stage
+        (running (M.history machine.old) (M.kept machine.old) steps.old)
+        (running (M.history machine.new) (M.kept machine.new) steps.new) out.old.items out.new.items) }
+    ensures kept { OnErr result (out.new.items ≡ out.old.items) }
+    ensures halts { IfErr result (λ why. IsHalted D.images D.moment D.images_since disk.old disk.new why
+        (said_of row.now) (running (M.history machine.old) (M.kept machine.old) steps.old)
+        (running (M.history machine.new) (M.kept machine.new) steps.new)) }
     ensures disk { OnOk result (OnDisk D.images D.moment D.images_since disk.old disk.new
-        (M.history machine.old).commands (M.history machine.new).commands []) }
-    ensures ready { OnOk result (M.ready machine.new disk.new) }
+        (M.kept machine.old).commands (M.kept machine.new).commands []) }
+    ensures running { OnOk result (M.running machine.new disk.new) }
     ensures stopped { result ≡ Err Halt.DiskFault → HasRisen (D.faults disk.old) (D.faults disk.new) }
     ensures faults { D.faults disk.old ≤ D.faults disk.new }
 {
@@ -243,7 +259,7 @@ fn reply_to_row<D: Disk, M: Machine<D>, L: Ledger>(
             answer_request(machine, disk, &Request::Do(*key, *command), out, steps)
         }
         RowRequest::Bad(number, column) => match push_bad_row(out, *number, *column) {
-            Ok(()) => Ok(()),
+            Ok(()) => Ok(Stage::Settled),
             Err(_) => Err(Halt::OutOfMemory),
         },
     }

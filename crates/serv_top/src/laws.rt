@@ -12,28 +12,31 @@ ghost use Rattle.serv_top.specs.Extracts.{lines_of_commands, AreTakenOn, HasRoom
 ghost use Rattle.serv_top.specs.Imported.{FileSays};
 ghost use Rattle.serv_top.specs.Words.{month_in};
 ghost use Rattle.serv_top.specs.Machine.{Said, Says, Stand};
-ghost use Rattle.serv_top.specs.Replies.{Answers, IsBegun, IsCutAt, IsCutIn, IsHeldUp};
-ghost use Rattle.serv_top.specs.Whole.{IsAnswered, IsCutOff, IsStopped};
+ghost use Rattle.serv_top.specs.Replies.{Answers, IsBegun, IsCutAt, IsCutIn, IsHeldUp, replies_to};
+ghost use Rattle.serv_top.specs.Upheld.{AreFirst, AreSaidFirst, Say};
+ghost use Rattle.serv_top.specs.Whole.{IsCutOff};
 
 /// A line says one thing. So lines have one text of replies over a history, and one history after them;
 /// and a front part of their replies is some whole ones and a part of the next one. It does nothing.
 pub fn lines_have_one_answer()
     ensures says { (line : List ℕ) (s t : Said) → Says line s → Says line t → s ≡ t }
     ensures answers { (lines : List (List ℕ)) (s a b : Stand) (x y : List ℕ)
-        → Answers lines s a x → Answers lines s b y → (x ≡ y) × (a.history ≡ b.history) }
+        → Answers (Say lines) s a x → Answers (Say lines) s b y → (x ≡ y) × (a.history ≡ b.history) }
     ensures cut { (waiting : ℕ) (lines : List (List ℕ)) (s t : Stand) (written : List ℕ)
-        → IsCutIn waiting lines s t written → IsCutAt lines s.history written }
+        → IsCutIn (AreSaidFirst lines) waiting s t written → IsCutAt (AreSaidFirst lines) s.history written }
 {}
 
-/// Over a journal no reply waits: each is written whole before the next line is acted on. So where a write, the
-/// disk or memory fails, all replies but the last are whole. It does nothing.
+/// Over a journal no reply waits but that of a command that is begun. So where a write, the disk or memory fails, all
+/// replies to what the disk has, but for the last one of them, are whole; those of a file's rows too. It does nothing.
 pub fn replies_are_whole()
     ensures cut { (lines : List (List ℕ)) (s t : Stand) (written : List ℕ)
-        → IsCutIn 0 lines s t written → IsCutOff lines s t written }
+        → IsCutIn (AreSaidFirst lines) 0 s t written → IsCutOff (AreSaidFirst lines) s t written }
+    ensures cut_rows { (saids : List Said) (s t : Stand) (written : List ℕ)
+        → IsCutIn (AreFirst saids) 0 s t written → IsCutOff (AreFirst saids) s t written }
     ensures held { (lines : List (List ℕ)) (s t : Stand) (pending : List Accepted) (written : List ℕ)
-        → IsHeldUp 0 lines s t pending written → IsStopped lines s t pending written }
+        (up : IsHeldUp (AreSaidFirst lines) 0 s t pending written) → written ≡ replies_to s.history up.done }
     ensures begun { (lines : List (List ℕ)) (s t : Stand) (written : List ℕ)
-        → IsBegun 0 lines s t written → IsAnswered lines s t written }
+        (begun : IsBegun (AreSaidFirst lines) 0 s t written) → written ≡ replies_to s.history begun.done }
 {}
 
 /// A word is read as a month exactly where it is that month's text. It does nothing.
@@ -55,7 +58,7 @@ pub fn histories_are_taken_on()
     ensures ended { (h : List Accepted) → IsHistory h → ended_lines (lines_of_commands h) ≡ lines_of_history h }
     ensures lines { (h : List Accepted) → IsHistory h → lines_of (lines_of_commands h) ≡ lines_of_history h }
     ensures taken_on { (h : List Accepted) (s t : Stand) (written : List ℕ) → IsHistory h → s.history.commands ≡ []
-        → HasRoomFor s.history.store h → Answers (lines_of_history h) s t written → AreTakenOn h t written }
+        → HasRoomFor s.history.store h → Answers (Say (lines_of_history h)) s t written → AreTakenOn h t written }
 {}
 
 /// A journal of version 1 of at most 67,108,864 bytes always has room for its commands in version 2: it never ends a

@@ -11,6 +11,7 @@ mod one_link;
 mod over_doors;
 mod over_journal;
 mod query_words;
+mod replies;
 mod reviews;
 mod serving;
 mod showing;

@@ -22,7 +22,7 @@ pub const INPUT_LIMIT: u64 = 1 << 26;
 const ROOM: usize = 1 << 16;
 
 /// Answers lines to the end of the source, by the machine. After a line at most `waiting` bytes of replies
-/// are not written yet, and none before the source is read again.
+/// are not written yet, and that of a command that is begun; and none before the source is read again.
 pub(crate) fn serve<D: Disk, M: Machine<D>, S: Source, K: Sink, L: Ledger>(
     alloc: Global,
     waiting: usize,
@@ -34,10 +34,10 @@ pub(crate) fn serve<D: Disk, M: Machine<D>, S: Source, K: Sink, L: Ledger>(
 ) -> Status
     requires { M.ready machine.old disk.old }
     ensures ends { Ends D.images D.moment D.images_since disk.old disk.new waiting result
-        (stand (M.history machine.old) steps.old) (stand (M.history machine.new) steps.new)
+        (stand (M.history machine.old) steps.old) (stand (M.kept machine.new) steps.new)
         (S.left src.old) (S.left src.new) (K.held snk.old) (K.held snk.new) }
     ensures acknowledged { IsAcknowledged (λ taken. AreSaidFirst (lines_of taken)) (D.moment disk.new)
-        (D.images_since disk.new) (M.history machine.new).commands (M.history machine.old)
+        (D.images_since disk.new) (M.kept machine.new).commands (M.history machine.old)
         (S.left src.old) (S.left src.new) (K.held snk.old) (K.log snk.old) (K.log snk.new) }
     ensures read { result ≡ Status.ReadFault → HasRisen (S.faults src.old) (S.faults src.new) }
     ensures write { result ≡ Status.WriteFault → HasRisen (K.faults snk.old) (K.faults snk.new) }

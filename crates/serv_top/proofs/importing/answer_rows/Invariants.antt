@@ -1,19 +1,20 @@
-use Rattle.std.proofs.Common.{◌≤◌, [], take, map}
+use Rattle.std.proofs.Common.{◌≡◌, ◌≤◌, [], take, map}
 use Rattle.serv_machine.specs.OnDisk.{OnDisk}
-use Rattle.serv_top.specs.Machine.{stand}
-use Rattle.serv_top.specs.Imported.{AreFirst, said_of}
+use Rattle.serv_top.specs.Machine.{stand, running}
+use Rattle.serv_top.specs.Imported.{said_of}
+use Rattle.serv_top.specs.Serving.{Gathered}
 use Rattle.serv_machine.specs.Upheld.{Upholds}
-use Rattle.serv_top.specs.Upheld.{AreReplies}
-use Rattle.serv_top.proofs.ImportLemmas.{RowsDone}
+use Rattle.serv_top.specs.Upheld.{AreFirst, AreReplies}
 use Rattle.serv_top.proofs.importing.answer_rows.Given as goal
 
 -- the rows so far are answered
 abbrev pub invariant-loop-row : goal.invariant-loop-row
 invariant-loop-row g l = record {
-  done : RowsDone (map said_of (take l.row-index l.rows)) (stand (g.M.Machine.history l.fn.machine) l.fn.steps) (stand (g.M.Machine.history l.machine) l.steps) (g.K.Sink.held l.fn.snk) (g.K.Sink.held l.snk);
-  upheld : Upholds (AreReplies (AreFirst (map said_of l.rows)) (g.M.Machine.history l.fn.machine)) (g.D.Disk.moment l.disk) (g.D.Disk.images_since l.disk) (g.M.Machine.history l.machine).commands (g.K.Sink.held l.fn.snk) (g.K.Sink.log l.fn.snk) (g.K.Sink.log l.snk);
-  disk : OnDisk g.D.Disk.images g.D.Disk.moment g.D.Disk.images_since l.fn.disk l.disk (g.M.Machine.history l.fn.machine).commands (g.M.Machine.history l.machine).commands [];
-  ready : g.M.Machine.ready l.machine l.disk;
+  gathers : Gathered 0 (map said_of (take l.row-index l.rows)) (stand (g.M.Machine.history l.fn.machine) l.fn.steps) (running (g.M.Machine.history l.machine) (g.M.Machine.kept l.machine) l.steps) (g.K.Sink.held l.fn.snk) (g.K.Sink.held l.snk) l.replies.begun l.replies.text.items;
+  upheld : Upholds (AreReplies (AreFirst (map said_of l.rows)) (g.M.Machine.history l.fn.machine)) (g.D.Disk.moment l.disk) (g.D.Disk.images_since l.disk) (g.M.Machine.kept l.machine).commands (g.K.Sink.held l.fn.snk) (g.K.Sink.log l.fn.snk) (g.K.Sink.log l.snk);
+  disk : OnDisk g.D.Disk.images g.D.Disk.moment g.D.Disk.images_since l.fn.disk l.disk (g.M.Machine.history l.fn.machine).commands (g.M.Machine.kept l.machine).commands [];
+  running : g.M.Machine.running l.machine l.disk;
+  waiting : l.replies.waiting ≡ 0;
   write_later : g.K.Sink.faults l.fn.snk ≤ g.K.Sink.faults l.snk;
   disk_later : g.D.Disk.faults l.fn.disk ≤ g.D.Disk.faults l.disk;
 }

@@ -1,8 +1,8 @@
-use Rattle.std.proofs.Common.{◌≡◌, ℕ, ◌-◌, ◌≤◌, List, [], ◌++◌, length, take, Option, vec_len}
+use Rattle.std.proofs.Common.{◌≡◌, ℕ, ◌-◌, ◌≤◌, List, [], ◌++◌, length, take, Option}
 use Rattle.serv_disk.specs.Stamps.{Stamp}
 use Rattle.serv_machine.specs.OnDisk.{OnDisk}
 use Rattle.serv_top.specs.Lines.{ended_lines}
-use Rattle.serv_top.specs.Machine.{Stand, stand}
+use Rattle.serv_top.specs.Machine.{Stand, running}
 use Rattle.serv_top.specs.Serving.{Served}
 use Rattle.serv_machine.specs.Upheld.{Upholds}
 use Rattle.serv_top.specs.Upheld.{AreReplies, AreSaidFirst}
@@ -12,16 +12,15 @@ use Rattle.serv_top.proofs.serving.Serving.feed_all.Given as goal
 abbrev pub invariant-loop-at : goal.invariant-loop-at
 invariant-loop-at g l = record {
   within : l.at ≤ length l.bytes;
-  served : (before : List ℕ) (s : Stand) (held : Option (List ℕ)) → Served l.fn.self.waiting before s (stand (g.M.Machine.history l.fn.machine) l.fn.steps) held (g.K.Sink.held l.fn.snk) l.fn.self.line.items l.fn.self.replies.items
-      → Served l.fn.self.waiting (before ++ take l.at l.bytes) s (stand (g.M.Machine.history l.machine) l.steps) held (g.K.Sink.held l.snk) l.self.line.items l.self.replies.items;
+  served : (before : List ℕ) (s : Stand) (held : Option (List ℕ)) → Served l.fn.self.replies.waiting before s (running (g.M.Machine.history l.fn.machine) (g.M.Machine.kept l.fn.machine) l.fn.steps) held (g.K.Sink.held l.fn.snk) l.fn.self.replies.begun l.fn.self.line.items l.fn.self.replies.text.items
+      → Served l.fn.self.replies.waiting (before ++ take l.at l.bytes) s (running (g.M.Machine.history l.machine) (g.M.Machine.kept l.machine) l.steps) held (g.K.Sink.held l.snk) l.self.replies.begun l.self.line.items l.self.replies.text.items;
   upheld : (before : List ℕ) (s : Stand) (held : Option (List ℕ)) (log : Option (List Stamp)) (lines others : List (List ℕ)) → lines ≡ ended_lines (before ++ l.bytes) ++ others
-      → Served l.fn.self.waiting before s (stand (g.M.Machine.history l.fn.machine) l.fn.steps) held (g.K.Sink.held l.fn.snk) l.fn.self.line.items l.fn.self.replies.items
-      → Upholds (AreReplies (AreSaidFirst lines) s.history) (g.D.Disk.moment l.fn.disk) (g.D.Disk.images_since l.fn.disk) (g.M.Machine.history l.fn.machine).commands held log (g.K.Sink.log l.fn.snk)
-      → Upholds (AreReplies (AreSaidFirst lines) s.history) (g.D.Disk.moment l.disk) (g.D.Disk.images_since l.disk) (g.M.Machine.history l.machine).commands held log (g.K.Sink.log l.snk);
-  disk : OnDisk g.D.Disk.images g.D.Disk.moment g.D.Disk.images_since l.fn.disk l.disk (g.M.Machine.history l.fn.machine).commands (g.M.Machine.history l.machine).commands [];
-  ready : g.M.Machine.ready l.machine l.disk;
-  waiting : l.self.waiting ≡ l.fn.self.waiting;
-  few : vec_len l.self.replies ≤ l.self.waiting;
+      → Served l.fn.self.replies.waiting before s (running (g.M.Machine.history l.fn.machine) (g.M.Machine.kept l.fn.machine) l.fn.steps) held (g.K.Sink.held l.fn.snk) l.fn.self.replies.begun l.fn.self.line.items l.fn.self.replies.text.items
+      → Upholds (AreReplies (AreSaidFirst lines) s.history) (g.D.Disk.moment l.fn.disk) (g.D.Disk.images_since l.fn.disk) (g.M.Machine.kept l.fn.machine).commands held log (g.K.Sink.log l.fn.snk)
+      → Upholds (AreReplies (AreSaidFirst lines) s.history) (g.D.Disk.moment l.disk) (g.D.Disk.images_since l.disk) (g.M.Machine.kept l.machine).commands held log (g.K.Sink.log l.snk);
+  disk : OnDisk g.D.Disk.images g.D.Disk.moment g.D.Disk.images_since l.fn.disk l.disk (g.M.Machine.kept l.fn.machine).commands (g.M.Machine.kept l.machine).commands [];
+  running : g.M.Machine.running l.machine l.disk;
+  waiting : l.self.replies.waiting ≡ l.fn.self.replies.waiting;
   later : g.K.Sink.faults l.fn.snk ≤ g.K.Sink.faults l.snk;
   disk_later : g.D.Disk.faults l.fn.disk ≤ g.D.Disk.faults l.disk;
 }

@@ -1,9 +1,11 @@
-use Rattle.std.proofs.Common.{append-nil, ◌+◌, ◌++◌, [], take, drop, refl, sym, ◌∙◌}
+use Rattle.std.proofs.Common.{◌+◌, ◌++◌, [], take, drop, refl, sym, ap, ◌∙◌}
 use Rattle.serv_machine.proofs.OnDiskLemmas.{disk_none}
 use Rattle.serv_top.proofs.PlainLemmas.{plain_before, plain_all, line_before, part_rest}
-use Rattle.serv_top.proofs.ServedLemmas.{stops_more}
-use Rattle.serv_machine.proofs.UpheldLemmas.{commands_kept}
-use Rattle.serv_top.proofs.AnsweredLemmas.{lines_written, lines_before}
+use Rattle.serv_top.proofs.GatheredLemmas.{stops_after}
+use Rattle.serv_top.proofs.ServedLemmas.{first_further, lines_given_up}
+use Rattle.serv_top.specs.Lines.{ended_lines}
+use Rattle.serv_top.specs.Upheld.{AreSaidFirst}
+use Rattle.serv_top.proofs.AnsweredLemmas.{lines_before}
 use Rattle.serv_top.proofs.serving.Serving.feed_some.Goals as goal
 
 pub feed_line-requires-clause-plain : goal.feed_line-requires-clause-plain
@@ -23,22 +25,22 @@ returns-in-Err-clause-stopped g c = λ before s held run.
     let front = line_before bytes c.in-Some.at (sym c.line_feed_in.ensures ∙ c.in-Some.is) in
     let stops = rw (sym front) at (c.in-Err.ensures.stopped before s held run) in
     let none = disk_none g.D.Disk.images g.D.Disk.moment g.D.Disk.images_since c.args.disk.now _ _ refl
-    (g.met.M.Machine.keeps c.args.machine.now c.args.disk.now c.requires.ready) (g.met.D.Disk.only_now c.args.disk.now) in
+    (g.met.M.Machine.keeps_running c.args.machine.now c.args.disk.now c.requires.running) (g.met.D.Disk.only_now c.args.disk.now) in
     rw (sym (part_rest before bytes n))
-    (stops_more g.D.Disk.images g.D.Disk.moment g.D.Disk.images_since c.args.disk.now c.args.disk.now c.feed_line.new.disk c.in-Err.stop _
-    (before ++ take n bytes) (drop n bytes) s _ _ _ held _ none stops)
+    (stops_after (AreSaidFirst (ended_lines (before ++ take n bytes))) _ (λ said is. first_further (before ++ take n bytes) (drop n bytes) said is) _ s _ g.D.Disk.images g.D.Disk.moment g.D.Disk.images_since
+    c.args.disk.now c.args.disk.now c.feed_line.new.disk c.in-Err.stop _ _ held _ none stops)
 
 pub returns-in-Ok-feed_piece-clause-disk : goal.returns-in-Ok-feed_piece-clause-disk
 returns-in-Ok-feed_piece-clause-disk g c =
     disk_none g.D.Disk.images g.D.Disk.moment g.D.Disk.images_since c.args.disk.now _ _ refl
-    (g.met.M.Machine.keeps c.args.machine.now c.args.disk.now c.requires.ready) (g.met.D.Disk.only_now c.args.disk.now)
+    (g.met.M.Machine.keeps_running c.args.machine.now c.args.disk.now c.requires.running) (g.met.D.Disk.only_now c.args.disk.now)
 
 pub returns-in-Err-feed_piece-clause-stopped : goal.returns-in-Err-feed_piece-clause-stopped
 returns-in-Err-feed_piece-clause-stopped g c = λ before s held run. record {
   pending = [];
-  stopped = rw c.in-Err-feed_piece.ensures.memory (c.in-Err-feed_piece.ensures.stopped before s _ held run c.requires.few);
+  stopped = rw c.in-Err-feed_piece.ensures.memory (c.in-Err-feed_piece.ensures.stopped before s _ held run);
   disk = disk_none g.D.Disk.images g.D.Disk.moment g.D.Disk.images_since c.args.disk.now _ _ refl
-      (g.met.M.Machine.keeps c.args.machine.now c.args.disk.now c.requires.ready) (g.met.D.Disk.only_now c.args.disk.now);
+      (g.met.M.Machine.keeps_running c.args.machine.now c.args.disk.now c.requires.running) (g.met.D.Disk.only_now c.args.disk.now);
 }
 
 pub returns-in-Ok-clause-upheld : goal.returns-in-Ok-clause-upheld
@@ -57,14 +59,7 @@ returns-in-Err-clause-upheld g c = λ before s held log lines others is run up.
     let parted = lines_before (before ++ take n bytes) (drop n bytes) lines others (rw (sym (part_rest before bytes n)) at is) in
     c.feed_line.ensures.upheld before s held log lines _ (rw front at parted) run up
 
-pub returns-in-Ok-feed_piece-clause-upheld : goal.returns-in-Ok-feed_piece-clause-upheld
-returns-in-Ok-feed_piece-clause-upheld g c = λ before s held log lines others is run up.
-    lines_written g.D.Disk.images g.D.Disk.moment g.D.Disk.images_since c.args.disk.now (g.met.D.Disk.only_now c.args.disk.now) _ before s _ held _ _ _ lines _ _ [] log _ _
-    run (lines_before before c.args.bytes.now lines others is) (sym (append-nil _))
-    (commands_kept _ _ (g.met.M.Machine.keeps c.args.machine.now c.args.disk.now c.requires.ready)) up c.feed_piece.ensures.noted
-
 pub returns-in-Err-feed_piece-clause-upheld : goal.returns-in-Err-feed_piece-clause-upheld
 returns-in-Err-feed_piece-clause-upheld g c = λ before s held log lines others is run up.
-    lines_written g.D.Disk.images g.D.Disk.moment g.D.Disk.images_since c.args.disk.now (g.met.D.Disk.only_now c.args.disk.now) _ before s _ held _ _ _ lines _ _ [] log _ _
-    run (lines_before before c.args.bytes.now lines others is) (sym (append-nil _))
-    (commands_kept _ _ (g.met.M.Machine.keeps c.args.machine.now c.args.disk.now c.requires.ready)) up c.feed_piece.ensures.noted
+    lines_given_up g.D.Disk.images g.D.Disk.moment g.D.Disk.images_since c.args.disk.now (g.met.D.Disk.only_now c.args.disk.now) before run lines _ (lines_before before c.args.bytes.now lines others is)
+    (g.met.M.Machine.keeps_running c.args.machine.now c.args.disk.now c.requires.running) (λ is. ap (λ k. g.K.Sink.log k) (c.feed_piece.ensures.begun is)) c.feed_piece.ensures.noted log up

@@ -1,63 +1,63 @@
 use Rattle.std.proofs.Common.{rules, ◌≡◌, ◌++◌, ◌∷◌, [], refl, sym, ap, ◌∙◌, append-nil}
-use Rattle.serv_machine.proofs.OnDiskLemmas.{disk_none}
-use Rattle.serv_top.specs.Upheld.{AreReplies, AreSaidFirst}
-use Rattle.serv_top.proofs.ServedLemmas.{served_more, last_ended, served_no_more, served_last, cut_last, halted_last, few_none}
-use Rattle.serv_machine.proofs.UpheldLemmas.{upheld_later, commands_kept}
-use Rattle.serv_top.proofs.AnsweredLemmas.{lines_written}
+use Rattle.std.proofs.lemmas.Result.{on_ok_weaker, IfErr-weaker}
+use Rattle.serv_machine.proofs.OnDiskLemmas.{disk_none, disk_more}
+use Rattle.serv_top.specs.Lines.{lines_of}
+use Rattle.serv_top.specs.Upheld.{AreFirst, AreSaidFirst}
+use Rattle.serv_top.proofs.AnsweredLemmas.{upheld_result}
+use Rattle.serv_top.proofs.GatheredLemmas.{stops_after}
+use Rattle.serv_top.proofs.ServedLemmas.{all_served, first_here, last_ended, none_last, served_settled}
 use Rattle.serv_top.proofs.serving.Serving.finish.Goals as goal
+
+pub end_line-requires : goal.end_line-requires
+end_line-requires g c = record { running = (g.met.M.Machine.settled c.args.machine.now c.args.disk.now c.requires.ready).0 }
 
 pub returns-then-is_empty-clause-served : goal.returns-then-is_empty-clause-served
 returns-then-is_empty-clause-served g c = λ bytes s held run.
     let none : c.args.self.now.line.items ≡ [] = search rules in
-    served_no_more _ bytes run (few_none _ _ c.requires.empty) c.requires.empty none
+    let plain = rw (c.requires.empty, c.requires.settled) at run in
+    all_served _ bytes s _ held _ _ (lines_of bytes) (none_last _ bytes run none) plain
 
 pub returns-then-is_empty-clause-disk : goal.returns-then-is_empty-clause-disk
 returns-then-is_empty-clause-disk g c =
     disk_none g.D.Disk.images g.D.Disk.moment g.D.Disk.images_since c.args.disk.now _ _ refl
-    (g.met.M.Machine.keeps c.args.machine.now c.args.disk.now c.requires.ready) (g.met.D.Disk.only_now c.args.disk.now)
+    (g.met.M.Machine.keeps_running c.args.machine.now c.args.disk.now (g.met.M.Machine.settled c.args.machine.now c.args.disk.now c.requires.ready).0) (g.met.D.Disk.only_now c.args.disk.now)
 
-pub returns-in-Ok-flush-clause-served : goal.returns-in-Ok-flush-clause-served
-returns-in-Ok-flush-clause-served g c = λ bytes s held run.
+pub returns-in-Ok-clause-served : goal.returns-in-Ok-clause-served
+returns-in-Ok-clause-served g c = λ bytes s held run.
     let some : c.args.self.now.line.items ≡ [] → ⊥ = search rules in
-    served_last _ bytes run (few_none _ _ c.requires.empty) _ _ _ some c.in-Ok.ensures.replied c.in-Ok-flush.ensures.written
+    let fed = c.in-Ok.ensures.fed bytes s held run in
+    let settle = rw c.end_line.ensures.waiting at c.settle.ensures.gathered in
+    on_ok_weaker c.settle.result (λ gathers. all_served _ (bytes ++ 10 ∷ []) s _ held _ _ (lines_of bytes) (last_ended _ bytes run some) (served_settled _ (bytes ++ 10 ∷ []) fed _ _ gathers))
+    (settle fed.said s _ held fed.gathers)
 
-pub returns-in-Err-flush-clause-stopped : goal.returns-in-Err-flush-clause-stopped
-returns-in-Err-flush-clause-stopped g c = λ bytes s held run.
+pub returns-in-Ok-clause-stopped : goal.returns-in-Ok-clause-stopped
+returns-in-Ok-clause-stopped g c = λ bytes s held run.
     let some : c.args.self.now.line.items ≡ [] → ⊥ = search rules in
-    record {
-      pending = [];
-      stopped = cut_last _ bytes run (few_none _ _ c.requires.empty) _ _ _ some c.in-Ok.ensures.replied c.in-Err-flush.ensures.part;
-      disk = c.in-Ok.ensures.disk;
-    }
+    let fed = c.in-Ok.ensures.fed bytes s held run in
+    let settle = rw c.end_line.ensures.waiting at c.settle.ensures.stopped in
+    IfErr-weaker c.settle.result _ _
+    (λ why stops. stops_after (AreFirst fed.said) (AreSaidFirst (lines_of bytes)) (first_here _ (bytes ++ 10 ∷ []) fed (lines_of bytes) [] (last_ended _ bytes run some ∙ sym (append-nil _))) _ s _
+    g.D.Disk.images g.D.Disk.moment g.D.Disk.images_since c.args.disk.now c.end_line.new.disk c.settle.new.disk why _ _ held _ c.in-Ok.ensures.disk stops)
+    (settle fed.said s _ held fed.gathers)
+
+pub returns-in-Ok-clause-upheld : goal.returns-in-Ok-clause-upheld
+returns-in-Ok-clause-upheld g c = λ before s held log lines others is run up.
+    let some : c.args.self.now.line.items ≡ [] → ⊥ = search rules in
+    let fed = c.in-Ok.ensures.fed before s held run in
+    let settle = rw c.end_line.ensures.waiting at c.settle.ensures in
+    let all = is ∙ ap (λ ls. ls ++ others) (last_ended _ before run some) in
+    upheld_result g.D.Disk.images g.D.Disk.moment g.D.Disk.images_since c.end_line.new.disk c.settle.new.disk c.settle.result _ _ _ _ s (AreFirst fed.said) (AreSaidFirst lines) held _ log _ _ c.settle.ensures.disk
+    (settle.stopped fed.said s _ held fed.gathers) (first_here _ (before ++ 10 ∷ []) fed lines others all) (c.end_line.ensures.upheld before s held log lines others all run up) (settle.upheld fed.said s _ held fed.gathers)
+
+pub returns-in-Ok-clause-disk : goal.returns-in-Ok-clause-disk
+returns-in-Ok-clause-disk g c = on_ok_weaker c.settle.result (λ second. disk_more g.D.Disk.images g.D.Disk.moment g.D.Disk.images_since _ _ _ _ _ _ _ c.in-Ok.ensures.disk second) c.settle.ensures.disk
 
 pub returns-in-Err-clause-stopped : goal.returns-in-Err-clause-stopped
 returns-in-Err-clause-stopped g c = λ bytes s held run.
     let some : c.args.self.now.line.items ≡ [] → ⊥ = search rules in
-    let h = c.in-Err.ensures.halts in
-    rw c.stop_at.ensures (record {
-      pending = h.pending;
-      stopped = halted_last _ bytes run (few_none _ _ c.requires.empty) c.in-Err.halt _ h.pending some h.halted;
-      disk = h.disk;
-    })
-
-pub returns-in-Ok-flush-clause-upheld : goal.returns-in-Ok-flush-clause-upheld
-returns-in-Ok-flush-clause-upheld g c = λ before s held log lines others is run up.
-    let some : c.args.self.now.line.items ≡ [] → ⊥ = search rules in
-    let few = few_none _ _ c.requires.empty in
-    lines_written g.D.Disk.images g.D.Disk.moment g.D.Disk.images_since c.answer.new.disk (g.met.D.Disk.only_now c.answer.new.disk) _ (before ++ 10 ∷ []) s _ held _ _ _ lines others _ [] log _ _
-    (served_more _ before run few _ _ _ c.in-Ok.ensures.line c.in-Ok.ensures.replied) (is ∙ ap (λ ls. ls ++ others) (last_ended _ before run few some)) (sym (append-nil _))
-    (commands_kept _ _ (g.met.M.Machine.keeps c.answer.new.machine c.answer.new.disk c.in-Ok.ensures.ready))
-    (upheld_later g.D.Disk.images g.D.Disk.moment g.D.Disk.images_since c.args.disk.now c.answer.new.disk _ _ [] c.in-Ok.ensures.disk (AreReplies (AreSaidFirst lines) s.history) held log _ up) c.flush.ensures.noted
-
-pub returns-in-Err-flush-clause-upheld : goal.returns-in-Err-flush-clause-upheld
-returns-in-Err-flush-clause-upheld g c = λ before s held log lines others is run up.
-    let some : c.args.self.now.line.items ≡ [] → ⊥ = search rules in
-    let few = few_none _ _ c.requires.empty in
-    lines_written g.D.Disk.images g.D.Disk.moment g.D.Disk.images_since c.answer.new.disk (g.met.D.Disk.only_now c.answer.new.disk) _ (before ++ 10 ∷ []) s _ held _ _ _ lines others _ [] log _ _
-    (served_more _ before run few _ _ _ c.in-Ok.ensures.line c.in-Ok.ensures.replied) (is ∙ ap (λ ls. ls ++ others) (last_ended _ before run few some)) (sym (append-nil _))
-    (commands_kept _ _ (g.met.M.Machine.keeps c.answer.new.machine c.answer.new.disk c.in-Ok.ensures.ready))
-    (upheld_later g.D.Disk.images g.D.Disk.moment g.D.Disk.images_since c.args.disk.now c.answer.new.disk _ _ [] c.in-Ok.ensures.disk (AreReplies (AreSaidFirst lines) s.history) held log _ up) c.flush.ensures.noted
+    rw (last_ended _ bytes run some) (c.in-Err.ensures.stopped bytes s held run)
 
 pub returns-in-Err-clause-upheld : goal.returns-in-Err-clause-upheld
 returns-in-Err-clause-upheld g c = λ before s held log lines others is run up.
-    upheld_later g.D.Disk.images g.D.Disk.moment g.D.Disk.images_since c.args.disk.now c.answer.new.disk _ _ _ c.in-Err.ensures.halts.disk (AreReplies (AreSaidFirst lines) s.history) held log _ up
+    let some : c.args.self.now.line.items ≡ [] → ⊥ = search rules in
+    c.end_line.ensures.upheld before s held log lines others (is ∙ ap (λ ls. ls ++ others) (last_ended _ before run some)) run up
