@@ -194,19 +194,18 @@ def traced(path, given, *more):
     return calls, (ran.returncode, ran.stdout, log)
 
 
-@case("syncs: an opening writes the last record again before its first sync; an append is record, sync, gate, sync")
+@case("syncs: an opening writes the last record again before its first sync; each record goes with the gate before it")
 def order_of_syncs(room):
     path = month(room)
     size = os.path.getsize(path)
-    calls, (status, out, _) = traced(path, b"z1 deposit 1 2024-02-01 0.01\n")
-    same((0, b"ok 15\n"), (status, out))
-    kinds = [(call, int(given or 0)) for call, given, _ in calls if call != "read"]
-    record = 7 + len(b"z1 deposit 1 2024-02-01 0.01")
-    lines = reckon.lines_of_journal(read(path))
-    again = 8 + len(lines[-2])
-    same([("write", 8), ("write", again), ("fsync", 0), ("write", record), ("fsync", 0), ("write", 1), ("fsync", 0)],
-         kinds)
-    same(size + record, os.path.getsize(path))
+    again = 8 + len(reckon.lines_of_journal(read(path))[-1])
+    given = [b"z%d deposit 1 2024-02-01 0.01\n" % number for number in range(1, 4)]
+    calls, (status, out, _) = traced(path, b"".join(given))
+    same((0, b"ok 15\nok 16\nok 17\n"), (status, out))
+    kinds = [(call, int(size or 0)) for call, size, _ in calls if call != "read"]
+    record, gate, sync = ("write", 6 + len(given[0])), ("write", 1), ("fsync", 0)
+    same([("write", 8), ("write", again), sync, record, sync, record, gate, sync, record, gate, sync, gate, sync], kinds)
+    same(size + 3 * record[1], os.path.getsize(path))
 
 
 @case("syncs: one that fails ends with 5; what was answered is there, and at most the command that was being appended")
@@ -215,13 +214,13 @@ def failed_syncs(room):
     before = read(path)
     given = b"z1 deposit 1 2024-02-01 0.01\nz2 deposit 1 2024-02-01 0.01\n"
     kept = reckon.lines_of_journal(before)
-    for when in range(1, 6):
+    for when in range(1, 5):
         write(before, path)
         _, (status, out, log) = traced(path, given, "-e", f"inject=fsync:error=EIO:when={when}")
         same(5, status, f"sync {when}")
         if f"status 5 DiskFault {path}: Input/output error (os error 5)\n" not in log:
             raise AssertionError(f"no cause: {log[-300:]}")
-        same(out.count(b"\n"), max(0, (when - 2) // 2), f"replies at sync {when}")
+        same(out.count(b"\n"), max(0, when - 3), f"replies at sync {when}")
         same((0, b""), run(path, "custodial")[::2], f"opening after sync {when}")
         lines = reckon.lines_of_journal(read(path))
         if lines[:len(kept)] != kept or not 0 <= len(lines) - len(kept) - out.count(b"\n") <= 1:

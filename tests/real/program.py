@@ -444,11 +444,11 @@ class Applied:
         self.span, self.whole = time.monotonic() - began, read(path)
 
     def check_after_crash(self, path, out, what):
-        """What was answered is in the journal; all lines sent again give the replies and bytes of an unbroken run.
-        Gives the number of whole replies."""
+        """What was answered is in the journal, and at most one command more; all lines sent again give the replies and
+        bytes of an unbroken run. Gives the number of whole replies."""
         same(self.replies[:len(out)], out, f"{what}: replies")
         answered, kept = out.count(b"\n"), reckon.lines_of_journal(read(path))
-        if len(kept) < answered:
+        if not answered <= len(kept) <= answered + 1:
             raise AssertionError(f"{what}: {answered} commands were answered and {len(kept)} are there")
         same((0, self.replies, b""), run(path, "apply", given=self.lines), what)
         same(self.whole, read(path)[:len(self.whole)], f"{what}: the journal")
