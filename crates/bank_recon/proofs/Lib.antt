@@ -9,5 +9,4 @@ pub mod AmountLemmas
 pub mod ColumnLemmas
 pub mod ReadingLemmas
 pub mod TextLemmas
-pub mod AskLemmas
 pub mod ReconLemmas

@@ -17,8 +17,7 @@ use custodial_book::Account;
 use serv_line::push_bytes;
 use serv_rows::push_bad_row;
 use std::alloc::Global;
-use std::sync::ledger::Ledger;
-use svc_base::{OutOfMemory, Steps};
+use svc_base::OutOfMemory;
 use svc_core::Core;
 use svc_replay::LoanBooks;
 
@@ -72,21 +71,19 @@ fn push_found(
 }
 
 /// The reconciliation of a span with what a bank's list says.
-fn text_of_lists<B: LoanBooks, L: Ledger>(
+fn text_of_lists<B: LoanBooks>(
     alloc: Global,
     core: &Core<B>,
     first: u32,
     last: u32,
     input: &Statement,
-    steps: &mut Steps<L>,
 ) -> Result<Vec<u8>, OutOfMemory>
     requires first { 1 ≤ first }
     requires last { first ≤ last }
-    ensures text { IfOk result (λ t. t.items ≡ texts.text_of_recon
+    ensures { IfOk result (λ t. t.items ≡ texts.text_of_recon
         input.now.carried.items input.now.bank.items first last core.now.history) }
-    ensures steps { steps.new ≤ steps.old }
 {
-    let items = items_of_span(alloc, core, &input.carried, first, last, steps)?;
+    let items = items_of_span(alloc, core, &input.carried, first, last)?;
     let recon = recon_of(alloc, &items, &input.bank)?;
     let mut out = Vec::new(alloc);
     push_span(&mut out, first, last)?;
@@ -106,13 +103,12 @@ fn text_of_bad_row(alloc: Global, row: u32, column: u32) -> Result<Vec<u8>, OutO
 /// The text of the reconciliation of the commands from one number to another with a bank's list of at most
 /// 2^26 bytes: the span, the open items, the lines that are not booked, and the sums of both accounts; or the
 /// row and the column of the list that do not fit, alone. Errs only where memory is short.
-pub fn recon_text<B: LoanBooks, L: Ledger>(
+pub fn recon_text<B: LoanBooks>(
     alloc: Global,
     core: &Core<B>,
     first: u32,
     last: u32,
     bytes: &[u8],
-    steps: &mut Steps<L>,
 ) -> Result<Vec<u8>, OutOfMemory>
     requires size { length bytes.now ≤ 2 ^ 26 }
     requires first { 1 ≤ first }
@@ -120,10 +116,9 @@ pub fn recon_text<B: LoanBooks, L: Ledger>(
     ensures text { IfOk result (λ t. texts.IsReconText core.now.history first last bytes.now t.items) }
     ensures only { (text : List ℕ) → texts.IsReconText core.now.history first last bytes.now text
         → IfOk result (λ t. t.items ≡ text) }
-    ensures steps { steps.new ≤ steps.old }
 {
     match items(alloc, bytes) {
-        Ok(input) => text_of_lists(alloc, core, first, last, &input, steps),
+        Ok(input) => text_of_lists(alloc, core, first, last, &input),
         Err(ReconFault::Bad(row, column)) => text_of_bad_row(alloc, row, column),
         Err(ReconFault::OutOfMemory) => Err(OutOfMemory),
     }

@@ -7,10 +7,10 @@ use Rattle.std.proofs.lemmas.List.Sums.{sum_by-append, sum_by-cons, sum_by_more_
 use Rattle.std.proofs.lemmas.Grind.{flat_map-append}
 use Rattle.svc_spec.specs.Accounts.{Account}
 use Rattle.svc_world.specs.World.{Accepted, world}
-use Rattle.serv_rows.specs.Texts.{text_of_bad_row}
 use Rattle.pmi_track.specs.declared.insured_loan.InsuredRow.{InsuredRow}
+use Rattle.pmi_track.specs.declared.output.Output.{Output}
 use Rattle.pmi_track.specs.Rows.{insured_in}
-use Rattle.pmi_track.specs.Texts.{insurance_line, insurance_lines, insurance_text, drop_line, drop_lines, drop_text, row_cost, rows_cost, insurance_cost}
+use Rattle.pmi_track.specs.Texts.{bad_text, row_text, rows_text, file_text, row_cost, rows_cost, insurance_cost}
 
 -- ---- one row more
 
@@ -43,25 +43,15 @@ steps_within f rows i row before so_far after lt is so more =
 
 -- ---- all rows
 
-pub lines_told : (h : List Accepted) (bytes : List ℕ) (rows given : List InsuredRow) (begin out : List ℕ) → insured_in bytes ≡ Some rows → given ≡ rows → begin ≡ []
-    → out ≡ begin ++ flat_map (insurance_line (world h)) given → out ≡ insurance_text h bytes
-unfolding insurance_text
-lines_told h bytes rows given begin out read is empty e =
-    e ∙ ap (λ x. x ++ flat_map (insurance_line (world h)) given) empty ∙ ap (flat_map (insurance_line (world h))) is ∙ sym (ap (insurance_lines (world h)) read)
+pub rows_told : (o : Output) (h : List Accepted) (bytes : List ℕ) (rows given : List InsuredRow) (begin out : List ℕ) → insured_in bytes ≡ Some rows → given ≡ rows → begin ≡ []
+    → out ≡ begin ++ flat_map (row_text o (world h)) given → out ≡ file_text o h bytes
+unfolding file_text
+rows_told o h bytes rows given begin out read is empty e =
+    e ∙ ap (λ x. x ++ flat_map (row_text o (world h)) given) empty ∙ ap (flat_map (row_text o (world h))) is ∙ sym (ap (rows_text o (world h)) read)
 
-pub no_header_told : (h : List Accepted) (bytes begin out : List ℕ) → insured_in bytes ≡ None → begin ≡ [] → out ≡ begin ++ text_of_bad_row 1 1 → out ≡ insurance_text h bytes
-unfolding insurance_text
-no_header_told h bytes begin out read empty e = e ∙ ap (λ x. x ++ text_of_bad_row 1 1) empty ∙ sym (ap (insurance_lines (world h)) read)
-
-pub drops_told : (h : List Accepted) (bytes : List ℕ) (rows given : List InsuredRow) (begin out : List ℕ) → insured_in bytes ≡ Some rows → given ≡ rows → begin ≡ []
-    → out ≡ begin ++ flat_map (drop_line (world h)) given → out ≡ drop_text h bytes
-unfolding drop_text
-drops_told h bytes rows given begin out read is empty e =
-    e ∙ ap (λ x. x ++ flat_map (drop_line (world h)) given) empty ∙ ap (flat_map (drop_line (world h))) is ∙ sym (ap (drop_lines (world h)) read)
-
-pub no_drops_told : (h : List Accepted) (bytes out : List ℕ) → insured_in bytes ≡ None → out ≡ [] → out ≡ drop_text h bytes
-unfolding drop_text
-no_drops_told h bytes out read e = e ∙ sym (ap (drop_lines (world h)) read)
+pub no_header_told : (o : Output) (h : List Accepted) (bytes begin out : List ℕ) → insured_in bytes ≡ None → begin ≡ [] → out ≡ begin ++ bad_text o 1 1 → out ≡ file_text o h bytes
+unfolding file_text
+no_header_told o h bytes begin out read empty e = e ∙ ap (λ x. x ++ bad_text o 1 1) empty ∙ sym (ap (rows_text o (world h)) read)
 
 pub steps_told : (cost : Account → ℕ → ℕ) (h : List Accepted) (bytes : List ℕ) (rows given : List InsuredRow) (old new : ℕ) → insured_in bytes ≡ Some rows → given ≡ rows
     → new ≤ old + sum_by (row_cost cost (world h)) given → new ≤ old + insurance_cost cost h bytes

@@ -15,6 +15,8 @@ use Rattle.serv_rows.specs.Texts.{text_of_bad_row}
 use Rattle.pmi_track.specs.declared.insured_loan.InsuredLoan.{InsuredLoan}
 use Rattle.pmi_track.specs.declared.insured_loan.InsuredRow.{InsuredRow}
 use Rattle.pmi_track.specs.declared.insured_loan.InsuredRow.TheVariants.{Row, Bad}
+use Rattle.pmi_track.specs.declared.output.Output.{Output}
+use Rattle.pmi_track.specs.declared.output.Output.TheVariants.{Lines, Drops}
 use Rattle.pmi_track.specs.declared.pmi_outcome.PmiOutcome.{PmiOutcome}
 use Rattle.pmi_track.specs.declared.pmi_outcome.PmiOutcome.TheVariants.{Runs, Ends}
 use Rattle.pmi_track.specs.declared.pmi_outcome.Cause.{Cause}
@@ -45,27 +47,7 @@ text_of_ending (Runs denial) = codes " runs" ++ option_map_or text_of_denial den
 unfoldable pub text_of_outcome : ℕ → PmiOutcome → List ℕ
 text_of_outcome loan o = ended (codes "pmi " ++ (text_of_number loan ++ text_of_ending o))
 
--- ---- the insurances of a file
-
--- a refusal, or what has become of the loan's insurance
-abbrev pub insurance_by : ℕ → Option Refusal → Option PmiOutcome → List ℕ
-insurance_by loan (Some why) o = text_of_refusal why
-insurance_by loan None o = option_map_or (text_of_outcome loan) o []
-
-abbrev pub insurance_line : World → InsuredRow → List ℕ
-insurance_line w (Row i) = insurance_by i.loan (insurance_refusal w i) (outcome_in w i)
-insurance_line w (Bad row column) = text_of_bad_row row column
-
--- a line for each row; without the header the first column of row 1 is bad
-abbrev pub insurance_lines : World → Option (List InsuredRow) → List ℕ
-insurance_lines w None = text_of_bad_row 1 1
-insurance_lines w (Some rows) = flat_map (insurance_line w) rows
-
--- what is written of a file's insurances, after the accepted commands
-unfoldable pub insurance_text : List Accepted → List ℕ → List ℕ
-insurance_text h bytes = insurance_lines (world h) (insured_in bytes)
-
--- ---- the commands that drop the lines of ended insurances
+-- ---- the command that drops the escrow line of an ended insurance
 
 -- the key of such a command: both numbers, so that a file may come twice
 abbrev pub drop_key : ℕ → ℕ → List ℕ
@@ -79,23 +61,48 @@ drop_words loan line = number_field (codes "drop") loan ++ (32 ∷ text_of_numbe
 unfoldable pub text_of_drop : ℕ → ℕ → List ℕ
 text_of_drop loan line = ended (line_of (request.Do (drop_key loan line) (command.Drop loan line)))
 
--- the line of a loan whose insurance has ended
-abbrev pub drop_by : InsuredLoan → Option Refusal → Option PmiOutcome → List ℕ
-drop_by i None (Some (Ends day cause)) = text_of_drop i.loan i.line
-drop_by i why o = []
+-- ---- what is written of a file: its insurances, or the commands that drop the lines of ended ones
 
-abbrev pub drop_line : World → InsuredRow → List ℕ
-drop_line w (Row i) = drop_by i (insurance_refusal w i) (outcome_in w i)
-drop_line w (Bad row column) = []
+-- of a loan that something has become of
+abbrev pub outcome_text : Output → InsuredLoan → PmiOutcome → List ℕ
+outcome_text Lines i o = text_of_outcome i.loan o
+outcome_text Drops i (Ends day cause) = text_of_drop i.loan i.line
+outcome_text Drops i (Runs denial) = []
 
--- nothing is written where the header is not there
-abbrev pub drop_lines : World → Option (List InsuredRow) → List ℕ
-drop_lines w None = []
-drop_lines w (Some rows) = flat_map (drop_line w) rows
+-- of one that is refused
+abbrev pub refusal_text : Output → Refusal → List ℕ
+refusal_text Lines why = text_of_refusal why
+refusal_text Drops why = []
 
--- the commands of a file's rows whose insurance has ended, after the accepted commands
-unfoldable pub drop_text : List Accepted → List ℕ → List ℕ
-drop_text h bytes = drop_lines (world h) (insured_in bytes)
+-- of a row that is bad
+abbrev pub bad_text : Output → ℕ → ℕ → List ℕ
+bad_text Lines row column = text_of_bad_row row column
+bad_text Drops row column = []
+
+abbrev pub loan_text : Output → InsuredLoan → Option Refusal → Option PmiOutcome → List ℕ
+loan_text out i (Some why) o = refusal_text out why
+loan_text out i None o = option_map_or (outcome_text out i) o []
+
+abbrev pub row_text : Output → World → InsuredRow → List ℕ
+row_text out w (Row i) = loan_text out i (insurance_refusal w i) (outcome_in w i)
+row_text out w (Bad row column) = bad_text out row column
+
+-- of all rows; without the header the first column of row 1 is bad
+abbrev pub rows_text : Output → World → Option (List InsuredRow) → List ℕ
+rows_text out w None = bad_text out 1 1
+rows_text out w (Some rows) = flat_map (row_text out w) rows
+
+-- of a file, after the accepted commands
+unfoldable pub file_text : Output → List Accepted → List ℕ → List ℕ
+file_text out h bytes = rows_text out (world h) (insured_in bytes)
+
+-- what is written of a file's insurances
+abbrev pub insurance_text : List Accepted → List ℕ → List ℕ
+insurance_text h bytes = file_text Lines h bytes
+
+-- the commands of a file's rows whose insurance has ended
+abbrev pub drop_text : List Accepted → List ℕ → List ℕ
+drop_text h bytes = file_text Drops h bytes
 
 -- ---- steps
 

@@ -1,10 +1,8 @@
 //! What is written of a file of insured loans.
 
-ghost use Rattle.std.specs.Prelude.{◌≡◌, ◌+◌, ◌≤◌, ◌++◌, ◌^◌, ℕ, IfOk, OnOk, length, nat_eq, None, Some};
+ghost use Rattle.std.specs.Prelude.{◌≡◌, ◌+◌, ◌≤◌, ◌++◌, ◌^◌, IfOk, OnOk, length, nat_eq};
 ghost use Rattle.std.specs.HashMap.{get};
 ghost use Rattle.std.specs.List.{All, flat_map, sum_by};
-ghost use Rattle.svc_spec.specs.Accounts.{Account};
-ghost use Rattle.svc_spec.specs.Months.{cost_of_month};
 ghost use Rattle.svc_world.specs.World.{world};
 ghost use Rattle.pmi_track.specs.Boardings.{IsTable};
 ghost use Rattle.pmi_track.specs.Insured.{outcome_cost, insurance_refusal, outcome_in};
@@ -14,12 +12,9 @@ ghost use Rattle.pmi_track.specs.Texts as texts;
 use crate::boarded::boardings;
 use crate::deciding::outcome_with;
 use crate::insured_loan::{InsuredLoan, InsuredRow};
-use crate::pmi_outcome::PmiOutcome;
+use crate::output::{Output, push_bad, push_loan, push_refused};
 use crate::reading::insured;
-use crate::texts::{push_drop, push_outcome};
 use serv_import::ImportFault;
-use serv_line::push_refusal;
-use serv_rows::push_bad_row;
 use std::alloc::Global;
 use std::collections::HashMap;
 use std::sync::ledger::Ledger;
@@ -41,13 +36,7 @@ pub fn pmi_text<B: LoanBooks, L: Ledger>(
     ensures text { IfOk result (λ text. text.items ≡ texts.insurance_text core.now.history bytes.now) }
     ensures steps { steps.new ≤ steps.old + texts.insurance_cost B.cost core.now.history bytes.now }
 {
-    let mut out = Vec::new(alloc);
-    match insured(alloc, bytes) {
-        Ok(rows) => push_lines(alloc, &mut out, core, &rows, steps)?,
-        Err(ImportFault::Header) => push_bad_row(&mut out, 1, 1)?,
-        Err(ImportFault::OutOfMemory) => return Err(OutOfMemory),
-    }
-    Ok(out)
+    file_text(alloc, core, bytes, Output::Lines, steps)
 }
 
 /// For each row of a file of insured loans whose insurance has ended, the line of the command that drops the
@@ -63,73 +52,91 @@ pub fn pmi_drops<B: LoanBooks, L: Ledger>(
     ensures text { IfOk result (λ text. text.items ≡ texts.drop_text core.now.history bytes.now) }
     ensures steps { steps.new ≤ steps.old + texts.insurance_cost B.cost core.now.history bytes.now }
 {
+    file_text(alloc, core, bytes, Output::Drops, steps)
+}
+
+/// What is written of a file of insured loans.
+fn file_text<B: LoanBooks, L: Ledger>(
+    alloc: Global,
+    core: &Core<B>,
+    bytes: &[u8],
+    output: Output,
+    steps: &mut Steps<L>,
+) -> Result<Vec<u8>, OutOfMemory>
+    requires size { length bytes.now ≤ 2 ^ 26 }
+    ensures text { IfOk result (λ text. text.items ≡ texts.file_text output core.now.history bytes.now) }
+    ensures steps { steps.new ≤ steps.old + texts.insurance_cost B.cost core.now.history bytes.now }
+{
     let mut out = Vec::new(alloc);
     match insured(alloc, bytes) {
-        Ok(rows) => push_drops(alloc, &mut out, core, &rows, steps)?,
-        Err(ImportFault::Header) => {}
+        Ok(rows) => push_rows(alloc, &mut out, core, &rows, output, steps)?,
+        Err(ImportFault::Header) => push_bad(&mut out, output, 1, 1)?,
         Err(ImportFault::OutOfMemory) => return Err(OutOfMemory),
     }
     Ok(out)
 }
 
-/// Appends a line for each row.
-fn push_lines<B: LoanBooks, L: Ledger>(
+/// Appends what is written of each row.
+fn push_rows<B: LoanBooks, L: Ledger>(
     alloc: Global,
     out: &mut Vec<u8>,
     core: &Core<B>,
     rows: &[InsuredRow],
+    output: Output,
     steps: &mut Steps<L>,
 ) -> Result<(), OutOfMemory>
     requires rows { All IsRead rows.now }
     ensures pushed { OnOk result (out.new.items
-        ≡ out.old.items ++ flat_map (texts.insurance_line (world core.now.history)) rows.now) }
+        ≡ out.old.items ++ flat_map (texts.row_text output (world core.now.history)) rows.now) }
     ensures steps { steps.new ≤ steps.old
         + sum_by (texts.row_cost B.cost (world core.now.history)) rows.now }
 {
     let table = boardings(alloc, core)?;
     for row in rows {
-        push_line(out, core, &table, row, steps)?;
+        push_row(out, core, &table, row, output, steps)?;
     }
     Ok(())
 }
 
-/// Appends the line of a row.
-fn push_line<B: LoanBooks, L: Ledger>(
+/// Appends what is written of a row.
+fn push_row<B: LoanBooks, L: Ledger>(
     out: &mut Vec<u8>,
     core: &Core<B>,
     table: &HashMap<u32, Terms>,
     row: &InsuredRow,
+    output: Output,
     steps: &mut Steps<L>,
 ) -> Result<(), OutOfMemory>
     requires table { IsTable (get nat_eq table.now) core.now.history }
     requires row { IsRead row.now }
     ensures pushed { OnOk result (out.new.items
-        ≡ out.old.items ++ texts.insurance_line (world core.now.history) row.now) }
+        ≡ out.old.items ++ texts.row_text output (world core.now.history) row.now) }
     ensures steps { steps.new ≤ steps.old + texts.row_cost B.cost (world core.now.history) row.now }
 {
     match row {
-        InsuredRow::Row(insured) => push_insurance(out, core, table, insured, steps),
-        InsuredRow::Bad(row, column) => push_bad_row(out, *row, *column),
+        InsuredRow::Row(insured) => push_insured(out, core, table, insured, output, steps),
+        InsuredRow::Bad(row, column) => push_bad(out, output, *row, *column),
     }
 }
 
-/// Appends what has become of a loan's insurance, or why that is refused.
-fn push_insurance<B: LoanBooks, L: Ledger>(
+/// Appends what is written of an insured loan.
+fn push_insured<B: LoanBooks, L: Ledger>(
     out: &mut Vec<u8>,
     core: &Core<B>,
     table: &HashMap<u32, Terms>,
     insured: &InsuredLoan,
+    output: Output,
     steps: &mut Steps<L>,
 ) -> Result<(), OutOfMemory>
     requires table { IsTable (get nat_eq table.now) core.now.history }
     ensures pushed { OnOk result (out.new.items ≡ out.old.items
-        ++ texts.insurance_by insured.now.loan (insurance_refusal (world core.now.history) insured.now)
+        ++ texts.loan_text output insured.now (insurance_refusal (world core.now.history) insured.now)
         (outcome_in (world core.now.history) insured.now)) }
     ensures steps { steps.new ≤ steps.old + outcome_cost B.cost (world core.now.history) insured.now }
 {
     match outcome_with(core, insured, &terms_in(table, insured.loan), steps) {
-        Ok(outcome) => push_outcome(out, insured.loan, &outcome),
-        Err(CoreFault::Refused(why)) => push_refusal(out, &why),
+        Ok(outcome) => push_loan(out, output, insured, &outcome),
+        Err(CoreFault::Refused(why)) => push_refused(out, output, &why),
         Err(CoreFault::OutOfMemory) => Err(OutOfMemory),
     }
 }
@@ -139,66 +146,4 @@ fn terms_in(table: &HashMap<u32, Terms>, loan: u32) -> Option<Terms>
     ensures { result ≡ get nat_eq table.now loan }
 {
     table.get(&loan).copied()
-}
-
-/// Appends the drop of each row whose insurance has ended.
-fn push_drops<B: LoanBooks, L: Ledger>(
-    alloc: Global,
-    out: &mut Vec<u8>,
-    core: &Core<B>,
-    rows: &[InsuredRow],
-    steps: &mut Steps<L>,
-) -> Result<(), OutOfMemory>
-    requires rows { All IsRead rows.now }
-    ensures pushed { OnOk result (out.new.items
-        ≡ out.old.items ++ flat_map (texts.drop_line (world core.now.history)) rows.now) }
-    ensures steps { steps.new ≤ steps.old
-        + sum_by (texts.row_cost B.cost (world core.now.history)) rows.now }
-{
-    let table = boardings(alloc, core)?;
-    for row in rows {
-        push_row_drop(out, core, &table, row, steps)?;
-    }
-    Ok(())
-}
-
-/// Appends the drop of a row, where its insurance has ended.
-fn push_row_drop<B: LoanBooks, L: Ledger>(
-    out: &mut Vec<u8>,
-    core: &Core<B>,
-    table: &HashMap<u32, Terms>,
-    row: &InsuredRow,
-    steps: &mut Steps<L>,
-) -> Result<(), OutOfMemory>
-    requires table { IsTable (get nat_eq table.now) core.now.history }
-    requires row { IsRead row.now }
-    ensures pushed { OnOk result (out.new.items
-        ≡ out.old.items ++ texts.drop_line (world core.now.history) row.now) }
-    ensures steps { steps.new ≤ steps.old + texts.row_cost B.cost (world core.now.history) row.now }
-{
-    match row {
-        InsuredRow::Row(insured) => push_ended(out, core, table, insured, steps),
-        InsuredRow::Bad(_, _) => Ok(()),
-    }
-}
-
-/// Appends the drop of a loan's line, where its insurance has ended.
-fn push_ended<B: LoanBooks, L: Ledger>(
-    out: &mut Vec<u8>,
-    core: &Core<B>,
-    table: &HashMap<u32, Terms>,
-    insured: &InsuredLoan,
-    steps: &mut Steps<L>,
-) -> Result<(), OutOfMemory>
-    requires table { IsTable (get nat_eq table.now) core.now.history }
-    ensures pushed { OnOk result (out.new.items ≡ out.old.items
-        ++ texts.drop_by insured.now (insurance_refusal (world core.now.history) insured.now)
-        (outcome_in (world core.now.history) insured.now)) }
-    ensures steps { steps.new ≤ steps.old + outcome_cost B.cost (world core.now.history) insured.now }
-{
-    match outcome_with(core, insured, &terms_in(table, insured.loan), steps) {
-        Ok(PmiOutcome::Ends(_, _)) => push_drop(out, insured.loan, insured.line),
-        Ok(PmiOutcome::Runs(_)) | Err(CoreFault::Refused(_)) => Ok(()),
-        Err(CoreFault::OutOfMemory) => Err(OutOfMemory),
-    }
 }

@@ -10,6 +10,7 @@ mod fields;
 mod files;
 mod insured_loan;
 mod laws;
+mod output;
 mod pmi_outcome;
 mod reading;
 mod request;

@@ -1,55 +1,27 @@
 -- What the statement is made of: the answers that it asks for, and each loan's sums.
-use Rattle.std.proofs.Common.{◌≡◌, ℕ, zero, suc, add-one, ◌+◌, ◌≤◌, ◌<◌, true, false, List, [], ◌∷◌, length, take, get_or, arith, refl, sym, ap, subst, ◌∙◌}
-use Rattle.std.specs.Prelude.{◌==◌, ◌||◌, nat_lt, is_some, Option, Some, None, pos, if◌then◌else◌}
+use Rattle.std.proofs.Common.{◌≡◌, ℕ, zero, suc, add-one, ◌+◌, ◌<◌, true, List, [], ◌∷◌, length, take, get_or, arith, refl, sym, ap, subst, ◌∙◌}
+use Rattle.std.specs.Prelude.{is_some, Option, Some, None, pos}
 use Rattle.std.specs.List.{find}
 use Rattle.std.specs.Option.{option_map, option_map_or}
-use Rattle.std.proofs.lemmas.Bool.Decides.{nat_tests}
 use Rattle.svc_types.specs.declared.replies.Refusal.{Refusal}
 use Rattle.svc_types.specs.declared.replies.Refusal.TheVariants as why_is
 use Rattle.svc_types.specs.declared.requests.Query.TheVariants as query
 use Rattle.custodial_book.specs.declared.row.Row.{Row}
-use Rattle.custodial_book.specs.Rows.{rows_of_command}
 use Rattle.svc_world.specs.declared.answer.Answer.{Answer}
 use Rattle.svc_world.specs.declared.answer.Answer.TheVariants as answer
 use Rattle.svc_world.specs.declared.custody.Custody.{Custody}
 use Rattle.svc_world.specs.Held.{Held, find_loan, books_now}
 use Rattle.svc_world.specs.World.{Accepted, world}
 use Rattle.svc_world.specs.Answers.{books_answer, answer_from, answer_to, query_refusal, refusal_from}
-use Rattle.svc_world.specs.Custody.{custody_of, rows_in}
-use Rattle.svc_world.specs.Desk.{postings}
+use Rattle.svc_world.specs.Custody.{custody_of}
 use Rattle.svc_world.specs.Refusals.{Case}
-use Rattle.svc_world.proofs.DeskLemmas.{postings_count}
 use Rattle.svc_core.specs.declared.fault.CoreFault.{CoreFault}
 use Rattle.svc_core.specs.declared.fault.CoreFault.TheVariants as fault
 use Rattle.svc_core.specs.Core.{IsQueryFault}
 use Rattle.servicing_transfer.specs.declared.row_sums.RowSums.{RowSums}
 use Rattle.servicing_transfer.specs.declared.statement_line.StatementLine.{StatementLine}
-use Rattle.servicing_transfer.specs.RowSums.{HasRows, AreRowsOf, with_own, with_rows}
+use Rattle.servicing_transfer.specs.RowSums.{with_own, with_rows}
 use Rattle.servicing_transfer.specs.StatementAnswers.{IsBooks, IsCustodial, IsCustodyOf, IsLineOf, line_found}
-
--- ---- rows
-
-pub rows_not_refused : (h : List Accepted) (number : ℕ) (f : CoreFault) (why : Refusal) → 1 ≤ number → number ≤ length h → IsQueryFault (query_refusal h (query.Rows number)) f → f ≡ fault.Refused why → ⊥
-unfolding refusal_from
-rows_not_refused h number f why some there fails is =
-    let count = postings_count h in
-    let n = length (postings h) in
-    let zero : (number == 0) ≡ false = grind (arith, nat_tests) in
-    let past : nat_lt n number ≡ false = grind (arith, nat_tests) in
-    let refused = subst (IsQueryFault (query_refusal h (query.Rows number))) is fails in
-    let none = ap (λ a. option_map (λ (c : Case). c.why) (if a || nat_lt n number then Some (record { holds = a || nat_lt n number; why = why_is.NoSuchEntry }) else None)) zero ∙ ap (λ b. option_map (λ (c : Case). c.why) (if b then Some (record { holds = b; why = why_is.NoSuchEntry }) else None)) past in
-    absurd (never why (sym none ∙ refused))
-  where
-    never : (x : Refusal) → None ≡ Some x → ⊥
-    never x e = cc
-
-pub has_rows : (h : List Accepted) (number : ℕ) (a : Answer) → answer_to h (query.Rows number) ≡ Some a → HasRows a
-unfolding answer_from
-has_rows h number a e = let is : answer.Rows number (rows_of_command number (rows_in h)) ≡ a = cc in subst HasRows is tt
-
-pub are_rows : (h : List Accepted) (number : ℕ) (a : Answer) (r : List Row) → answer_to h (query.Rows number) ≡ Some a → AreRowsOf a r → r ≡ rows_of_command number (rows_in h)
-unfolding answer_from
-are_rows h number a r e are = let is : answer.Rows number (rows_of_command number (rows_in h)) ≡ a = cc in subst (λ x. AreRowsOf x r) (sym is) are
 
 -- ---- the custodial accounts
 

@@ -1,5 +1,5 @@
 -- What the custodial rows of a loan say of it.
-use Rattle.std.specs.Prelude.{◌≡◌, ℕ, ⊤, ◌==◌, if◌then◌else◌, List, [], ◌∷◌, ℤ, pos, ◌+ℤ◌, Option, Some, None}
+use Rattle.std.specs.Prelude.{ℕ, ◌==◌, if◌then◌else◌, List, [], ◌∷◌, ℤ, pos, ◌+ℤ◌, Option, Some, None}
 use Rattle.std.specs.Int.{w64, int_wrap}
 use Rattle.svc_base.specs.Sums.{total_by}
 use Rattle.custodial_book.specs.declared.part.Account.TheVariants.{P}
@@ -7,18 +7,7 @@ use Rattle.custodial_book.specs.declared.part.Part.{Part}
 use Rattle.custodial_book.specs.declared.part.Part.TheVariants.{PiAdvance, EscrowAdvance}
 use Rattle.custodial_book.specs.declared.row.Row.{Row}
 use Rattle.custodial_book.specs.Rows.{moved}
-use Rattle.svc_world.specs.declared.answer.Answer.{Answer}
-use Rattle.svc_world.specs.declared.answer.Answer.TheVariants as answer
 use Rattle.servicing_transfer.specs.declared.row_sums.RowSums.{RowSums}
-
--- an answer with rows, and these
-abbrev pub HasRows : Answer → Type 0
-HasRows (answer.Rows number rows) = ⊤
-HasRows a = ⊥
-
-abbrev pub AreRowsOf : Answer → List Row → Type 0
-AreRowsOf (answer.Rows number rows) r = r ≡ rows
-AreRowsOf a r = ⊥
 
 -- what a row says, where it is of the loan
 abbrev pub of_loan : ℕ → (Part → ℤ → ℤ) → Row → ℤ

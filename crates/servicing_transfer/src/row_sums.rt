@@ -1,21 +1,16 @@
 //! What custodial rows add up to for each loan.
 
-ghost use Rattle.std.specs.Prelude.{◌≡◌, ◌+◌, ◌≤◌, ◌<◌, ◌+ℤ◌, ℕ, nat_eq, length, IfOk, OnOk};
+ghost use Rattle.std.specs.Prelude.{◌≡◌, ◌+ℤ◌, ℕ, nat_eq, IfOk, OnOk};
 ghost use Rattle.std.specs.HashMap.{get};
-ghost use Rattle.std.specs.List.{filter};
-ghost use Rattle.custodial_book.specs.Rows.{rows_of_command};
 ghost use Rattle.svc_world.specs.Custody.{rows_in};
 ghost use Rattle.servicing_transfer.specs.RowSums as rule;
 
 use custodial_book::{Part, Row};
 use std::alloc::Global;
 use std::collections::HashMap;
-use std::sync::ledger::Ledger;
-use svc_base::{Cents, OutOfMemory, Steps};
-use svc_core::{Core, CoreFault};
+use svc_base::{Cents, OutOfMemory};
+use svc_core::Core;
 use svc_replay::LoanBooks;
-use svc_types::Query;
-use svc_world::{Answer, RowList};
 
 /// What the rows of a loan add up to: escrow advanced, principal and interest held, and advanced. The sums
 /// are kept in 64 bits: on the way they may leave them, and come back.
@@ -105,49 +100,17 @@ fn add_rows(sums: &mut HashMap<u32, RowSums>, rows: &[Row]) -> Result<(), OutOfM
     Ok(())
 }
 
-/// The rows that an answer has.
-fn rows_from(answer: Answer) -> RowList
-    requires { rule.HasRows answer }
-    ensures { rule.AreRowsOf answer result }
-{
-    match answer {
-        Answer::Rows { rows, .. } => rows,
-        _ => unreachable!(),
-    }
-}
-
-/// The rows of the command with a number.
-fn rows_of<B: LoanBooks, L: Ledger>(
-    core: &Core<B>,
-    number: u32,
-    steps: &mut Steps<L>,
-) -> Result<RowList, OutOfMemory>
-    requires some { 1 ≤ number }
-    requires there { number ≤ length core.now.history }
-    ensures rows { IfOk result (λ r. r ≡ rows_of_command number (rows_in core.now.history)) }
-    ensures steps { steps.new ≤ steps.old }
-{
-    match core.ask(&Query::Rows(number), steps) {
-        Ok(answer) => Ok(rows_from(answer)),
-        Err(CoreFault::Refused(_)) => unreachable!(),
-        Err(CoreFault::OutOfMemory) => Err(OutOfMemory),
-    }
-}
-
 /// The sums of all rows, for each loan that has some.
-pub(crate) fn row_sums<B: LoanBooks, L: Ledger>(
+pub(crate) fn row_sums<B: LoanBooks>(
     alloc: Global,
     core: &Core<B>,
-    steps: &mut Steps<L>,
 ) -> Result<HashMap<u32, RowSums>, OutOfMemory>
-    ensures sums { IfOk result (λ m. (id : ℕ) → rule.or_none (get nat_eq m id)
+    ensures { IfOk result (λ m. (id : ℕ) → rule.or_none (get nat_eq m id)
         ≡ rule.kept_sums id (rows_in core.now.history)) }
-    ensures steps { steps.new ≤ steps.old }
 {
     let mut sums = HashMap::new(alloc);
     for done in 0..core.count() {
-        let rows = rows_of(core, done + 1, steps)?;
-        add_rows(&mut sums, rows.slice())?;
+        add_rows(&mut sums, core.rows(done + 1))?;
     }
     Ok(sums)
 }

@@ -101,7 +101,7 @@ pub(crate) fn core_lines<B: LoanBooks, L: Ledger>(
     ensures steps { steps.new ≤ steps.old }
 {
     let loans = loan_numbers(alloc, core)?;
-    let sums = row_sums(alloc, core, steps)?;
+    let sums = row_sums(alloc, core)?;
     lines_of(alloc, core, &loans, &sums, steps)
 }
 

@@ -1,16 +1,13 @@
 -- The entry of an escrow analysis that no rule refuses.
-use Rattle.std.proofs.Common.{◌≡◌, ℕ, ◌+◌, ◌<◌, true, false, cond, List, [], ◌∷◌, ◌++◌, length, arith, refl, sym, ap, subst, ◌∙◌}
+use Rattle.std.proofs.Common.{◌≡◌, ℕ, ◌+◌, true, false, cond, List, [], ◌∷◌, ◌++◌, refl, sym, ap, subst, ◌∙◌}
 use Rattle.std.specs.Prelude.{◌==◌, Some, None}
 use Rattle.std.specs.Option.{option_map_or}
-use Rattle.std.proofs.lemmas.Bool.Decides.{nat_tests}
-use Rattle.svc_base.specs.Calendar.{month_of}
 use Rattle.svc_types.specs.declared.account.Act.TheVariants as act
 use Rattle.svc_types.specs.declared.escrow.Plan.{Plan}
 use Rattle.svc_types.specs.declared.escrow.Settled.{Settled}
 use Rattle.svc_types.specs.declared.escrow.Figures.{Figures}
 use Rattle.svc_types.specs.declared.requests.Command.TheVariants as command
 use Rattle.svc_types.specs.declared.replies.Extra.TheVariants.{Plain, Analysed}
-use Rattle.svc_types.specs.declared.replies.Refusal.TheVariants.{BadPlan}
 use Rattle.svc_spec.specs.Books.{IsAct}
 use Rattle.period_adjust.specs.Sealed.{State, reporting}
 use Rattle.svc_world.specs.Held.{Held, find_loan, changed, with_entry}
@@ -18,18 +15,15 @@ use Rattle.svc_world.specs.Analysing.{loan_plan_fault, settlement_of, settled_fi
 use Rattle.svc_world.specs.Reports.{months_of, changes_of}
 use Rattle.svc_world.specs.World.{World, entry, with_analysis, loans_after, seals_after, after}
 use Rattle.svc_world.specs.Judging.{extra_of}
-use Rattle.svc_world.specs.Refusals.{refusal_of, case_of, full_of_entries, adjustments_full, analyse_cases}
-use Rattle.svc_world.proofs.AnalysisLemmas.{is_settlement}
-use Rattle.svc_world.proofs.CaseLemmas.{past, past_of, room_left}
-use Rattle.svc_world.proofs.NamedLoans.{named_loan, asked}
-use Rattle.svc_world.proofs.AnalysedWorlds.{analysed_entry}
+use Rattle.svc_world.specs.Refusals.{refusal_of}
+use Rattle.svc_world.specs.Changing.{MayEnter, world_with}
+use Rattle.svc_world.proofs.NamedLoans.{named_loan}
+use Rattle.svc_world.proofs.AnalysedWorlds.{analyse_enters}
 use Rattle.svc_loan.specs.Kept.{KeptLoan}
 use Rattle.svc_loan.specs.Loans.{KeptLoans, OfLoan, held_in}
 use Rattle.svc_loan.proofs.KeptLemmas.{of_found, found_of}
 use Rattle.svc_core.specs.State.{world_of, IsState}
-use Rattle.svc_core.specs.Changing.{MayEnter, world_with}
 use Rattle.svc_core.proofs.KeptInLemmas.{IsKeptOf, kept_of}
-use Rattle.svc_core.proofs.EnteringLemmas.{may_enter}
 
 -- an analysis that is not refused
 pub record IsAnalysing (n today : ℕ) (loans : KeptLoans) (seals : State) (id : ℕ) (plan : Plan) : Type 0 where
@@ -44,23 +38,16 @@ pub record IsAnalysing (n today : ℕ) (loans : KeptLoans) (seals : State) (id :
 pub analysing : (n today : ℕ) (loans : KeptLoans) (seals : State) (id : ℕ) (plan : Plan) → IsState n today loans seals → refusal_of n (world_of today loans seals) (command.Analyse id plan) ≡ None → IsAnalysing n today loans seals id plan
 analysing n today loans seals id plan s e =
     let w = world_of today loans seals in
-    let q = asked n w id (analyse_cases w plan) (command.Analyse id plan) refl e in
-    let l = q.loan.loan in
-    let is = named_loan n w id l s.world q.loan.found in
-    let one = past (full_of_entries l) (case_of BadPlan (loan_plan_fault l plan) ++ (adjustments_full w (month_of w.today) ∷ [])) q.loan.rest in
-    let two = past_of BadPlan (loan_plan_fault l plan) (adjustments_full w (month_of w.today) ∷ []) one.rest in
-    let n1 = one.no in
-    let few : length l.account.entries < 4_096 = grind (arith, nat_tests) in
-    let room = room_left w (month_of w.today) two.rest in
-    let it = is_settlement n w.today l plan is.held two.no in
+    let a = analyse_enters n id plan w s.world e in
+    let found : find_loan id (held_in loans.loans) ≡ Some a.loan = a.may.found ∙ ap Some a.same in
     record {
-      loan = l;
-      kept = kept_of id loans.loans l q.loan.found;
-      found = q.loan.found;
-      today_is = is.held.today;
-      lawful = two.no;
-      takes = it.act;
-      may = may_enter n id today w (act.Analyse (settlement_of l plan)) l q.few q.loan.found (analysed_entry n w l plan s.world is.held few room it);
+      loan = a.loan;
+      kept = kept_of id loans.loans a.loan found;
+      found = found;
+      today_is = (named_loan n w id a.loan s.world found).held.today;
+      lawful = a.lawful;
+      takes = a.may.act;
+      may = a.may;
     }
 
 -- ---- what is asked of the loan

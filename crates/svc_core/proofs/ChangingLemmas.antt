@@ -17,6 +17,7 @@ use Rattle.svc_world.specs.Held.{Held, find_loan, boarded_month, changed}
 use Rattle.svc_world.specs.LoanDues.{due_of}
 use Rattle.svc_world.specs.Reports.{months_of, changes_of}
 use Rattle.svc_world.specs.World.{World}
+use Rattle.svc_world.specs.Changing.{world_with}
 use Rattle.svc_world.proofs.CarryLemmas.{due_small}
 use Rattle.svc_world.proofs.AddUpLemmas.{may_record}
 use Rattle.svc_world.proofs.LoanListLemmas.{find_changed}
@@ -29,7 +30,7 @@ use Rattle.svc_loan.proofs.KeptLemmas.{of_found, found_of}
 use Rattle.svc_custody.specs.Cash.{IsKeptIn}
 use Rattle.svc_core.specs.State.{world_of, IsState}
 use Rattle.svc_core.specs.Costs.{changing_cost, entering_cost}
-use Rattle.svc_core.specs.Changing.{dues_since, world_with}
+use Rattle.svc_core.specs.Changing.{dues_since}
 use Rattle.svc_core.proofs.KeptInLemmas.{kept_on, changed_stay, kept_all, held_found, kept_of, dues_to_end}
 
 -- ---- a change of a loan from a month on, and the loans after it

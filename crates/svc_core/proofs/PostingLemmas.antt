@@ -8,7 +8,7 @@ use Rattle.period_adjust.specs.Conditions.{last_month, count_held}
 use Rattle.svc_world.specs.declared.desk.BooksStatus.{BooksStatus}
 use Rattle.svc_world.specs.Refusals.{expected_close}
 use Rattle.svc_world.specs.Desk.{next_remit_of, status_of, Posting, nth_posting, posting_under, postings, postings_from}
-use Rattle.svc_core.specs.Posted.{number_from, number_of, postings_in, replies_from, replies_to}
+use Rattle.svc_core.specs.Posted.{number_from, postings_in, replies_from, replies_to}
 
 abbrev pub posting : Accepted → Reply → Posting
 posting a r = record { key = a.key; command = a.command; reply = r }

@@ -22,6 +22,7 @@ use Rattle.svc_world.specs.LoanDues.{type_change}
 use Rattle.svc_world.specs.Reports.{months_of, changes_of}
 use Rattle.svc_world.specs.World.{World, loans_after, seals_after, after}
 use Rattle.svc_world.specs.Refusals.{case, case_of, first_of, refusal_of, line_cases, has_line, no_such_line, retype_cases, with_last}
+use Rattle.svc_world.specs.Changing.{world_with}
 use Rattle.svc_world.proofs.CaseLemmas.{past, past_last}
 use Rattle.svc_world.proofs.NamedLoans.{named_loan, asked}
 use Rattle.svc_world.proofs.QuietWorlds.{IsQuiet, quiet_none}
@@ -34,7 +35,6 @@ use Rattle.svc_loan.specs.Loans.{KeptLoans, OfLoan, held_in}
 use Rattle.svc_loan.proofs.KeptLemmas.{of_found, found_of}
 use Rattle.svc_custody.specs.Cash.{IsKeptIn}
 use Rattle.svc_core.specs.State.{world_of, IsState}
-use Rattle.svc_core.specs.Changing.{world_with}
 use Rattle.svc_core.proofs.KeptInLemmas.{kept_on, changed_stay, kept_all, kept_of}
 use Rattle.svc_core.proofs.ChangingLemmas.{AreChanged, same_world}
 

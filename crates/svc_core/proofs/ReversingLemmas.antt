@@ -8,41 +8,22 @@ use Rattle.std.proofs.Common.{arith}
 use Rattle.svc_base.specs.Calendar.{month_of}
 use Rattle.svc_types.specs.declared.account.Entry.{Entry}
 use Rattle.svc_types.specs.declared.requests.Command.TheVariants as command
-use Rattle.svc_types.specs.declared.replies.Refusal.TheVariants.{AlreadyReversed, NotReversible}
 use Rattle.svc_spec.specs.Accounts.{Account, entry_of, reverser_of}
 use Rattle.period_adjust.specs.Sealed.{State}
 use Rattle.svc_world.specs.Held.{Held, find_loan, changed, with_reversal}
 use Rattle.svc_world.specs.World.{World, loans_after, seals_after, after}
-use Rattle.svc_world.specs.Refusals.{case, first_of, refusal_of, is_analysis, adjustments_full, entry_reversal_cases, reversal_cases}
-use Rattle.svc_world.proofs.CaseLemmas.{past, past_of, HasRoom, room_left}
+use Rattle.svc_world.specs.Refusals.{refusal_of, reversal_cases}
+use Rattle.svc_world.specs.Changing.{world_with}
 use Rattle.svc_world.proofs.NamedLoans.{named_loan, room_enough, asked}
 use Rattle.svc_world.proofs.ChangedWorlds.{IsChange}
-use Rattle.svc_world.proofs.LoanWorlds.{reversal_change}
+use Rattle.svc_world.proofs.LoanWorlds.{reversible, reversal_change}
 use Rattle.svc_loan.specs.Kept.{KeptLoan}
 use Rattle.svc_loan.specs.Loans.{KeptLoans, OfLoan, held_in, closed_in, remitted_in}
 use Rattle.svc_loan.proofs.KeptLemmas.{of_found, found_of}
 use Rattle.svc_core.specs.State.{world_of, IsState}
 use Rattle.svc_core.specs.Costs.{changing_cost, entering_cost, reversing_cost, accepting_cost}
-use Rattle.svc_core.specs.Changing.{world_with}
 use Rattle.svc_core.proofs.KeptInLemmas.{kept_of, held_found}
 use Rattle.svc_core.proofs.ChangingLemmas.{IsChanging, AreChanged, loan_after}
-
--- the entry that is reversed
-pub record IsReversal (w : World) (number : ℕ) (l : Held) : Type 0 where
-  pub entry : Entry
-  pub found : entry_of l.account number ≡ Some entry
-  pub live : reverser_of l.account number ≡ None
-  pub room : HasRoom w (month_of entry.day)
-
-reversal_of : (w : World) (number : ℕ) (l : Held) → first_of (reversal_cases w number l) ≡ None → IsReversal w number l
-reversal_of w number l e =
-    elim (entry_of l.account number) as (λ o. entry_of l.account number ≡ o → first_of (entry_reversal_cases w (reverser_of l.account number) o) ≡ None → IsReversal w number l) [
-      | None ↦ λ is none. absurd (cc)
-      | Some x ↦ λ is none.
-          let one = past_of AlreadyReversed (reverser_of l.account number) (case (is_analysis x.act) NotReversible ∷ adjustments_full w (month_of x.day) ∷ []) none in
-          let two = past (case (is_analysis x.act) NotReversible) (adjustments_full w (month_of x.day) ∷ []) one.rest in
-          record { entry = x; found = is; live = one.no; room = room_left w (month_of x.day) two.rest }
-    ] refl e
 
 -- an entry that is found has its number
 numbered : (number : ℕ) (es : List Entry) (x : Entry) → find (λ (e : Entry). e.number == number) es ≡ Some x → x.number ≡ number
@@ -67,7 +48,7 @@ reversing n today loans seals id number s e =
     let q = asked n w id (reversal_cases w number) (command.Reverse id number) refl e in
     let l = q.loan.loan in
     let is = named_loan n w id l s.world q.loan.found in
-    let it = reversal_of w number l q.loan.rest in
+    let it = reversible w number l q.loan.rest in
     let ch = reversal_change n number w l it.entry is.held it.found in
     let kept = kept_of id loans.loans l q.loan.found in
     record {

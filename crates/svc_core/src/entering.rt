@@ -13,10 +13,11 @@ ghost use Rattle.svc_spec.specs.Accounts.{entry_of};
 ghost use Rattle.svc_world.specs.Held as held;
 ghost use Rattle.svc_world.specs.Refusals.{refusal_of};
 ghost use Rattle.svc_world.specs.World.{after};
+ghost use Rattle.svc_world.specs.Changing.{MayEnter, world_with};
 ghost use Rattle.svc_loan.specs.Kept.{IsReady};
 ghost use Rattle.svc_loan.specs.Loans.{IsThere, OfLoan};
 ghost use Rattle.svc_custody.specs.Cash.{IsKeptIn};
-ghost use Rattle.svc_core.specs.Changing.{MayEnter, dues_since, world_with};
+ghost use Rattle.svc_core.specs.Changing.{dues_since};
 ghost use Rattle.svc_core.specs.Costs.{accepting_cost, entering_cost};
 ghost use Rattle.svc_core.specs.State.{IsState, world_of};
 

@@ -5,9 +5,11 @@ ghost use Rattle.std.specs.Option.{option_map};
 ghost use Rattle.svc_types.specs.Requests.{IsCommand, IsQuery};
 ghost use Rattle.svc_spec.specs.Accounts.{Account};
 ghost use Rattle.svc_spec.specs.Months.{cost_of_month};
+ghost use Rattle.custodial_book.specs.Rows.{rows_of_command};
 ghost use Rattle.svc_world.specs.World.{accepted, world};
 ghost use Rattle.svc_world.specs.Judging.{Judgement, judged, history_after, next_reply, nth_accepted, IsHistory};
 ghost use Rattle.svc_world.specs.Answers.{answer_to, query_refusal};
+ghost use Rattle.svc_world.specs.Custody.{rows_in};
 ghost use Rattle.svc_world.specs.Laws.{AreLawful, IsLawfulStep};
 ghost use Rattle.svc_core.specs.Asking.{WantsMemory};
 ghost use Rattle.svc_core.specs.Bound.{step_bound, query_bound};
@@ -21,7 +23,7 @@ use crate::posted::Posted;
 use crate::ready::Prepared;
 use crate::scratch::Scratch;
 use crate::verdict::Verdict;
-use custodial_book::Book;
+use custodial_book::{Book, Row};
 use period_adjust::Seals;
 use std::alloc::Global;
 use std::marker::Model;
@@ -203,6 +205,14 @@ impl<B: LoanBooks> Core<B> {
         ensures { option_map (λ p. accepted p.0 p.1) result ≡ nth_accepted self.now.history number }
     {
         self.parts.posted.command(number)
+    }
+
+    /// The custodial rows of the accepted command with a number: what it moved into the custodial accounts T and P and
+    /// out of them, loan by loan. A number that no command has, has none.
+    pub fn rows(&self, number: u32) -> &[Row]
+        ensures { result.now ≡ rows_of_command number (rows_in self.now.history) }
+    {
+        self.parts.cash.book.rows(number)
     }
 
     /// What holds of the core's history: each of its commands is well formed and was fresh after those

@@ -19,6 +19,7 @@ use Rattle.svc_world.specs.LoanDues.{due_of}
 use Rattle.svc_world.specs.Reports.{months_of, changes_of}
 use Rattle.svc_world.specs.World.{World}
 use Rattle.svc_world.specs.Worlds.{IsLimited, IsHeld, IsThere, IsOwned, AddUp, IsWorld}
+use Rattle.svc_world.specs.Changing.{world_with}
 use Rattle.svc_world.specs.Laws.{IsFrom}
 use Rattle.svc_world.proofs.AgreeLemmas.{AgreeTo}
 use Rattle.svc_world.proofs.CarryLemmas.{due_small}
@@ -107,12 +108,6 @@ pub held_more : (n day : ℕ) (l : Held) → IsHeld n day l → IsHeld (n + 1) d
 held_more n day l h = record { limited = h.limited; today = h.today; numbers = λ k d lt. (let le : (get_or l.account.entries k d).number ≤ n = h.numbers k d lt in omega arith); lines = h.lines; types = h.types; since = h.since }
 
 -- ---- the changed world
-
-abbrev pub world_with : World → ℕ → (Held → Held) → ℕ → World
-world_with w id f n = record w {
-  loans = changed id f w.loans;
-  seals = reporting w.seals.reports (w.seals.pending ++ changes_of n (months_of w.seals.reports) w.loans (changed id f w.loans));
-}
 
 pub change_keeps : (n m : ℕ) (w : World) (f : Held → Held) (l : Held) → IsWorld n w → n < 1_000_000 → find_loan l.id w.loans ≡ Some l → IsChange (n + 1) w.today m f l → count_held w.seals + closed_months w.seals.reports m ≤ 4_000_000 → IsWorld (n + 1) (world_with w l.id f (n + 1))
 change_keeps n m w f l h few e ch room =

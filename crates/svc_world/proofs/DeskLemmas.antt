@@ -1,15 +1,11 @@
 -- What is said of the commands with their replies; and quotes come true.
-use Rattle.std.proofs.Common.{◌≡◌, ℕ, ◌+◌, Bool, true, false, List, [], ◌∷◌, ◌++◌, map, length, arith, refl, sym, ap, subst, ◌∙◌}
-use Rattle.std.specs.Prelude.{nat_le, nat_lt, Option, Some, None, ℤ, if◌then◌else◌}
-use Rattle.std.specs.Option.{option_map, option_map_or}
+use Rattle.std.proofs.Common.{◌≡◌, ℕ, ◌+◌, false, List, [], ◌∷◌, ◌++◌, map, length, arith, refl, ap, ◌∙◌}
+use Rattle.std.specs.Prelude.{nat_le, Some, None, ℤ}
+use Rattle.std.specs.Option.{option_map}
 use Rattle.svc_types.specs.declared.requests.Command.TheVariants as command
 use Rattle.svc_types.specs.declared.requests.Query.TheVariants as query
 use Rattle.svc_types.specs.declared.replies.Refusal.TheVariants.{DayNotLater}
-use Rattle.svc_types.specs.declared.books.Books.{Books}
-use Rattle.svc_spec.specs.Accounts.{advanced_to, books_of}
-use Rattle.svc_spec.specs.Payoff.{payoff_due}
 use Rattle.custodial_book.specs.declared.row.Row.{Row}
-use Rattle.svc_world.specs.declared.answer.Answer.{Answer}
 use Rattle.svc_world.specs.declared.answer.Answer.TheVariants as answer
 use Rattle.svc_world.specs.Held.{Held, find_loan, on_day}
 use Rattle.svc_world.specs.World.{World, Accepted, accepted, after, loans_after, world, first_world}

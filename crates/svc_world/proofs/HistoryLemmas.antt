@@ -6,6 +6,7 @@ use Rattle.std.proofs.lemmas.Int.{ints}
 use Rattle.std.proofs.lemmas.List.Elements.{All-head, All-tail, All-nil}
 use Rattle.svc_base.specs.Calendar.{month_length}
 use Rattle.svc_base.specs.Sums.{total_by}
+use Rattle.svc_types.specs.declared.account.Act.TheVariants as act
 use Rattle.svc_types.specs.declared.requests.Command.{Command}
 use Rattle.svc_types.specs.declared.requests.Command.TheVariants as command
 use Rattle.svc_types.specs.declared.replies.Reply.{Reply}
@@ -18,12 +19,12 @@ use Rattle.period_adjust.specs.Sealed.{Sealed}
 use Rattle.period_adjust.specs.Sums.{DuePart}
 use Rattle.period_adjust.specs.Totals.{SendsItsSums}
 use Rattle.period_adjust.proofs.SealedLemmas.{sealed_start}
-use Rattle.svc_world.specs.World.{World, Accepted, first_world, after, world_from, world}
+use Rattle.svc_world.specs.World.{World, Accepted, first_world, entry, loans_after, seals_after, after, world_from, world}
 use Rattle.svc_world.specs.Refusals.{refusal_of}
 use Rattle.svc_world.specs.Judging.{Kept, Refused, Fresh, by_refusal, by_key, Known, known, judged, IsHistoryFrom, AreWellFormed, IsHistory}
 use Rattle.svc_world.specs.Custody.{rows_made, rows_from, rows_in}
 use Rattle.svc_world.specs.Worlds.{IsHeld, IsOwned, IsListed, sent_part, IsPassed, IsWorld, AreWorlds}
-use Rattle.svc_world.proofs.EntryWorlds.{pay_keeps, curtail_keeps, payoff_keeps, deposit_keeps, disburse_keeps, refund_keeps, waive_keeps}
+use Rattle.svc_world.proofs.EntryWorlds.{entry_keeps, pay_enters, curtail_enters, payoff_enters, deposit_enters, disburse_enters, refund_enters, waive_enters}
 use Rattle.svc_world.proofs.LoanWorlds.{reverse_keeps, line_keeps, drop_keeps, retype_keeps}
 use Rattle.svc_world.proofs.AnalysedWorlds.{analyse_keeps}
 use Rattle.svc_world.proofs.DayWorlds.{day_keeps, remit_keeps}
@@ -33,15 +34,16 @@ use Rattle.svc_world.proofs.ClosedWorlds.{close_keeps}
 -- ---- one command
 
 pub accepted_keeps : (n : ℕ) (w : World) (c : Command) → IsWorld n w → IsCommand c → refusal_of n w c ≡ None → IsWorld (n + 1) (after (n + 1) w c)
+unfolding after loans_after seals_after
 accepted_keeps n w (command.Day d) h formed e = day_keeps n d w h formed e
 accepted_keeps n w (command.Board id t) h formed e = board_keeps n id t w h formed.1.boarded e
-accepted_keeps n w (command.Pay id d c over) h formed e = pay_keeps n id d w c over h formed.1.exists e
-accepted_keeps n w (command.Curtail id d c) h formed e = curtail_keeps n id d w c h formed.1.exists e
-accepted_keeps n w (command.Payoff id d c) h formed e = payoff_keeps n id d w c h formed.1.exists e
-accepted_keeps n w (command.Deposit id d c) h formed e = deposit_keeps n id d w c h formed.1.exists e
-accepted_keeps n w (command.Disburse id d c line) h formed e = disburse_keeps n id d line w c h formed.1.exists e
-accepted_keeps n w (command.Refund id c) h formed e = refund_keeps n id w c h e
-accepted_keeps n w (command.Waive id c) h formed e = waive_keeps n id w c h e
+accepted_keeps n w (command.Pay id d c over) h formed e = entry_keeps n id w (entry (n + 1) d (act.Pay c over)) h (pay_enters n id d w c over h formed.1.exists e)
+accepted_keeps n w (command.Curtail id d c) h formed e = entry_keeps n id w (entry (n + 1) d (act.Curtail c)) h (curtail_enters n id d w c h formed.1.exists e)
+accepted_keeps n w (command.Payoff id d c) h formed e = entry_keeps n id w (entry (n + 1) d (act.Payoff c)) h (payoff_enters n id d w c h formed.1.exists e)
+accepted_keeps n w (command.Deposit id d c) h formed e = entry_keeps n id w (entry (n + 1) d (act.Deposit c)) h (deposit_enters n id d w c h formed.1.exists e)
+accepted_keeps n w (command.Disburse id d c line) h formed e = entry_keeps n id w (entry (n + 1) d (act.Disburse c line)) h (disburse_enters n id d line w c h formed.1.exists e)
+accepted_keeps n w (command.Refund id c) h formed e = entry_keeps n id w (entry (n + 1) w.today (act.Refund c)) h (refund_enters n id w c h e)
+accepted_keeps n w (command.Waive id c) h formed e = entry_keeps n id w (entry (n + 1) w.today (act.Waive c)) h (waive_enters n id w c h e)
 accepted_keeps n w (command.Reverse id number) h formed e = reverse_keeps n id number w h e
 accepted_keeps n w (command.Line id line kind month every c) h formed e = line_keeps n id w (record { id = line; kind = kind; month = month; every = every; cents = c }) h e
 accepted_keeps n w (command.Drop id line) h formed e = drop_keeps n id line w h e

@@ -29,7 +29,7 @@ use Rattle.svc_world.specs.Laws.{AreLawful, ReportsGrow, CanAdjust, adjustments_
 use Rattle.svc_world.proofs.LoanListLemmas.{numbers_of, changed_numbers, mapped_numbers}
 use Rattle.svc_world.proofs.CashLemmas.{is_held_back, holds, rows_are_cash, boarding_rows_are_cash}
 use Rattle.svc_world.proofs.QuietWorlds.{quiet_none}
-use Rattle.svc_world.proofs.EntryWorlds.{entered_sum, dated_own, refund_quiet, waive_quiet}
+use Rattle.svc_world.proofs.EntryWorlds.{entered_sum, dated_own, present_quiet, refund_enters, waive_enters}
 use Rattle.svc_world.proofs.LoanWorlds.{reverse_own, line_quiet, drop_quiet, retype_quiet}
 use Rattle.svc_world.proofs.AnalysedWorlds.{analyse_quiet}
 use Rattle.svc_world.proofs.DayWorlds.{day_none, kept_none}
@@ -172,8 +172,8 @@ owns n w (command.Curtail id d c) h e = dated_own n id d w c (over_principal d c
 owns n w (command.Payoff id d c) h e = dated_own n id d w c (payoff_short d c) (command.Payoff id d c) (act.Payoff c) refl (entered_sum c) h e
 owns n w (command.Deposit id d c) h e = dated_own n id d w c asks_no_more (command.Deposit id d c) (act.Deposit c) refl (entered_sum c) h e
 owns n w (command.Disburse id d c line) h e = dated_own n id d w c (no_such_line line) (command.Disburse id d c line) (act.Disburse c line) refl (entered_sum c) h e
-owns n w (command.Refund id c) h e = quiet_none n id w (with_entry (entry (n + 1) w.today (act.Refund c))) h (refund_quiet n id w c h e)
-owns n w (command.Waive id c) h e = quiet_none n id w (with_entry (entry (n + 1) w.today (act.Waive c))) h (waive_quiet n id w c h e)
+owns n w (command.Refund id c) h e = quiet_none n id w (with_entry (entry (n + 1) w.today (act.Refund c))) h (present_quiet n id w (act.Refund c) h (refund_enters n id w c h e))
+owns n w (command.Waive id c) h e = quiet_none n id w (with_entry (entry (n + 1) w.today (act.Waive c))) h (present_quiet n id w (act.Waive c) h (waive_enters n id w c h e))
 owns n w (command.Reverse id number) h e = reverse_own n id number w h e
 owns n w (command.Line id line kind month every c) h e = quiet_none n id w (with_bill (record { id = line; kind = kind; month = month; every = every; cents = c })) h (line_quiet n id w (record { id = line; kind = kind; month = month; every = every; cents = c }) h e)
 owns n w (command.Drop id line) h e = quiet_none n id w (without_bill line) h (drop_quiet n id line w h e)

@@ -28,11 +28,12 @@ use Rattle.svc_world.specs.Reports.{months_of, changes_of}
 use Rattle.svc_world.specs.World.{World, loans_after, seals_after, after}
 use Rattle.svc_world.specs.Refusals.{case, case_of, first_of, refusal_of, is_analysis, adjustments_full, entry_reversal_cases, reversal_cases, line_cases, has_line, no_such_line, retype_cases, with_last}
 use Rattle.svc_world.specs.Worlds.{IsHeld, IsWorld}
+use Rattle.svc_world.specs.Changing.{world_with}
 use Rattle.svc_world.specs.Laws.{IsFrom, AdjustsItsOwn}
 use Rattle.svc_world.proofs.LimitedLemmas.{reversed_limited}
 use Rattle.svc_world.proofs.AgreeLemmas.{AgreeTo, reversal_agrees, type_agrees}
 use Rattle.svc_world.proofs.CaseLemmas.{past, past_of, past_last, HasRoom, room_left}
-use Rattle.svc_world.proofs.ChangedWorlds.{IsChange, own_changes, world_with, change_keeps}
+use Rattle.svc_world.proofs.ChangedWorlds.{IsChange, own_changes, change_keeps}
 use Rattle.svc_world.proofs.NamedLoans.{named_loan, room_enough, asked}
 use Rattle.svc_world.proofs.QuietWorlds.{IsQuiet, quiet_keeps}
 

@@ -1,7 +1,7 @@
 -- Over every history no entry is reversed twice, and each is reversed by a command after its own.
-use Rattle.std.proofs.Common.{◌≡◌, ℕ, ◌+◌, ◌≤◌, ◌<◌, true, false, List, [], ◌∷◌, ◌++◌, map, length, get_or, arith, refl, sym, subst}
-use Rattle.std.specs.Prelude.{◌≢◌, ◌==◌, Option, Some, None, if◌then◌else◌}
-use Rattle.std.specs.List.{All, AllPairs, find}
+use Rattle.std.proofs.Common.{◌≡◌, ℕ, ◌+◌, ◌≤◌, ◌<◌, true, false, List, [], ◌∷◌, arith, refl, subst}
+use Rattle.std.specs.Prelude.{◌≢◌, ◌==◌, Some, None, if◌then◌else◌}
+use Rattle.std.specs.List.{All, find}
 use Rattle.std.specs.Option.{option_map}
 use Rattle.std.proofs.lemmas.Bool.Decides.{nat_tests}
 use Rattle.std.proofs.lemmas.List.Elements.{All-cons, All-head, All-tail, All-push, All-map, All-nil}
@@ -17,7 +17,7 @@ use Rattle.svc_world.specs.World.{World, Accepted, first_world, entry, with_anal
 use Rattle.svc_world.specs.Refusals.{refusal_of, reversal_cases}
 use Rattle.svc_world.specs.Judging.{IsHistory}
 use Rattle.svc_world.specs.Worlds.{IsHeld, IsWorld}
-use Rattle.svc_world.specs.Laws.{AreReversedOnce, IsReversedOnce}
+use Rattle.svc_world.specs.Laws.{IsReversedOnce}
 use Rattle.svc_world.proofs.LoanListLemmas.{found_all, changed_all, with_loan_all}
 use Rattle.svc_world.proofs.NamedLoans.{named_loan, asked}
 use Rattle.svc_world.proofs.LoanWorlds.{reversible, find_all}

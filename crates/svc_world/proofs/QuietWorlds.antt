@@ -13,7 +13,8 @@ use Rattle.svc_world.specs.LoanDues.{due_of}
 use Rattle.svc_world.specs.Reports.{months_of, changes_of}
 use Rattle.svc_world.specs.World.{World}
 use Rattle.svc_world.specs.Worlds.{IsWorld}
-use Rattle.svc_world.proofs.ChangedWorlds.{IsChange, closed_months, first_by, changes_are, world_with, change_keeps}
+use Rattle.svc_world.specs.Changing.{world_with}
+use Rattle.svc_world.proofs.ChangedWorlds.{IsChange, closed_months, first_by, changes_are, change_keeps}
 use Rattle.svc_world.proofs.NamedLoans.{named_loan}
 
 -- a change of a loan that is there, from a month on that is not closed

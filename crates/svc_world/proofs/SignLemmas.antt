@@ -1,19 +1,17 @@
 -- What the custodial line and the lines of reports say without a sign is not below 0.
-use Rattle.std.proofs.Common.{◌≡◌, ℕ, ◌+◌, ◌<◌, Bool, true, false, List, [], ◌∷◌, ◌++◌, map, get_or, arith, sym, subst, inl, inr}
-use Rattle.std.specs.Prelude.{ℤ, pos, ◌+ℤ◌, ◌≤ℤ◌, nat_le}
+use Rattle.std.proofs.Common.{ℕ, ◌+◌, ◌<◌, Bool, true, false, List, [], ◌∷◌, get_or, arith, sym, subst, inl, inr}
+use Rattle.std.specs.Prelude.{ℤ, pos, ◌+ℤ◌, ◌≤ℤ◌}
 use Rattle.std.specs.List.{All}
 use Rattle.std.proofs.lemmas.Int.{ints, clamps}
 use Rattle.std.proofs.lemmas.List.Elements.{All-push, All-map, All-nil}
 use Rattle.svc_base.specs.Text.{IsReadMonth}
 use Rattle.svc_types.specs.declared.requests.Command.{Command}
 use Rattle.svc_types.specs.Requests.{IsCommand}
-use Rattle.period_adjust.specs.declared.report_line.ReportLine.{ReportLine}
-use Rattle.period_adjust.specs.Sealed.{Sealed}
 use Rattle.period_adjust.specs.Sums.{line_with, report_of}
 use Rattle.svc_spec.specs.Accounts.{IsAccount}
 use Rattle.svc_spec.proofs.AccountLemmas.{account_books}
 use Rattle.advance_book.specs.Positions.{pi_held, pi_advanced, escrow_advanced}
-use Rattle.svc_world.specs.Held.{Held, books_now, boarded_month}
+use Rattle.svc_world.specs.Held.{Held, books_now}
 use Rattle.svc_world.specs.Reports.{line_of, lines_of}
 use Rattle.svc_world.specs.World.{World, Accepted, first_world, after, world_from, world}
 use Rattle.svc_world.specs.Judging.{IsHistory}

@@ -11,6 +11,7 @@ pub mod Desk
 pub mod Answers
 pub mod WorkedLoans
 pub mod Worlds
+pub mod Changing
 pub mod LoanCommands
 pub mod Laws
 pub mod Unsigned

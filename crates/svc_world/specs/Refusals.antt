@@ -1,6 +1,6 @@
 -- Why a request is refused: for each request the rules in their order, of which the first that holds is
 -- the answer.
-use Rattle.std.specs.Prelude.{ℕ, ◌+◌, ◌==◌, ◌&&◌, ◌||◌, not, nat_le, nat_lt, Bool, true, false, is_some, List, [], ◌∷◌, ◌++◌, length, ℤ, pos, int_lt, Option, Some, None, min}
+use Rattle.std.specs.Prelude.{ℕ, ◌+◌, ◌==◌, ◌&&◌, not, nat_le, nat_lt, Bool, true, false, is_some, List, [], ◌∷◌, ◌++◌, length, ℤ, pos, int_lt, Option, Some, None, min}
 use Rattle.std.specs.List.{find, filter, list_any}
 use Rattle.std.specs.Option.{option_map, option_map_or}
 use Rattle.svc_base.specs.Calendar.{month_of, last_day}

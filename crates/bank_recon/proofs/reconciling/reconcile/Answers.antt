@@ -11,7 +11,7 @@ returns-clause-recon g c =
     let h = c.args.core.now.history in
     let carried : List BankItem = c.args.input.now.carried.items in
     let is : c.deref-2.result.now ≡ items_in carried c.args.first c.args.last h =
-    c.deref-2.ensures.value ∙ c.in_ok-items.ensures.items ∙ ap (λ (l : List BankItem). items_in l c.args.first c.args.last h) c.deref.ensures.value in
+    c.deref-2.ensures.value ∙ c.in_ok-items.ensures ∙ ap (λ (l : List BankItem). items_in l c.args.first c.args.last h) c.deref.ensures.value in
     subst (λ (b : List BankItem). IfOk c.recon_of.result (IsRecon carried b c.args.first c.args.last h)) c.deref-3.ensures.value
     (recon_told c.recon_of.result carried c.deref-3.result.now c.deref-2.result.now c.args.first c.args.last h c.requires.first c.requires.last is
     c.recon_of.ensures.outstanding c.recon_of.ensures.unbooked c.recon_of.ensures.matched)

@@ -1,4 +1,4 @@
-use Rattle.std.proofs.Common.{◌≡◌, ◌≤◌}
+use Rattle.std.proofs.Common.{◌≡◌}
 use Rattle.std.specs.List.{All}
 use Rattle.svc_world.specs.Custody.{rows_in}
 use Rattle.bank_recon.specs.Moving.{IsMovable}
@@ -9,5 +9,4 @@ abbrev pub invariant-loop-done : goal.invariant-loop-done
 invariant-loop-done g l = record {
   items : l.items.items ≡ items_to l.carried l.first l.done l.core.history;
   rows : All IsMovable (rows_in l.core.history);
-  steps : l.steps ≤ l.initial.steps;
 }

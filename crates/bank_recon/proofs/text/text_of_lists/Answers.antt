@@ -9,8 +9,8 @@ use Rattle.bank_recon.specs.Texts.{span_line, text_of_found, text_of_recon}
 use Rattle.bank_recon.proofs.TextLemmas.{found_is}
 use Rattle.bank_recon.proofs.text.text_of_lists.Goals as goal
 
-pub returns-clause-text : goal.returns-clause-text
-returns-clause-text g c =
+pub returns : goal.returns
+returns g c =
     let h = c.args.core.now.history in
     let first = c.args.first in
     let last = c.args.last in
@@ -19,7 +19,7 @@ returns-clause-text g c =
     let b : List BankItem = c.deref-5.result.now in
     let r = c.in_ok-recon.recon in
     let is : xs ≡ items_in carried first last h =
-    c.deref-4.ensures.value ∙ c.in_ok-items.ensures.items ∙ ap (λ (l : List BankItem). items_in l first last h) c.deref.ensures.value in
+    c.deref-4.ensures.value ∙ c.in_ok-items.ensures ∙ ap (λ (l : List BankItem). items_in l first last h) c.deref.ensures.value in
     let e : c.deref-2.result.now ≡ xs = c.deref-2.ensures.value ∙ sym c.deref-4.ensures.value in
     let f : c.deref-3.result.now ≡ b = c.deref-3.ensures.value ∙ sym c.deref-5.ensures.value in
     let o : r.outstanding.items ≡ open_of xs b =

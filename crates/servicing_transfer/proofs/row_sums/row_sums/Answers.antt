@@ -11,25 +11,21 @@ pub loop-done-preserved : goal.loop-done-preserved
 loop-done-preserved g c =
     let rows = rows_in c.args.core.now.history in
     let n = c.loop-done.done in
-    let asked = c.in_ok-rows.ensures.steps in
-    let was = c.loop-done.invariant.steps in
     record {
       sums = λ id.
           c.in_ok-add_rows.ensures id
-          ∙ ap (with_rows id c.slice.result.now) (c.loop-done.invariant.sums id)
-          ∙ ap (λ rs. with_rows id rs (kept_sums id (filter (up_to n) rows))) (c.slice.ensures ∙ c.in_ok-rows.ensures.rows)
+          ∙ ap (with_rows id c.rows.result.now) (c.loop-done.invariant.sums id)
+          ∙ ap (λ rs. with_rows id rs (kept_sums id (filter (up_to n) rows))) c.rows.ensures
           ∙ sums_more id n rows;
-      steps = omega (arith, asked, was);
     }
 
 pub loop-done-init : goal.loop-done-init
 loop-done-init g c = record {
   sums = λ id. ap (λ es. or_none (lookup (nat_eq id) es)) c.new-sums.ensures.empty ∙ sums_first id c.args.core.now.history;
-  steps = omega arith;
 }
 
-pub returns-clause-sums : goal.returns-clause-sums
-returns-clause-sums g c = λ id.
+pub returns : goal.returns
+returns g c = λ id.
     let past = c.loop-done-test.false in
     let end = c.loop-done.auto.done-end in
     let count = c.count-done-end.ensures.value in

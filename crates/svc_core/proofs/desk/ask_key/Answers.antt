@@ -1,5 +1,5 @@
-use Rattle.std.proofs.Common.{◌≡◌, ◌≤◌, ◌+◌, length, true, false, arith, refl, sym, ap, ◌∙◌}
-use Rattle.std.specs.Prelude.{is_some, not, Some, None, [], ◌∷◌}
+use Rattle.std.proofs.Common.{arith, sym, ap, ◌∙◌}
+use Rattle.std.specs.Prelude.{is_some, not, [], ◌∷◌}
 use Rattle.std.specs.Option.{option_map}
 use Rattle.svc_types.specs.declared.replies.Refusal.TheVariants as why
 use Rattle.svc_world.specs.Answers.{posting_answer}

@@ -1,6 +1,6 @@
 use Rattle.svc_world.specs.Desk.{quoted, per_day}
 use Rattle.svc_loan.specs.Loans.{held_in}
-use Rattle.svc_world.specs.Held.{Held, books_now}
+use Rattle.svc_world.specs.Held.{Held}
 use Rattle.svc_world.specs.declared.answer.Answer.TheVariants as answer
 use Rattle.svc_core.proofs.AskLemmas.{told}
 use Rattle.svc_core.proofs.desk.ask_quote.Goals as goal

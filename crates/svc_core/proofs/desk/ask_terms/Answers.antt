@@ -1,5 +1,5 @@
 use Rattle.svc_loan.specs.Loans.{held_in}
-use Rattle.svc_world.specs.Held.{Held, books_now}
+use Rattle.svc_world.specs.Held.{Held}
 use Rattle.svc_world.specs.declared.answer.Answer.TheVariants as answer
 use Rattle.svc_core.proofs.AskLemmas.{told}
 use Rattle.svc_core.proofs.desk.ask_terms.Goals as goal

@@ -1,8 +1,6 @@
-use Rattle.std.proofs.Common.{◌≡◌, ℕ, length, refl, sym, ap, ◌∙◌}
-use Rattle.std.specs.Prelude.{Option}
+use Rattle.std.proofs.Common.{length, refl, sym, ap, ◌∙◌}
 use Rattle.std.proofs.lemmas.List.{length-map}
 use Rattle.svc_loan.specs.Kept.{KeptLoan}
-use Rattle.svc_world.specs.Desk.{status_of}
 use Rattle.svc_core.proofs.PostingLemmas.{count_in, same_status}
 use Rattle.svc_core.proofs.desk.status.Goals as goal
 
