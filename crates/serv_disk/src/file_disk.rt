@@ -27,8 +27,9 @@ impl Hold for File {
 /// A file at a path. It is opened and locked at the first call, and made empty where none is; the folder of one that was
 /// made is synced then. It tells nothing of what the file holds. Trusted, and not proved: that reads give what was
 /// written, that no program writes the file which does not ask for its lock, that a write which fails leaves every byte
-/// outside of its range, that bytes written again as they are stay what they are, and that `sync_all`, the system's own
-/// sync of data and size, returns Ok only once both are kept which were written since the sync before it.
+/// outside of its range, that bytes written again as they are stay what they are, and that `sync_data`, the system's own
+/// sync of data and of the size that reading them takes, returns Ok only once both are kept which were written since the
+/// sync before it.
 #[derive(Drop)]
 pub struct FileDisk<R: Files + Drop> {
     runtime: R,
@@ -197,7 +198,7 @@ where
 
     fn sync(&mut self) -> Result<(), Failed> {
         let done = match opened(&self.runtime, self.path.as_str(), &mut self.file) {
-            Ok(file) => file.sync_all(),
+            Ok(file) => file.sync_data(),
             Err(error) => Err(error),
         };
         noted(done, &mut self.faults, &mut self.cause)

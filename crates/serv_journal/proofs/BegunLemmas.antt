@@ -2,15 +2,15 @@
 use Rattle.std.proofs.Common.{◌≡◌, ℕ, ◌+◌, ◌-◌, ◌≤◌, List, [], ◌∷◌, ◌++◌, None, Some, length, refl, sym, ap, subst, ◌∙◌, inl, arith, append_assoc, length-append}
 use Rattle.std.proofs.lemmas.List.{append-nil}
 use Rattle.serv_disk.specs.Disks.{Each, LeavesOnly}
-use Rattle.serv_disk.proofs.Moments.{started, weaker}
+use Rattle.serv_disk.proofs.Moments.{started, weaker, joined}
 use Rattle.serv_journal.specs.declared.format.Version.TheVariants.{Two}
-use Rattle.serv_journal.specs.Bytes.{Starts, Between, IsOpening}
+use Rattle.serv_journal.specs.Bytes.{Starts, Between}
 use Rattle.serv_journal.specs.Format.{Form, IsLine, base, body}
 use Rattle.serv_journal.specs.States.{JournalState, StandsFor}
 use Rattle.serv_journal.specs.Disks.{IsWholeIn, IsGoodIn, IsBegunIn, IsAtRest, IsAround, IsKept, IsDurableFor, gate_of}
 use Rattle.serv_journal.specs.Puts.{IsPut, IsPutting}
 use Rattle.serv_journal.proofs.ByteLemmas.{starts_fits, length_closed}
-use Rattle.serv_journal.proofs.FormatLemmas.{base_push, whole_push, between_good, closed_starts, stands_push, opening_good, opened_whole}
+use Rattle.serv_journal.proofs.FormatLemmas.{base_push, whole_push, between_good, closed_starts, stands_push}
 
 -- none is begun
 stands_none : (form : Form) (lines : List (List ℕ)) (journal : JournalState) → StandsFor form lines journal → StandsFor form (lines ++ []) journal
@@ -118,14 +118,13 @@ module _ {D : Type 0} (moment : D → ℕ) (images_since : D → ℕ → List �
       putting_around form lines begun journal.size images old new kept.at_most_one kept.stands.size kept.each
       (subst (λ g. IsPutting moment images_since g journal.size images old new) kept.gate putting)
 
-  pub push_around : (form : Form) (images : List ℕ → Type 0) (journal : JournalState) (lines : List (List ℕ)) (line : List ℕ) (old new : D) → journal.version ≡ Two
-      → (journal.begun ≡ None → (front : List ℕ) → length front + 1 ≡ journal.size → Each images (Starts (front ++ 0 ∷ []))
-      → LeavesOnly moment images_since old new (IsOpening front (body Two (journal.count + 1) line ++ 0 ∷ [])))
-      → IsKept form images journal lines [] → LeavesOnly moment images_since old new (IsGoodIn form lines line)
-  push_around form images journal lines line old new two moments kept =
-      let stands = stands_all form lines journal kept.stands in
-      weaker moment images_since old new _ _ (moments kept.gate (base form lines) (sym stands.size) kept.each)
-      (λ c h. opening_good form lines line c (journal.count + 1) (sym stands.version ∙ two) (ap (λ n. n + 1) stands.count) h)
+  -- a line is begun, and then committed
+  pub push_around : (form : Form) (lines : List (List ℕ)) (line : List ℕ) (old mid new : D)
+      → LeavesOnly moment images_since old mid (IsWholeIn form lines) → LeavesOnly moment images_since mid new (IsGoodIn form (lines ++ []) line)
+      → LeavesOnly moment images_since old new (IsGoodIn form lines line)
+  push_around form lines line old mid new begun committed =
+      joined moment images_since old mid new _ (weaker moment images_since old mid _ _ begun (λ c h. inl h))
+      (subst (λ x. LeavesOnly moment images_since mid new (IsGoodIn form x line)) (append-nil lines) committed)
 
   -- no call
   pub idle_around : (form : Form) (images : List ℕ → Type 0) (journal : JournalState) (lines begun : List (List ℕ)) (disk : D) → ((c : List ℕ) → images_since disk (moment disk) c → images c)
@@ -184,14 +183,3 @@ none_kept form images journal lines (b ∷ more) at kept = absurd (let e : ⊥ =
 pub idle_kept : (form : Form) (images : List ℕ → Type 0) (journal : JournalState) (lines begun : List (List ℕ)) → journal.begun ≡ None → IsKept form images journal lines begun
     → IsKept form images journal (lines ++ begun) []
 idle_kept form images journal lines begun none kept = none_kept form images journal lines begun (sym none ∙ kept.gate) kept
-
--- a line is begun and committed
-pub push_kept : (form : Form) (images images' : List ℕ → Type 0) (old new : JournalState) (lines : List (List ℕ)) (line : List ℕ) → IsLine line → old.version ≡ Two
-    → new.version ≡ old.version → new.count ≡ old.count + 1 → new.size ≡ old.size + (7 + length line) → new.begun ≡ None
-    → (old.begun ≡ None → (front : List ℕ) → length front + 1 ≡ old.size → Each images (Starts (front ++ 0 ∷ [])) → Each images' (Starts (front ++ 1 ∷ (body Two (old.count + 1) line ++ 0 ∷ []))))
-    → IsKept form images old lines [] → IsKept form images' new (lines ++ line ∷ []) []
-push_kept form images images' old new lines line is_line two version count size none durable kept =
-    let stands = stands_all form lines old kept.stands in
-    let form_two : form.version ≡ Two = sym kept.stands.version ∙ two in
-    kept_whole form images' new (lines ++ line ∷ []) (stands_push form lines line old new is_line stands form_two version count size) none
-    (λ c h. opened_whole form lines line c (old.count + 1) form_two (ap (λ n. n + 1) stands.count) (durable kept.gate (base form lines) (sym stands.size) kept.each c h))

@@ -3,10 +3,10 @@ use Rattle.std.proofs.Common.{◌≡◌, ◌≢◌, ◌⊎◌, ℕ, ◌+◌, Lis
 use Rattle.std.proofs.lemmas.List.{append-nil}
 use Rattle.serv_journal.specs.declared.format.Version.{Version}
 use Rattle.serv_journal.specs.declared.format.Version.TheVariants.{One, Two}
-use Rattle.serv_journal.specs.Bytes.{Starts, Between, IsOpening}
+use Rattle.serv_journal.specs.Bytes.{Starts, Between}
 use Rattle.serv_journal.specs.Format.{Form, IsLine, AreLines, body, records, base, two_bytes, four_bytes, head_size, version_number}
 use Rattle.serv_journal.specs.States.{JournalState, StandsFor}
-use Rattle.serv_journal.specs.Disks.{IsWholeIn, IsGoodIn}
+use Rattle.serv_journal.specs.Disks.{IsGoodIn}
 use Rattle.serv_journal.proofs.ByteLemmas.{first_starts}
 
 pub records_push : (version : Version) (number : ℕ) (lines : List (List ℕ)) (line : List ℕ)
@@ -58,21 +58,6 @@ between_good form lines line file between =
     (λ neither. inr (inl (record { commit = between.byte; not_closed = neither.0; not_open = neither.1; starts = between.starts })))
     other)
     (byte_cases between.byte)
-
--- the same of the bytes that adding a record of version 2 writes
-pub opening_good : (form : Form) (lines : List (List ℕ)) (line file : List ℕ) (number : ℕ) → form.version ≡ Two → number ≡ length lines + 1
-    → IsOpening (base form lines) (body Two number line ++ 0 ∷ []) file → IsGoodIn form lines line file
-opening_good form lines line file number two same opening =
-    let at_number = subst (λ k. IsOpening (base form lines) (body Two k line ++ 0 ∷ []) file) same opening in
-    let at_version = subst (λ v. IsOpening (base form lines) (body v (length lines + 1) line ++ 0 ∷ []) file) (sym two) at_number in
-    ⊎_elim (λ closed. inl closed) (λ between. between_good form lines line file between) at_version
-
-pub opened_whole : (form : Form) (lines : List (List ℕ)) (line file : List ℕ) (number : ℕ) → form.version ≡ Two → number ≡ length lines + 1
-    → Starts (base form lines ++ 1 ∷ (body Two number line ++ 0 ∷ [])) file → IsWholeIn form (lines ++ line ∷ []) file
-opened_whole form lines line file number two same starts =
-    let at_number = subst (λ k. Starts (base form lines ++ 1 ∷ (body Two k line ++ 0 ∷ [])) file) same starts in
-    let at_version = subst (λ v. Starts (base form lines ++ 1 ∷ (body v (length lines + 1) line ++ 0 ∷ [])) file) (sym two) at_number in
-    subst (λ x. Starts x file) (whole_push form lines line) at_version
 
 pub length_of_body : (version : Version) (number : ℕ) (line : List ℕ) → length (body version number line) ≡ head_size version + length line
 unfolding two_bytes four_bytes

@@ -85,11 +85,27 @@ module _ {D : Type 0} (images : D → List ℕ → Type 0) (moment : D → ℕ) 
       joined moment images_since old mid new _ (laying_around gate at old mid moments front rest long size each)
       (set front rest long (λ c h. record { byte = 0; starts = crash (front ++ 0 ∷ rest) (omega (arith, long_behind front rest gate at long size)) each c h }))
 
--- where no commit byte waits
-pub none_put : (gate : Option ℕ) (at : ℕ) (bytes : List ℕ) (images images' : List ℕ → Type 0) → gate ≡ None → IsPut gate at bytes images images'
-    → (front : List ℕ) → length front ≡ at → Each images (Starts front) → Each images' (Starts (front ++ bytes))
-none_put gate at bytes images images' none put = subst (λ o. IsPut o at bytes images images') none put
+-- bytes laid before that leave what the file begins with
+pub put_later : (gate : Option ℕ) (at : ℕ) (bytes : List ℕ) (images mid new : List ℕ → Type 0) → ((front : List ℕ) → length front ≤ at → Each images (Starts front) → Each mid (Starts front))
+    → IsPut gate at bytes mid new → IsPut gate at bytes images new
+put_later None at bytes images mid new crash put = λ front long each. put front long (crash front (omega (arith, long)) each)
+put_later (Some gate) at bytes images mid new crash put = λ front rest long size each.
+    put front rest long size (crash (front ++ 0 ∷ rest) (omega (arith, long_behind front rest gate at long size)) each)
 
-pub none_putting : {D : Type 0} (moment : D → ℕ) (images_since : D → ℕ → List ℕ → Type 0) (gate : Option ℕ) (at : ℕ) (images : List ℕ → Type 0) (old new : D) → gate ≡ None
-    → IsPutting moment images_since gate at images old new → (front : List ℕ) → length front ≡ at → Each images (Starts front) → LeavesOnly moment images_since old new (Starts front)
-none_putting moment images_since gate at images old new none putting = subst (λ o. IsPutting moment images_since o at images old new) none putting
+module _ {D : Type 0} (images : D → List ℕ → Type 0) (moment : D → ℕ) (images_since : D → ℕ → List ℕ → Type 0) where
+  -- while they are laid
+  pub before_putting : (gate : Option ℕ) (at : ℕ) (old mid : D)
+      → ((front : List ℕ) → length front ≤ at → Each (images old) (Starts front) → LeavesOnly moment images_since old mid (Starts front))
+      → IsPutting moment images_since gate at (images old) old mid
+  before_putting None at old mid moments = λ front long each. moments front (omega (arith, long)) each
+  before_putting (Some gate) at old mid moments = laying_around images moment images_since gate at old mid moments
+
+  pub putting_later : (gate : Option ℕ) (at : ℕ) (old mid new : D)
+      → ((front : List ℕ) → length front ≤ at → Each (images old) (Starts front) → Each (images mid) (Starts front))
+      → ((front : List ℕ) → length front ≤ at → Each (images old) (Starts front) → LeavesOnly moment images_since old mid (Starts front))
+      → IsPutting moment images_since gate at (images mid) mid new → IsPutting moment images_since gate at (images old) old new
+  putting_later None at old mid new crash moments putting = λ front long each.
+      joined moment images_since old mid new _ (moments front (omega (arith, long)) each) (putting front long (crash front (omega (arith, long)) each))
+  putting_later (Some gate) at old mid new crash moments putting = λ front rest long size each.
+      joined moment images_since old mid new _ (laying_around images moment images_since gate at old mid moments front rest long size each)
+      (putting front rest long size (crash (front ++ 0 ∷ rest) (omega (arith, long_behind front rest gate at long size)) each))

@@ -9,7 +9,7 @@ ghost use Rattle.serv_journal.specs.Outcomes.{Reaches};
 
 use crate::faults::JournalFault;
 use crate::format::Version;
-use crate::records::{add_record, begin_record};
+use crate::records::begin_within;
 use crate::writes::set_byte;
 use serv_disk::{Disk, Failed};
 use std::marker::Model;
@@ -25,6 +25,8 @@ pub struct Journal {
     pub(crate) version: Version,
     pub(crate) begun: Option<u64>,
     pub(crate) spent: bool,
+    /// How far the file is known to reach.
+    pub(crate) reach: u64,
 }
 
 impl Model for Journal {
@@ -112,21 +114,15 @@ impl Journal {
         ensures limit { self.new.limit ≡ self.old.limit }
         ensures same_version { self.new.version ≡ self.old.version }
     {
-        let Some(added) = self.room_for(line) else {
-            return Err(JournalFault::Full(self.size));
-        };
-        match add_record(disk, self.begun, self.size, (self.count + 1) as u32, line) {
-            Ok(()) => {
-                self.size += added;
-                self.count += 1;
-                self.begun = None;
-                Ok(())
-            }
-            Err(_) => {
-                self.spent = true;
-                Err(JournalFault::DiskFault)
-            }
+        let (size, count, begun) = (self.size, self.count, self.begun);
+        self.begin(disk, line)?;
+        if self.commit(disk).is_err() {
+            self.size = size;
+            self.count = count;
+            self.begun = begun;
+            return Err(JournalFault::DiskFault);
         }
+        Ok(())
     }
 
     /// Adds a line to a journal of version 2 whose commit byte stays closed until the next call of `begin` or `commit`;
@@ -158,12 +154,21 @@ impl Journal {
         ensures same_begun { OnErr result (self.new.begun ≡ self.old.begun) }
         ensures limit { self.new.limit ≡ self.old.limit }
         ensures same_version { self.new.version ≡ self.old.version }
+        ensures reach { OnOk result (Reaches (D.seen disk.new) self.new.size) }
     {
         let Some(added) = self.room_for(line) else {
             return Err(JournalFault::Full(self.size));
         };
-        match begin_record(disk, self.begun, self.size, (self.count + 1) as u32, line) {
-            Ok(()) => {
+        match begin_within(
+            disk,
+            self.reach,
+            self.begun,
+            self.size,
+            (self.count + 1) as u32,
+            line,
+        ) {
+            Ok(reach) => {
+                self.reach = reach;
                 self.begun = Some(self.size - 1);
                 self.size += added;
                 self.count += 1;

@@ -133,6 +133,7 @@ impl Journal {
                 version: found.version,
                 begun: None,
                 spent: false,
+                reach: found.place + 1,
             },
             found.frames,
         ))

@@ -1,15 +1,13 @@
 //! Records of version 2 as bytes.
 
-ghost use Rattle.std.specs.Prelude.{◌≡◌, ℕ, ◌+◌, ◌≤◌, ◌<◌, List, [], ◌∷◌, ◌++◌, length, None, IfSome, OnOk};
+ghost use Rattle.std.specs.Prelude.{◌≡◌, ℕ, ◌+◌, ◌^◌, ◌≤◌, ◌<◌, List, [], ◌∷◌, ◌++◌, length, IfSome, OnOk};
 ghost use Rattle.serv_disk.specs.Faults.{HasCause};
-ghost use Rattle.serv_disk.specs.Disks.{Each, LeavesOnly};
-ghost use Rattle.serv_journal.specs.Bytes.{Starts, IsOpening};
 ghost use Rattle.serv_journal.specs.Format.{IsLine, body, two_bytes, four_bytes};
 ghost use Rattle.serv_journal.specs.Puts.{IsPut, IsPutting};
 ghost use Rattle.serv_journal.specs.Outcomes.{Reaches};
 
 use crate::format::Version;
-use crate::writes::{put_behind, set_byte};
+use crate::writes::{put_behind, reach_to};
 use serv_disk::{Disk, Failed};
 
 /// The most bytes that stand between a record's commit byte and the end of the next one.
@@ -58,7 +56,7 @@ fn begin_in<D: Disk>(
     ensures put { OnOk result (IsPut gate size (body Version.Two number line.now ++ 0 ∷ [])
         (D.images disk.old) (D.images disk.new)) }
     ensures moments { IsPutting D.moment D.images_since gate size (D.images disk.old) disk.old disk.new }
-    ensures reach { OnOk result (Reaches (D.seen disk.new) size) }
+    ensures reach { OnOk result (Reaches (D.seen disk.new) (size + 7 + length line.now)) }
     ensures cause { HasCause (D.faults disk.old) (D.faults disk.new) result }
 {
     lay_out(number, line, 0, room);
@@ -80,35 +78,34 @@ pub(crate) fn begin_record<D: Disk>(
     ensures put { OnOk result (IsPut gate size (body Version.Two number line.now ++ 0 ∷ [])
         (D.images disk.old) (D.images disk.new)) }
     ensures moments { IsPutting D.moment D.images_since gate size (D.images disk.old) disk.old disk.new }
-    ensures reach { OnOk result (Reaches (D.seen disk.new) size) }
+    ensures reach { OnOk result (Reaches (D.seen disk.new) (size + 7 + length line.now)) }
     ensures cause { HasCause (D.faults disk.old) (D.faults disk.new) result }
 {
     let mut room = [0; ROOM];
     begin_in(disk, gate, size, number, line, &mut room[..line.len() + 7])
 }
 
-/// Adds a record to a file of this length: begins it, and opens its commit byte.
-pub(crate) fn add_record<D: Disk>(
+/// The same, with zeros behind all that is of account first where the file is not known to reach past the record. It
+/// gives how far the file reaches.
+pub(crate) fn begin_within<D: Disk>(
     disk: &mut D,
+    reach: u64,
     gate: Option<u64>,
     size: u64,
     number: u32,
     line: &[u8],
-) -> Result<(), Failed>
+) -> Result<u64, Failed>
     requires line { IsLine line.now }
     requires gate { IfSome gate (λ place. place < size) }
-    requires some { 1 ≤ size }
+    requires small { size ≤ 2 ^ 32 }
     requires reaches { Reaches (D.seen disk.old) size }
-    ensures durable { gate ≡ None → (front : List ℕ) → length front + 1 ≡ size
-        → Each (D.images disk.old) (Starts (front ++ 0 ∷ []))
-        → OnOk result (Each (D.images disk.new)
-        (Starts (front ++ 1 ∷ (body Version.Two number line.now ++ 0 ∷ [])))) }
-    ensures moments { gate ≡ None → (front : List ℕ) → length front + 1 ≡ size
-        → Each (D.images disk.old) (Starts (front ++ 0 ∷ []))
-        → LeavesOnly D.moment D.images_since disk.old disk.new
-        (IsOpening front (body Version.Two number line.now ++ 0 ∷ [])) }
+    ensures put { OnOk result (IsPut gate size (body Version.Two number line.now ++ 0 ∷ [])
+        (D.images disk.old) (D.images disk.new)) }
+    ensures moments { IsPutting D.moment D.images_since gate size (D.images disk.old) disk.old disk.new }
+    ensures reach { OnOk result (Reaches (D.seen disk.new) (size + 7 + length line.now)) }
     ensures cause { HasCause (D.faults disk.old) (D.faults disk.new) result }
 {
+    let reach = reach_to(disk, reach, size, size + 7 + line.len() as u64)?;
     begin_record(disk, gate, size, number, line)?;
-    set_byte(disk, size - 1, 1)
+    Ok(reach)
 }

@@ -1,6 +1,6 @@
 //! Writes of which a crash leaves all, nothing, or what is of no account.
 
-ghost use Rattle.std.specs.Prelude.{◌≡◌, ◌≢◌, ◌⊎◌, ℕ, ◌+◌, ◌-◌, ◌≤◌, ◌<◌, List, [], ◌∷◌, ◌++◌, length, Some, None, IfSome, OnOk};
+ghost use Rattle.std.specs.Prelude.{◌≡◌, ◌≢◌, ◌⊎◌, ℕ, ◌+◌, ◌-◌, ◌^◌, ◌≤◌, ◌<◌, List, [], ◌∷◌, ◌++◌, length, Some, None, IfSome, OnOk};
 ghost use Rattle.serv_disk.specs.Faults.{HasCause};
 ghost use Rattle.serv_images.specs.CutShort.{TornAt};
 ghost use Rattle.serv_disk.specs.Disks.{Holds, Told, Each, After, Only, LeavesOnly};
@@ -8,6 +8,7 @@ ghost use Rattle.serv_journal.specs.Bytes.{Starts, Between};
 ghost use Rattle.serv_journal.specs.Puts.{IsPut, IsPutting};
 ghost use Rattle.serv_journal.specs.Outcomes.{Reaches};
 
+use crate::calls::length_of;
 use serv_disk::{Disk, Failed};
 
 /// Writes, and syncs.
@@ -33,7 +34,7 @@ fn stage<D: Disk>(disk: &mut D, at: u64, bytes: &[u8]) -> Result<(), Failed>
         → OnOk result (Each (D.images disk.new) (Starts (front ++ bytes.now))) }
     ensures moments { (front : List ℕ) → length front ≡ at → Each (D.images disk.old) (Starts front)
         → LeavesOnly D.moment D.images_since disk.old disk.new (Starts front) }
-    ensures reach { OnOk result (Reaches (D.seen disk.new) at) }
+    ensures reach { OnOk result (Reaches (D.seen disk.new) (at + length bytes.now)) }
     ensures cause { HasCause (D.faults disk.old) (D.faults disk.new) result }
 {
     put(disk, at, bytes)
@@ -61,7 +62,7 @@ fn put_and_open<D: Disk>(disk: &mut D, gate: u64, at: u64, bytes: &[u8]) -> Resu
     requires reaches { Reaches (D.seen disk.old) at }
     ensures put { OnOk result (IsPut (Some gate) at bytes.now (D.images disk.old) (D.images disk.new)) }
     ensures moments { IsPutting D.moment D.images_since (Some gate) at (D.images disk.old) disk.old disk.new }
-    ensures reach { OnOk result (Reaches (D.seen disk.new) at) }
+    ensures reach { OnOk result (Reaches (D.seen disk.new) (at + length bytes.now)) }
     ensures cause { HasCause (D.faults disk.old) (D.faults disk.new) result }
 {
     lay(disk, at, bytes)?;
@@ -80,7 +81,7 @@ pub(crate) fn put_behind<D: Disk>(
     requires reaches { Reaches (D.seen disk.old) at }
     ensures put { OnOk result (IsPut gate at bytes.now (D.images disk.old) (D.images disk.new)) }
     ensures moments { IsPutting D.moment D.images_since gate at (D.images disk.old) disk.old disk.new }
-    ensures reach { OnOk result (Reaches (D.seen disk.new) at) }
+    ensures reach { OnOk result (Reaches (D.seen disk.new) (at + length bytes.now)) }
     ensures cause { HasCause (D.faults disk.old) (D.faults disk.new) result }
 {
     match gate {
@@ -118,4 +119,44 @@ pub(crate) fn lay<D: Disk>(disk: &mut D, at: u64, bytes: &[u8]) -> Result<(), Fa
     ensures cause { HasCause (D.faults disk.old) (D.faults disk.new) result }
 {
     disk.write_at(at, bytes)
+}
+
+/// How many zeros are laid at once behind a file that does not reach far enough.
+const AHEAD: usize = 1 << 16;
+
+/// Puts zeros after all that is of account.
+#[inline(never)]
+fn lay_zeros<D: Disk>(disk: &mut D, at: u64) -> Result<(), Failed>
+    requires { Reaches (D.seen disk.old) at }
+    ensures reach { OnOk result (Reaches (D.seen disk.new) at) }
+    ensures crash { (front : List ℕ) → length front ≤ at → Each (D.images disk.old) (Starts front)
+        → Each (D.images disk.new) (Starts front) }
+    ensures moments { (front : List ℕ) → length front ≤ at → Each (D.images disk.old) (Starts front)
+        → LeavesOnly D.moment D.images_since disk.old disk.new (Starts front) }
+    ensures cause { HasCause (D.faults disk.old) (D.faults disk.new) result }
+{
+    lay(disk, at, &[0; AHEAD])
+}
+
+/// Lets a file reach past what is of account in it, up to a place or further, by zeros behind its end. Gives how far it
+/// reaches.
+pub(crate) fn reach_to<D: Disk>(disk: &mut D, reach: u64, size: u64, to: u64) -> Result<u64, Failed>
+    requires small { to < 2 ^ 63 }
+    requires reaches { Reaches (D.seen disk.old) size }
+    ensures reach { OnOk result (Reaches (D.seen disk.new) size) }
+    ensures crash { (front : List ℕ) → length front ≤ size → Each (D.images disk.old) (Starts front)
+        → Each (D.images disk.new) (Starts front) }
+    ensures moments { (front : List ℕ) → length front ≤ size → Each (D.images disk.old) (Starts front)
+        → LeavesOnly D.moment D.images_since disk.old disk.new (Starts front) }
+    ensures cause { HasCause (D.faults disk.old) (D.faults disk.new) result }
+{
+    if to <= reach {
+        return Ok(reach);
+    }
+    let end = length_of(disk)?.max(size);
+    if to <= end {
+        return Ok(end);
+    }
+    lay_zeros(disk, end)?;
+    Ok(end + AHEAD as u64)
 }

@@ -1,8 +1,8 @@
 //! Lines that are begun, and committed by a later call.
 
-use crate::worked::{LIMIT, ONE_LINE, are_lines, disk_of};
-use serv_disk::{MemDisk, Torn};
-use serv_journal::Journal;
+use crate::worked::{LIMIT, NO_LINE, ONE_LINE, are_lines, disk_of, is_laid};
+use serv_disk::{Disk, MemDisk, Torn};
+use serv_journal::{Journal, init};
 use std::alloc::Global;
 use std::test::Fail;
 
@@ -73,7 +73,9 @@ fn left(alloc: Global, disk: MemDisk, torn: Torn) -> Result<usize, Fail> {
 }
 
 /// How many calls are done after so many of the disk's, and the least and the most lines that a crash leaves then.
-const STOPS: [(u32, usize, usize); 8] = [
+const STOPS: [(u32, usize, usize); 10] = [
+    (0, 1, 1),
+    (0, 1, 1),
     (0, 1, 1),
     (0, 1, 1),
     (1, 1, 1),
@@ -107,7 +109,7 @@ fn begun(alloc: Global, count: usize, file: &[u8]) -> Result<(bool, usize), Fail
     for line in LINES[1..].iter().take(count) {
         let _ = begin(&mut journal, &mut disk, line);
     }
-    let is_file = disk.content() == file;
+    let is_file = is_laid(disk.content(), file);
     Ok((is_file, left(alloc, disk, Torn::Ones)?))
 }
 
@@ -117,5 +119,30 @@ fn a_line_that_is_begun_is_no_part_of_the_journal(rt: HostRuntime) -> Result<(),
         let given = begun(rt.alloc(), count, file)?;
         assert!(rt; given == (true, count.max(1)), "{count} begun");
     }
+    Ok(())
+}
+
+/// How long the file is after so many lines were begun in it, and how many calls of the disk that took.
+fn grown(alloc: Global, disk: &mut MemDisk, lines: &[&[u8]]) -> Result<(usize, u64), Fail> {
+    let (mut journal, _) = Journal::open(alloc, disk, LIMIT)?;
+    let before = disk.clock();
+    for line in lines {
+        let _ = begin(&mut journal, disk, line);
+    }
+    Ok((disk.content().len(), disk.clock().saturating_sub(before)))
+}
+
+#[test]
+fn zeros_are_laid_ahead_once(rt: HostRuntime) -> Result<(), Fail> {
+    let alloc = rt.alloc();
+    let mut disk = disk_of(alloc, b"")?;
+    init(&mut disk)?;
+    assert_eq!(rt; disk.content(), NO_LINE);
+    // The zeros, three records with their syncs, and the commit bytes of the first two.
+    assert_eq!(rt; grown(alloc, &mut disk, &LINES)?, (9 + 65536, 9));
+    // The third was not committed. The file reaches far enough: a record and a sync.
+    assert_eq!(rt; grown(alloc, &mut disk, &LINES[2..])?, (9 + 65536, 2));
+    let (_, frames) = Journal::open(alloc, &mut disk, LIMIT)?;
+    assert!(rt; are_lines(&frames, &LINES[..2]));
     Ok(())
 }

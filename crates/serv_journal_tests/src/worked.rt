@@ -21,6 +21,14 @@ pub fn disk_of(alloc: Global, content: &[u8]) -> Result<MemDisk, OutOfMemory> {
     MemDisk::new(content.to_vec(alloc)?, Vec::new(alloc))
 }
 
+/// Whether a disk holds this file, with nothing or zeros behind it.
+pub fn is_laid(content: &[u8], file: &[u8]) -> bool {
+    match content.strip_prefix(file) {
+        Some(rest) => rest.iter().all(|byte| *byte == 0),
+        None => false,
+    }
+}
+
 /// Whether the frames have these lines.
 pub fn are_lines(frames: &Frames, lines: &[&[u8]]) -> bool {
     if frames.len() != lines.len() {

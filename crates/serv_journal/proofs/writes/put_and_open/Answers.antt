@@ -1,4 +1,4 @@
-use Rattle.std.proofs.Common.{arith}
+use Rattle.std.proofs.Common.{◌+◌, length, arith}
 use Rattle.std.proofs.lemmas.Result.{on_ok_weaker}
 use Rattle.serv_journal.proofs.OutcomeLemmas.{on_ok_both}
 use Rattle.serv_journal.proofs.PutLemmas.{told_reaches, still_reaches, put_opened, laying_around, opening_around}
@@ -22,6 +22,6 @@ returns-clause-moments g c = opening_around g.D.Disk.images g.D.Disk.moment g.D.
 pub returns-clause-reach : goal.returns-clause-reach
 returns-clause-reach g c =
     on_ok_weaker c.set_byte.result
-    (λ set. still_reaches _ _ _ c.args.gate c.args.at (omega (arith, c.requires.gate))
-    (told_reaches _ _ c.args.bytes.now c.args.at c.args.at c.requires.reaches c.in_ok-lay.ensures.told (omega arith)) set)
+    (λ set. still_reaches _ _ _ c.args.gate (c.args.at + length c.args.bytes.now) (omega (arith, c.requires.gate))
+    (told_reaches _ _ c.args.bytes.now c.args.at (c.args.at + length c.args.bytes.now) c.requires.reaches c.in_ok-lay.ensures.told (omega arith)) set)
     c.set_byte.ensures.told

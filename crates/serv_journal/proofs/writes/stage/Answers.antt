@@ -1,4 +1,4 @@
-use Rattle.std.proofs.Common.{length, arith}
+use Rattle.std.proofs.Common.{◌+◌, length, arith}
 use Rattle.std.proofs.lemmas.Result.{on_ok_weaker}
 use Rattle.serv_disk.proofs.Moments.{weaker}
 use Rattle.serv_journal.proofs.ByteLemmas.{torn_after}
@@ -11,4 +11,4 @@ returns-clause-moments g c =
     (λ x h. torn_after front h.0 x c.args.at (length c.args.bytes.now) (each h.0 h.1) (omega arith) h.2)
 
 pub returns-clause-reach : goal.returns-clause-reach
-returns-clause-reach g c = on_ok_weaker c.put.result (λ told. told_reaches _ _ c.args.bytes.now c.args.at c.args.at c.requires told (omega arith)) c.put.ensures.told
+returns-clause-reach g c = on_ok_weaker c.put.result (λ told. told_reaches _ _ c.args.bytes.now c.args.at (c.args.at + length c.args.bytes.now) c.requires told (omega arith)) c.put.ensures.told

@@ -7,12 +7,12 @@ use Rattle.serv_journal.proofs.journal.Journal.begin.Goals as goal
 pub returns-in-Ok-clause-moments : goal.returns-in-Ok-clause-moments
 returns-in-Ok-clause-moments g c = λ form lines begun kept.
     let k = subst (λ (j : JournalState). IsKept form (g.D.Disk.images c.args.disk.now) j lines begun) (sym c.self.view_is) kept in
-    begin_around _ _ form _ _ lines begun _ _ c.begin_record.ensures.moments k
+    begin_around _ _ form _ _ lines begun _ _ c.begin_within.ensures.moments k
 
 pub returns-in-Err-clause-moments : goal.returns-in-Err-clause-moments
 returns-in-Err-clause-moments g c = λ form lines begun kept.
     let k = subst (λ (j : JournalState). IsKept form (g.D.Disk.images c.args.disk.now) j lines begun) (sym c.self.view_is) kept in
-    begin_around _ _ form _ _ lines begun _ _ c.begin_record.ensures.moments k
+    begin_around _ _ form _ _ lines begun _ _ c.begin_within.ensures.moments k
 
 pub returns-in-Ok-clause-begun : goal.returns-in-Ok-clause-begun
 returns-in-Ok-clause-begun g c = λ form lines begun kept.
