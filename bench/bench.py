@@ -291,8 +291,9 @@ def drill_row(room):
                 max(it.memory for it in runs))]
 
 
-def served(room, turn, lines):
-    """Seconds that `serve` takes for commands over one connection, each sent once the one before it is answered."""
+def served(room, turn, lines, together):
+    """Seconds that `serve` takes for commands over one connection, so many at a time, each time once those before are
+    answered."""
     with open(f"{room}/served.{turn}", "wb") as file:
         file.write(b"MSRVJ002\0")
     port = replay.free_port()
@@ -302,33 +303,45 @@ def served(room, turn, lines):
     requests = [b"POST /v1/commands HTTP/1.1\r\nContent-Length: %d\r\n\r\n%s" % (len(body), body)
                 for body in (bodies.body_of(line) for line in lines)]
     began = time.perf_counter()
-    for request in requests:
-        link.sendall(request)
-        if not link.recv(4096).startswith(b"HTTP/1.1 200 "):
-            sys.exit("serve refuses a command")
+    for at in range(0, len(requests), together):
+        link.sendall(b"".join(requests[at:at + together]))
+        wait_for(link, len(requests[at:at + together]))
     took = time.perf_counter() - began
     link.close()
     return took, it.end().memory
 
 
-def serve_row(room):
+def wait_for(link, count):
+    """Waits for so many responses, each of which must be 200."""
+    got = b""
+    while got.count(b"HTTP/1.1 200 ") < count or not got.endswith(b"}"):
+        piece = link.recv(65536)
+        if not piece or b"HTTP/1.1 4" in piece:
+            sys.exit("serve refuses a command")
+        got += piece
+
+
+def serve_rows(room):
     count = sized(500)
     lines = [it for _, it in zip(range(count), generate.year(sized(500), 12, 1))]
     write_lines(f"{room}/lines", lines)
-    pairs, memory = [], 0
-    for turn in range(5 * rounds()):
-        with open(f"{room}/books.{turn}", "wb") as file:
-            file.write(b"MSRVJ002\0")
-        took, used = served(room, turn, lines)
-        beside = ours(f"{room}/books.{turn}", "apply", given=f"{room}/lines", out=f"{room}/replies")
-        pairs.append((took, beside.clock))
-        memory = max(memory, used)
-    return [Row(f"`serve` on one connection, {count:,} commands beside `apply`", "s", pairs, memory)]
+    rows = []
+    for name, together in (("", 1), (", 50 at a time", 50)):
+        pairs, memory = [], 0
+        for turn in range(5 * rounds()):
+            with open(f"{room}/books.{turn}", "wb") as file:
+                file.write(b"MSRVJ002\0")
+            took, used = served(room, turn, lines, together)
+            beside = ours(f"{room}/books.{turn}", "apply", given=f"{room}/lines", out=f"{room}/replies")
+            pairs.append((took, beside.clock))
+            memory = max(memory, used)
+        rows.append(Row(f"`serve` on one connection, {count:,} commands{name} beside `apply`", "s", pairs, memory))
+    return rows
 
 
 WORKLOADS = {"session-500": session_small, "session-9000": session_large,
              "bookkeepers": bookkeeper_rows, "apply": apply_row, "opening": opening_row,
-             "late": late_rows, "order": order_row, "days": days_row, "serve": serve_row, "drill": drill_row}
+             "late": late_rows, "order": order_row, "days": days_row, "serve": serve_rows, "drill": drill_row}
 
 
 def main():

@@ -128,7 +128,7 @@ def described(name, data, journal):
     yield f"version {journal.version} records {len(journal.lines)} length {journal.end + 1}"
     yield "commands " + (" ".join(f"{word} {words[word]}" for word in WORDS if words[word]) or "-")
     yield f"last key {keys[-1] if keys else '-'}"
-    rest = journal.size - journal.end - 1
+    rest = journal.size - journal.end - 1 if any(data[journal.end + 1:]) else 0
     count, is_upgrade = behind(data, journal)
     if is_upgrade:
         yield f"behind the end {rest} bytes: an upgrade that was not finished"

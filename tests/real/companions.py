@@ -411,6 +411,8 @@ FILES = [
     (HEX_1[:-1] + b"\1" + HEX_2, 2, [LINE], ""),
     (HEX_1[:-1] + b"\0" + HEX_2, 1, [LINE], "behind the end 33 bytes: an upgrade that was not finished"),
     (HEX_2 + b"any bytes", 2, [LINE], "behind the end 9 bytes, none of them a record"),
+    (HEX_2 + bytes(65536), 2, [LINE], ""),
+    (HEX_2 + NEXT + bytes(65536), 2, [LINE], "WARNING behind the end 65560 bytes with 1 well-formed records: a command"),
     (HEX_2 + NEXT, 2, [LINE], "WARNING behind the end 24 bytes with 1 well-formed records: a command that was being"),
     (HEX_2[:-1] + b"\7" + NEXT, 2, [LINE], "WARNING behind the end 24 bytes with 1 well-formed records: a command"),
     (HEX_1 + HEX_1[9:], 1, [LINE], "WARNING behind the end 20 bytes with 1 well-formed records: a command that was"),
@@ -486,11 +488,13 @@ def backups(room):
 @case("verify: the quarter's journal has its commands, as reckon.py reads them")
 def quarters_journal(room):
     path = quarter(room)
-    data = read(path)
-    listed = [f"{number} {line.decode()}" for number, line in enumerate(reckon.lines_of_journal(data), 1)]
+    lines = reckon.lines_of_journal(read(path))
+    listed = [f"{number} {line.decode()}" for number, line in enumerate(lines, 1)]
     same("\n".join(listed) + "\n", tool("verify.py", "--lines", path)[0].decode())
     out = tool("verify.py", path)[0].decode().splitlines()
-    same([f"version 2 records 62 length {len(data)}", "last key r-2024-03"], [out[1], out[3]])
+    length = 9 + sum(7 + len(line) for line in lines)
+    same([f"version 2 records 62 length {length}", "last key r-2024-03"], [out[1], out[3]])
+    same(4, len(out))
 
 
 # ledger.py

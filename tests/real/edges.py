@@ -10,10 +10,12 @@ import os
 import re
 import shutil
 import signal
+import socket
 import subprocess
 import sys
 
 from harness import TOP, Skipped, case, named, read, run, run_all, same, start, write
+import bodies
 import program
 import reckon
 import replay
@@ -180,18 +182,32 @@ def not_allowed(room):
 
 # Syncs
 
-def traced(path, given, *more):
-    """The calls on the journal's file of an `apply` under strace, and the status, output and log."""
+def under_strace(path, *more):
+    """The words that run the program over a journal and trace its calls."""
     if not shutil.which("strace"):
         raise Skipped("strace is not installed")
-    words = ["strace", "-y", "-e", "trace=openat,read,write,fsync,ftruncate", *more, program.find(), path, "apply"]
-    ran = subprocess.run(words, input=given, capture_output=True, check=False, timeout=120)
-    log = ran.stderr.decode()
+    return ["strace", "-y", "-e", "trace=openat,read,write,sendto,fdatasync,ftruncate", *more, program.find(), path]
+
+
+def calls_on(path, log):
+    """The calls on the journal's file that were traced."""
     if "ptrace" in log and "Operation not permitted" in log:
         raise Skipped("strace is not allowed here")
-    calls = re.findall(r"^(read|write|fsync|ftruncate)\(\d+<" + re.escape(path) + r">(?:, .*, (\d+))?\) += (\S+)", log,
-                       re.MULTILINE)
-    return calls, (ran.returncode, ran.stdout, log)
+    return re.findall(r"^(read|write|fdatasync|ftruncate)\(\d+<" + re.escape(path) + r">(?:, .*, (\d+))?\) += (\S+)",
+                      log, re.MULTILINE)
+
+
+def traced(path, given, *more):
+    """The calls on the journal's file of an `apply`, and the status, output and log."""
+    ran = subprocess.run([*under_strace(path, *more), "apply"], input=given, capture_output=True, check=False,
+                         timeout=120)
+    log = ran.stderr.decode()
+    return calls_on(path, log), (ran.returncode, ran.stdout, log)
+
+
+def kinds_of(calls):
+    """The calls but the reads, each with how many bytes it has."""
+    return [(call, int(size or 0)) for call, size, _ in calls if call != "read"]
 
 
 @case("syncs: an opening writes the last record again before its first sync; each record goes with the gate before it")
@@ -202,10 +218,45 @@ def order_of_syncs(room):
     given = [b"z%d deposit 1 2024-02-01 0.01\n" % number for number in range(1, 4)]
     calls, (status, out, _) = traced(path, b"".join(given))
     same((0, b"ok 15\nok 16\nok 17\n"), (status, out))
-    kinds = [(call, int(size or 0)) for call, size, _ in calls if call != "read"]
-    record, gate, sync = ("write", 6 + len(given[0])), ("write", 1), ("fsync", 0)
+    kinds = kinds_of(calls)
+    record, gate, sync = ("write", 6 + len(given[0])), ("write", 1), ("fdatasync", 0)
     same([("write", 8), ("write", again), sync, record, sync, record, gate, sync, record, gate, sync, gate, sync], kinds)
-    same(size + 3 * record[1], os.path.getsize(path))
+    same(size, os.path.getsize(path))
+
+
+@case("syncs: the first record is written over 64 KB of zeros with no sync of their own; the next ones lengthen no file")
+def zeros_ahead(room):
+    path = os.path.join(room, "new.journal")
+    same((0, b"", b""), run(path, "init"))
+    given = [b"z%d day 2024-02-0%d\n" % (number, number) for number in range(1, 4)]
+    calls, (status, out, _) = traced(path, b"".join(given))
+    same((0, b"ok 1\nok 2\nok 3\n"), (status, out))
+    zeros, record, gate, sync = ("write", 65536), ("write", 6 + len(given[0])), ("write", 1), ("fdatasync", 0)
+    same([zeros, record, sync, record, gate, sync, record, gate, sync, gate, sync], kinds_of(calls)[3:])
+    same(9 + 65536, os.path.getsize(path))
+
+
+@case("syncs: of requests that stand behind one another each record goes with the gate before it, and a response after it")
+def syncs_of_serve(room):
+    path, port = os.path.join(room, "new.journal"), replay.free_port()
+    write(b"MSRVJ002".ljust(1000, b"\0"), path)
+    sent = [bodies.body_of(f"z{number} day 2024-02-0{number}") for number in range(1, 4)]
+    it = subprocess.Popen([*under_strace(path), "serve", str(port), "1"], stdout=subprocess.PIPE, stderr=subprocess.PIPE)
+    link = replay.connect(port)
+    link.sendall(b"".join(b"POST /v1/commands HTTP/1.1\r\nContent-Length: %d\r\n\r\n%s" % (len(it), it) for it in sent))
+    link.shutdown(socket.SHUT_WR)
+    wanted = b"".join(bodies.response_of(*bodies.reply_of(f"ok {number}")) for number in range(1, 4))
+    got = b""
+    while piece := link.recv(65536):
+        got += piece
+    link.close()
+    same(wanted, got)
+    log = it.communicate(timeout=60)[1].decode()
+    record, gate, sync = ("write", 6 + len(b"z1 day 2024-02-01") + 1), ("write", 1), ("fdatasync", 0)
+    same([record, sync, record, gate, sync, record, gate, sync, gate, sync], kinds_of(calls_on(path, log))[3:])
+    order = re.findall(r"^(?:fdatasync|(?:write|sendto)\(\d+<(?:socket|TCP))", log, re.MULTILINE)
+    order = "".join("s" if it == "fdatasync" else "r" for it in order)
+    same("ss" + 3 * "sr", order, "syncs and responses")
 
 
 @case("syncs: one that fails ends with 5; what was answered is there, and at most the command that was being appended")
@@ -216,7 +267,7 @@ def failed_syncs(room):
     kept = reckon.lines_of_journal(before)
     for when in range(1, 5):
         write(before, path)
-        _, (status, out, log) = traced(path, given, "-e", f"inject=fsync:error=EIO:when={when}")
+        _, (status, out, log) = traced(path, given, "-e", f"inject=fdatasync:error=EIO:when={when}")
         same(5, status, f"sync {when}")
         if f"status 5 DiskFault {path}: Input/output error (os error 5)\n" not in log:
             raise AssertionError(f"no cause: {log[-300:]}")
@@ -233,10 +284,10 @@ def folder_synced(room):
     if not shutil.which("strace"):
         raise Skipped("strace is not installed")
     path = os.path.join(room, "new.journal")
-    words = ["strace", "-y", "-e", "trace=fsync", program.find(), path, "init"]
+    words = ["strace", "-y", "-e", "trace=fsync,fdatasync", program.find(), path, "init"]
     ran = subprocess.run(words, capture_output=True, check=False, timeout=60)
-    synced = re.findall(r"fsync\(\d+<(.*?)>\)", ran.stderr.decode())
-    same([room, path], synced[:2])
+    synced = re.findall(r"^(fsync|fdatasync)\(\d+<(.*?)>\)", ran.stderr.decode(), re.MULTILINE)
+    same([("fsync", room), ("fdatasync", path)], synced[:2])
 
 
 if __name__ == "__main__":

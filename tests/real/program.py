@@ -302,7 +302,7 @@ def cut_journal(room):
     same(bytes.fromhex("4d5352564a303032" "00"), read(path))
     run(path, "apply", given=b"k1 day 2024-02-01\n")
     whole = bytes.fromhex("4d5352564a303032" "01" "00000001" "0011") + b"k1 day 2024-02-01" + b"\0"
-    same(whole, read(path))
+    same(whole.ljust(9 + 65536, b"\0"), read(path))
     for length in range(33):
         write(whole[:length], path)
         status, out, log = run(path, "custodial")
@@ -433,46 +433,67 @@ def commands_of_quarter():
 ALL_LINES, ALL_REPLIES = commands_of_quarter()
 
 
-class Applied:
-    """The first commands of the quarter, their replies, and the journal of an unbroken run of them."""
+class Unbroken:
+    """What a file of commands gives over a journal where nothing ends the program: the replies and the journal."""
 
-    def __init__(self, room, count):
-        self.lines, self.replies = b"".join(ALL_LINES[:count]), b"".join(ALL_REPLIES[:count])
-        path = init(room, "unbroken.journal")
+    def __init__(self, room, word, given, replies, before=b""):
+        self.word, self.given, self.replies = word, given, replies
+        path = init(room, f"unbroken.{word}")
+        same(0, run(path, "apply", given=before)[0], "before it")
+        self.start = read(path)
         began = time.monotonic()
-        same((0, self.replies, b""), run(path, "apply", given=self.lines), "unbroken")
+        same((0, replies, b""), run(path, word, given=given), f"{word}, unbroken")
         self.span, self.whole = time.monotonic() - began, read(path)
 
     def check_after_crash(self, path, out, what):
-        """What was answered is in the journal, and at most one command more; all lines sent again give the replies and
-        bytes of an unbroken run. Gives the number of whole replies."""
+        """What was answered is in the journal, and at most one command more; the same file sent again gives the replies
+        and bytes of an unbroken run. Gives the number of whole replies."""
         same(self.replies[:len(out)], out, f"{what}: replies")
-        answered, kept = out.count(b"\n"), reckon.lines_of_journal(read(path))
-        if not answered <= len(kept) <= answered + 1:
-            raise AssertionError(f"{what}: {answered} commands were answered and {len(kept)} are there")
-        same((0, self.replies, b""), run(path, "apply", given=self.lines), what)
-        same(self.whole, read(path)[:len(self.whole)], f"{what}: the journal")
+        answered = out.count(b"\n")
+        kept = len(reckon.lines_of_journal(read(path))) - len(reckon.lines_of_journal(self.start))
+        if not answered <= kept <= answered + 1:
+            raise AssertionError(f"{what}: {answered} commands were answered and {kept} are there")
+        same((0, self.replies, b""), run(path, self.word, given=self.given), what)
+        # A program that is killed while it lays zeros ahead may leave fewer of them: they are no part of any record.
+        same(self.whole.rstrip(b"\0"), read(path).rstrip(b"\0"), f"{what}: the journal")
         return answered
 
+    def kill_at(self, room, moments):
+        """Kills the program at so many moments of such a run, and looks at what is left."""
+        draws, counts, path = random.Random(2024), [], os.path.join(room, "books.journal")
+        for moment in range(moments):
+            write(self.start, path)
+            it = start(path, self.word)
+            threading.Timer(draws.uniform(0, self.span), it.send_signal, [signal.SIGKILL]).start()
+            counts.append(self.check_after_crash(path, it.communicate(self.given)[0], f"moment {moment}"))
+        if len(set(counts)) < 3:
+            raise AssertionError(f"the moments do not spread: {sorted(set(counts))}")
 
-@case("kill -9 at 200 moments of an apply: nothing that was answered is lost, the rest is sent again")
+
+def applied(room, count):
+    """An `apply` of the first commands of the quarter."""
+    return Unbroken(room, "apply", b"".join(ALL_LINES[:count]), b"".join(ALL_REPLIES[:count]))
+
+
+@case("kill -9 at 100 moments of an apply: nothing that was answered is lost, the rest is sent again")
 def killed(room):
-    draws, counts = random.Random(2024), []
-    applied = Applied(room, 24)
-    path = os.path.join(room, "books.journal")
-    for moment in range(200):
-        write(b"MSRVJ002\0", path)
-        it = start(path, "apply")
-        threading.Timer(draws.uniform(0, applied.span), it.send_signal, [signal.SIGKILL]).start()
-        out = it.communicate(applied.lines)[0]
-        counts.append(applied.check_after_crash(path, out, f"moment {moment}"))
-    if len(set(counts)) < 3:
-        raise AssertionError(f"the moments do not spread: {sorted(set(counts))}")
+    applied(room, 24).kill_at(room, 100)
+
+
+@case("kill -9 at 100 moments of an import: nothing that was answered is lost, the file is sent again")
+def killed_import(room):
+    servicer = reckon.Servicer()
+    before = [it.decode().rstrip("\n") for it in ALL_LINES if not it.startswith(b"more-")]
+    lines = [f"row-{i} deposit {101 + i % 6} 2024-04-01 {i}.00" for i in range(1, 25)]
+    replies = [servicer.answer(it) for it in before + lines][len(before):]
+    rows = [HEADER, *(it.replace(" ", ",") + "," for it in lines)]
+    Unbroken(room, "import", "\n".join(rows).encode() + b"\n", "".join(replies).encode(),
+             "\n".join(before).encode() + b"\n").kill_at(room, 100)
 
 
 @case("kill -9 while a journal is opened and while it is made")
 def killed_early(room):
-    whole, path = Applied(room, 24).whole, os.path.join(room, "books.journal")
+    whole, path = applied(room, 24).whole, os.path.join(room, "books.journal")
     for moment in range(20):
         write(whole[:8] if moment % 2 else b"", path)
         if moment % 2:
@@ -524,10 +545,17 @@ def copied(room):
 
 def fill(room, path, cause, **how):
     """Applies all lines where they do not fit. Gives what they are and the replies before the disk was full."""
-    applied = Applied(room, len(ALL_LINES))
-    status, out, log = run(path, "apply", given=applied.lines, **how)
+    whole = applied(room, len(ALL_LINES))
+    status, out, log = run(path, "apply", given=whole.given, **how)
     same((5, f"status 5 DiskFault {path}: {cause}\n".encode()), (status, log))
-    return applied, out
+    same(True, 10 <= out.count(b"\n") < len(ALL_LINES), "replies before the disk was full")
+    return whole, out
+
+
+def reaching(size, *path):
+    """A journal without a command whose file has so many bytes."""
+    write(b"MSRVJ002".ljust(size, b"\0"), *path)
+    return os.path.join(*path)
 
 
 @case("a file size limit: status 5, and the same lines go on once there is room")
@@ -536,24 +564,24 @@ def size_limit(room):
         signal.signal(signal.SIGXFSZ, signal.SIG_IGN)
         resource.setrlimit(resource.RLIMIT_FSIZE, (4000, 4000))
 
-    path = init(room)
-    applied, out = fill(room, path, "File too large (os error 27)", preexec_fn=limit)
-    applied.check_after_crash(path, out, "after the limit")
+    path = reaching(3000, room, "books.journal")
+    whole, out = fill(room, path, "File too large (os error 27)", preexec_fn=limit)
+    whole.check_after_crash(path, out, "after the limit")
 
 
-@case("a full tmpfs of 16 kB: status 5, and the same lines go on once there is room")
+@case("a full tmpfs of 128 kB: status 5, and the same lines go on once there is room")
 def full_disk(room):
     disk = os.path.join(room, "disk")
     os.mkdir(disk)
-    mount = ["mount", "-t", "tmpfs", "-o", "size=16k", "tmpfs", disk]
+    mount = ["mount", "-t", "tmpfs", "-o", "size=128k", "tmpfs", disk]
     if os.geteuid() or subprocess.run(mount, capture_output=True).returncode:
         raise Skipped("no mount is allowed here")
     try:
-        path = init(disk)
-        write(b"x" * 11_500, disk, "filler")
-        applied, out = fill(room, path, "No space left on device (os error 28)")
+        path = reaching(3000, disk, "books.journal")
+        write(b"x" * 125_000, disk, "filler")
+        whole, out = fill(room, path, "No space left on device (os error 28)")
         os.remove(os.path.join(disk, "filler"))
-        applied.check_after_crash(path, out, "after the full disk")
+        whole.check_after_crash(path, out, "after the full disk")
     finally:
         subprocess.run(["umount", disk], check=False)
 

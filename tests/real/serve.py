@@ -368,26 +368,52 @@ def cut(room):
 
 # The program ends in the middle
 
-@case("serve: kill -9 at 40 moments: each command that was answered is in the journal")
+def days_from(first, count):
+    """Requests of so many business days, from one of them on, and the responses to them."""
+    lines = [f"k{i} day {reckon.datetime.date(1990, 1, 2) + reckon.datetime.timedelta(i)}"
+             for i in range(first, first + count)]
+    sent = [bodies.body_of(line) for line in lines]
+    return ([b"POST /v1/commands HTTP/1.1\r\nHost: a\r\nContent-Length: %d\r\n\r\n%s" % (len(it), it) for it in sent],
+            [bodies.response_of(*bodies.reply_of(f"ok {i + 1}")) for i in range(first, first + count)])
+
+
+def ask_until_killed(link, asks, replies, together):
+    """Sends so many requests at a time, each time once all before are answered, until the program is killed: how many
+    were answered whole."""
+    got = b""
+    for at in range(0, len(asks), together):
+        wanted = sum(map(len, replies[:at + together]))
+        try:
+            link.sendall(b"".join(asks[at:at + together]))
+            while len(got) < wanted and (piece := link.recv(65536)):
+                got += piece
+        except OSError:
+            break
+        if len(got) < wanted:
+            break
+    whole = b"".join(replies)
+    same(whole[:len(got)], got)
+    return sum(sum(map(len, replies[:n + 1])) <= len(got) for n in range(len(replies)))
+
+
+@case("serve: kill -9 at 100 moments, requests one at a time and seven at a time: what was answered is in the journal")
 def killed(room):
     draws = random.Random(40)
-    answered = 0
-    for moment in range(40):
+    kept, counts = 0, []
+    for moment in range(100):
         it = Served(room, 1)
-        link = it.link()
+        link = it.plain()
         threading.Timer(draws.uniform(0, 0.06), it.it.send_signal, [signal.SIGKILL]).start()
-        try:
-            for i in range(answered, answered + 400):
-                day = reckon.datetime.date(1990, 1, 2) + reckon.datetime.timedelta(i)
-                status, _ = bodies.ask(link, *bodies.request_of(f"k{i} day {day}"))
-                same(200, status)
-                answered = i + 1
-        except (OSError, bodies.http.client.HTTPException):
-            pass
+        answered = kept + ask_until_killed(link, *days_from(kept, 700), 7 if moment % 2 else 1)
         it.it.communicate()
-        if len(it.commands()) not in (answered, answered + 1):
-            raise AssertionError(f"moment {moment}: {answered} were answered, {len(it.commands())} are there")
+        link.close()
+        counts.append(answered - kept)
+        kept = len(it.commands())
+        if kept not in (answered, answered + 1):
+            raise AssertionError(f"moment {moment}: {answered} were answered, {kept} are there")
     same((0, b""), run(it.path, "custodial")[::2])
+    if len(set(counts)) < 3:
+        raise AssertionError(f"the moments do not spread: {sorted(set(counts))}")
 
 
 @case("serve: a full disk is 500 and status 5, and the command can be sent again")
@@ -396,6 +422,7 @@ def full_disk(room):
         signal.signal(signal.SIGXFSZ, signal.SIG_IGN)
         resource.setrlimit(resource.RLIMIT_FSIZE, (40, 40))
 
+    write(b"MSRVJ002".ljust(40, b"\0"), room, "books")
     it = Served(room, 1, preexec_fn=limit)
     link = it.link()
     same((200, FIRST), bodies.ask(link, "POST", "/v1/commands", DAY))

@@ -24,17 +24,12 @@ struct Row {
 }
 
 /// Whether a row's text is written over its history.
-fn has_text<L: Ledger>(
-    alloc: Global,
-    core: &Core<Checked>,
-    row: &Row,
-    steps: &mut Steps<L>,
-) -> Result<bool, Fail> {
+fn has_text(alloc: Global, core: &Core<Checked>, row: &Row) -> Result<bool, Fail> {
     let list = row.list.as_bytes();
     if row.first == 0 || row.first > row.last || list.len() > 67_108_864 {
         return Ok(false);
     }
-    let text = recon_text(alloc, core, row.first, row.last, list, steps)?;
+    let text = recon_text(alloc, core, row.first, row.last, list)?;
     Ok(text.as_slice() == row.text.as_bytes())
 }
 
@@ -45,7 +40,7 @@ fn is_written_over<L: Ledger>(alloc: Global, blank: Blank, row: &Row) -> Result<
 {
     let mut steps = Steps::<L>::new(blank);
     let core = core_of(alloc, row.history.as_bytes(), &mut steps)?;
-    has_text(alloc, &core, row, &mut steps)
+    has_text(alloc, &core, row)
 }
 
 /// The same, with steps that are counted from 0.

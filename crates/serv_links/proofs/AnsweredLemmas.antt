@@ -1,24 +1,25 @@
 -- What is written to a link in answer to its requests, and the commands that these bring.
-use Rattle.std.proofs.Common.{◌≡◌, ◌⊎◌, ℕ, ◌+◌, ◌<◌, List, [], ◌∷◌, ◌++◌, length, take, drop, get_or, refl, sym, ap, subst, ◌∙◌, inl, ⊎_elim, arith, append-nil, append_assoc, length-append}
+use Rattle.std.proofs.Common.{◌≡◌, ℕ, ◌+◌, ◌≤◌, List, [], ◌++◌, length, refl, sym, ap, subst, ◌∙◌, inl, ⊎_elim, arith, append-nil, append_assoc, length-append}
 use Rattle.std.specs.Prelude.{Option, Some}
 use Rattle.std.specs.Io.KnownBytes.{Appends}
 use Rattle.std.proofs.KnownBytes.{Appends-nil}
-use Rattle.std.proofs.lemmas.List.{take_more}
 use Rattle.svc_world.specs.World.{Accepted}
 use Rattle.serv_disk.specs.Disks.{Each}
 use Rattle.serv_disk.specs.Stamps.{Stamp, Notes}
+use Rattle.serv_disk.proofs.NotedLemmas.{adds_trans, at_both, at_wider, held_after}
 use Rattle.serv_http.specs.declared.ask.Ask.{Ask}
 use Rattle.serv_http.specs.Streams.{AsksTo}
 use Rattle.serv_http.proofs.StepLemmas.{nothing-more, nothing-open}
 use Rattle.serv_http.proofs.StreamLemmas.{asks-grow}
 use Rattle.serv_machine.specs.History.{History}
-use Rattle.serv_machine.specs.OnDisk.{HasHistory, OnDisk}
+use Rattle.serv_machine.specs.OnDisk.{OnDisk}
 use Rattle.serv_machine.specs.Upheld.{HasCommands, Upholds}
-use Rattle.serv_machine.proofs.UpheldLemmas.{commands_kept, upheld_none, upheld_wider, upheld_later, upheld_then, upheld_written}
-use Rattle.serv_links.specs.Responses.{Stand, responses_to, after_all}
-use Rattle.serv_links.specs.Outcomes.{IsReplied, IsAnswered}
+use Rattle.serv_machine.proofs.UpheldLemmas.{upheld_none, upheld_wider, upheld_later, upheld_then, upheld_written}
+use Rattle.serv_machine.specs.Stands.{Stand}
+use Rattle.serv_links.specs.Responses.{responses_to, after_all}
+use Rattle.serv_links.specs.Outcomes.{IsAnswered}
 use Rattle.serv_links.specs.Answered.{AreAnswers, AreAnswersIn, AreAnswersOf, IsLastText}
-use Rattle.serv_links.proofs.RoundLemmas.{mean_append, after_append, parted, responses_append}
+use Rattle.serv_links.proofs.RoundLemmas.{mean_append, after_append, responses_append}
 
 -- ---- requests after others
 
@@ -82,26 +83,46 @@ answers_before h taken more bytes commands is = record {
 
 -- ---- what is written while the disk is as it is
 
-module _ {D : Type 0} (images : D → List ℕ → Type 0) (moment : D → ℕ) (images_since : D → ℕ → List ℕ → Type 0) (d : D) (only : (c : List ℕ) → images_since d (moment d) c → images d c) (held : Option (List ℕ)) (log log' : Option (List Stamp)) where
-  -- the response to a request, or a front part of it
-  pub response_upheld : (a : Ask) (s s' : Stand) (text : List ℕ) → IsReplied a s s' text → Each (images d) (HasHistory s'.history.commands)
-      → ((x : List ℕ) → held ≡ Some x → Notes (moment d) (length x + length text) log log') → Upholds (AreAnswers (a ∷ []) s.history) (moment d) (images_since d) s'.history.commands held log log'
-  response_upheld a s s' text r has notes =
-      let now : List Accepted = s'.history.commands in
-      upheld_written images moment images_since d only (AreAnswers (a ∷ []) s.history) now now [] (sym (append-nil now)) (commands_kept (images d) now has) (length text)
-      (record {
-        done = a ∷ [];
-        others = [];
-        asks_are = refl;
-        meant = r.meant ∷ [];
-        mean = (r.means, tt);
-        last = [];
-        last_is = inl refl;
-        bytes_are = ap (λ (l : List ℕ). length l) (r.text_is ∙ sym (append-nil _) ∙ sym (append-nil _));
-        commands_are = ap (λ (h : History). h.commands) r.moved.0;
-      })
-      held held [] text log log log' (Appends-nil held) (omega arith) (upheld_none (AreAnswers (a ∷ []) s.history) (moment d) (images_since d) now held log) notes
+-- a text, and another one after it
+pub notes_both : (at : ℕ) (held mid : Option (List ℕ)) (text last : List ℕ) (log log' log'' : Option (List Stamp)) → Appends held mid text → ((s : List ℕ) → held ≡ Some s → Notes at (length s + length text) log log')
+    → ((s : List ℕ) → mid ≡ Some s → Notes at (length s + length last) log' log'') → (s : List ℕ) → held ≡ Some s → Notes at (length s + length (text ++ last)) log log''
+notes_both at held mid text last log log' log'' wrote first second s told =
+    let most : ℕ = length s + length (text ++ last) in
+    let one = first s told in
+    let two = second (s ++ text) (held_after held mid s text told wrote) in
+    let both = length-append text last in
+    let long = length-append s text in
+    record {
+      stamps = one.stamps ++ two.stamps;
+      added = adds_trans log log' log'' one.stamps two.stamps one.added two.added;
+      each = at_both at most one.stamps two.stamps (at_wider at (length s + length text) most one.stamps (omega (arith, both)) one.each)
+          (at_wider at (length (s ++ text) + length last) most two.stamps (omega (arith, both, long)) two.each);
+    }
 
+-- a text that ends within the responses to some first requests, and what is written after them
+pub text_upheld : {D : Type 0} (images : D → List ℕ → Type 0) (moment : D → ℕ) (images_since : D → ℕ → List ℕ → Type 0) (d : D) → ((c : List ℕ) → images_since d (moment d) c → images d c) → {n : ℕ} {done : List Ask} {s mid : Stand} {w : List ℕ}
+    → IsAnswered n done s mid w → (more asks : List Ask) → asks ≡ done ++ more → (last : List ℕ) → IsLastText last → (now list : List Accepted) → now ≡ mid.history.commands ++ list → Each (images d) (HasCommands mid.history.commands)
+    → (held held' : Option (List ℕ)) (front text : List ℕ) → Appends held held' front → length front + length text ≤ length w + length last
+    → (log log' log'' : Option (List Stamp)) → Upholds (AreAnswers asks s.history) (moment d) (images_since d) now held log log' → ((x : List ℕ) → held' ≡ Some x → Notes (moment d) (length x + length text) log' log'')
+    → Upholds (AreAnswers asks s.history) (moment d) (images_since d) now held log log''
+text_upheld {D} images moment images_since d only {n} {done} {s} {mid} {w} answered more asks is last last_is now list now_is has held held' front text wrote small log log' log'' up notes =
+    let long = length-append (responses_to s.history answered.meant) last in
+    let same : length w ≡ length (responses_to s.history answered.meant) = ap (λ (l : List ℕ). length l) answered.wrote_is in
+    upheld_written images moment images_since d only (AreAnswers asks s.history) now mid.history.commands list now_is has (length (responses_to s.history answered.meant ++ last))
+    (record {
+      done = done;
+      others = more;
+      asks_are = is;
+      meant = answered.meant;
+      mean = answered.mean;
+      last = last;
+      last_is = last_is;
+      bytes_are = refl;
+      commands_are = ap (λ (h : History). h.commands) answered.moved.0;
+    })
+    held held' front text log log' log'' wrote (omega (arith, long, same, small)) up notes
+
+module _ {D : Type 0} (images : D → List ℕ → Type 0) (moment : D → ℕ) (images_since : D → ℕ → List ℕ → Type 0) (d : D) (only : (c : List ℕ) → images_since d (moment d) c → images d c) (held : Option (List ℕ)) (log log' : Option (List Stamp)) where
   -- that the disk failed, or that no memory was there
   pub last_upheld : (asks : List Ask) (h : History) (now list : List Accepted) (last : List ℕ) → now ≡ h.commands ++ list → Each (images d) (HasCommands h.commands) → IsLastText last
       → ((x : List ℕ) → held ≡ Some x → Notes (moment d) (length x + length last) log log') → Upholds (AreAnswers asks h) (moment d) (images_since d) now held log log'
@@ -127,32 +148,17 @@ module _ {D : Type 0} (images : D → List ℕ → Type 0) (moment : D → ℕ) 
 
 -- ---- one run after another
 
+-- what was upheld before a call, and the writes of the call
+pub call_upheld : {D : Type 0} (images : D → List ℕ → Type 0) (moment : D → ℕ) (images_since : D → ℕ → List ℕ → Type 0) (old new : D) (now now' pending : List Accepted) → OnDisk images moment images_since old new now now' pending
+    → (h : History) (first more asks : List Ask) → asks ≡ first ++ more → (held : Option (List ℕ)) (log log' log'' : Option (List Stamp)) → Upholds (AreAnswers asks h) (moment old) (images_since old) now held log log'
+    → Upholds (AreAnswers first h) (moment new) (images_since new) now' held log' log'' → Upholds (AreAnswers asks h) (moment new) (images_since new) now' held log log''
+call_upheld images moment images_since old new now now' pending disk h first more asks is held log log' log'' before after =
+    upheld_then (AreAnswers asks h) (AreAnswers first h) (AreAnswers asks h) (moment new) (images_since new) now' [] (λ bytes commands x. x)
+    (λ bytes commands x. subst (λ l. AreAnswers l h (0 + bytes) commands) (sym is) (subst (λ n. AreAnswers (first ++ more) h n commands) (omega arith) (answers_more first more h bytes commands x)))
+    held held log log' log'' (Appends-nil held) (upheld_later images moment images_since old new now now' pending disk (AreAnswers asks h) held log log' before) after
+
 module _ {D : Type 0} (images : D → List ℕ → Type 0) (moment : D → ℕ) (images_since : D → ℕ → List ℕ → Type 0) (mid new : D) (n : ℕ) (s t t' : Stand) (pending : List Accepted)
     (disk : OnDisk images moment images_since mid new t.history.commands t'.history.commands pending) (held held' : Option (List ℕ)) (wrote : List ℕ) (appends : Appends held held' wrote) (log log' log'' : Option (List Stamp)) where
-  -- requests that are answered, and others after them, which are the first ones of some
-  pub round_upheld : (xs ys more asks : List Ask) → asks ≡ (xs ++ ys) ++ more → IsAnswered n xs s t wrote
-      → Upholds (AreAnswers xs s.history) (moment mid) (images_since mid) t.history.commands held log log' → Upholds (AreAnswers ys t.history) (moment new) (images_since new) t'.history.commands held' log' log''
-      → Upholds (AreAnswers asks s.history) (moment new) (images_since new) t'.history.commands held log log''
-  round_upheld xs ys more asks is first before after =
-      upheld_then (AreAnswers xs s.history) (AreAnswers ys t.history) (AreAnswers asks s.history) (moment new) (images_since new) t'.history.commands wrote
-      (λ bytes commands x. subst (λ l. AreAnswers l s.history bytes commands) (sym (is ∙ append_assoc xs ys more)) (answers_more xs (ys ++ more) s.history bytes commands x))
-      (λ bytes commands x. subst (λ l. AreAnswers l s.history (length wrote + bytes) commands) (sym is) (answers_more (xs ++ ys) more s.history (length wrote + bytes) commands (answers_then n xs ys s t wrote bytes commands first x)))
-      held held' log log' log'' appends (upheld_later images moment images_since mid new t.history.commands t'.history.commands pending disk (AreAnswers xs s.history) held log log' before) after
-
-  -- one request more is answered
-  pub next_upheld : (i : ℕ) (asks : List Ask) (a d : Ask) → i < length asks → a ≡ get_or asks i d → IsAnswered n (take i asks) s t wrote
-      → Upholds (AreAnswers (take i asks) s.history) (moment mid) (images_since mid) t.history.commands held log log' → Upholds (AreAnswers (a ∷ []) t.history) (moment new) (images_since new) t'.history.commands held' log' log''
-      → Upholds (AreAnswers (take (i + 1) asks) s.history) (moment new) (images_since new) t'.history.commands held log log''
-  next_upheld i asks a d lt is first before after =
-      round_upheld (take i asks) (a ∷ []) [] (take (i + 1) asks) (take_more asks i d lt ∙ ap (λ x. take i asks ++ x ∷ []) (sym is) ∙ sym (append-nil (take i asks ++ a ∷ []))) first before after
-
-  -- it is the last one that is acted on
-  pub stop_upheld : (i : ℕ) (asks : List Ask) (a d : Ask) → i < length asks → a ≡ get_or asks i d → IsAnswered n (take i asks) s t wrote
-      → Upholds (AreAnswers (take i asks) s.history) (moment mid) (images_since mid) t.history.commands held log log' → Upholds (AreAnswers (a ∷ []) t.history) (moment new) (images_since new) t'.history.commands held' log' log''
-      → Upholds (AreAnswers asks s.history) (moment new) (images_since new) t'.history.commands held log log''
-  stop_upheld i asks a d lt is first before after =
-      round_upheld (take i asks) (a ∷ []) (drop (i + 1) asks) asks (parted i asks a d lt is ∙ sym (append_assoc (take i asks) (a ∷ []) (drop (i + 1) asks))) first before after
-
   -- the requests of a piece after those of the bytes before it
   pub piece_upheld : (asks : List Ask) (taken rest piece : List ℕ) → AsksTo taken asks (Some rest) → IsAnswered n asks s t wrote
       → Upholds (AreAnswersOf s.history taken) (moment mid) (images_since mid) t.history.commands held log log' → Upholds (AreAnswersIn t.history (rest ++ piece)) (moment new) (images_since new) t'.history.commands held' log' log''

@@ -13,7 +13,7 @@ use Rattle.serv_links.specs.declared.doors.DoorsEnd.TheVariants as doors_end
 use Rattle.serv_links.specs.declared.link_end.LinkEnd.{LinkEnd}
 use Rattle.serv_links.specs.declared.link_end.LinkEnd.TheVariants.{Ended, Broken, Cut, Disk, NoMemory}
 use Rattle.serv_links.specs.declared.summary.Summary.{Summary}
-use Rattle.serv_links.specs.Responses.{Stand}
+use Rattle.serv_machine.specs.Stands.{Stand}
 use Rattle.serv_disk.specs.Faults.{HasRisen}
 use Rattle.serv_links.specs.Outcomes.{Writes}
 use Rattle.serv_links.specs.Answered.{AreAnswersOf}

@@ -16,7 +16,8 @@ use Rattle.serv_machine.specs.OnDisk.{OnDisk}
 use Rattle.serv_links.specs.declared.link_end.LinkEnd.TheVariants as link_end
 use Rattle.serv_links.specs.declared.outcome.Outcome.{Outcome}
 use Rattle.serv_links.specs.declared.outcome.Outcome.TheVariants as outcome
-use Rattle.serv_links.specs.Responses.{Stand, response_503}
+use Rattle.serv_machine.specs.Stands.{Stand}
+use Rattle.serv_links.specs.Responses.{response_503}
 use Rattle.serv_links.specs.Outcomes.{IsAnswered, IsCutOff, IsUnread, IsPiece, AppendsFront, Writes}
 use Rattle.serv_machine.specs.Upheld.{Upholds}
 use Rattle.serv_machine.proofs.UpheldLemmas.{upheld_none}

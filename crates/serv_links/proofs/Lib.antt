@@ -1,7 +1,9 @@
-pub mod ReplyLemmas
-pub mod AskLemmas
+pub mod VerdictLemmas
 pub mod RoundLemmas
+pub mod AskLemmas
+pub mod OneLemmas
 pub mod AnsweredLemmas
+pub mod GatheredLemmas
+pub mod UpheldLemmas
 pub mod GoingLemmas
 pub mod DoorsLemmas
-pub mod OneLemmas

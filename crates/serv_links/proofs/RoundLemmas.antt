@@ -1,27 +1,24 @@
 -- Requests in order, one after another.
-use Rattle.std.proofs.Common.{◌≡◌, ℕ, suc, Bool, ◌+◌, ◌<◌, ◌≤◌, List, [], ◌∷◌, ◌++◌, length, take, drop, get_or, refl, sym, ap, subst, ◌∙◌, inl, inr, arith, append_assoc, append-nil, length-append, drop-cons, add-one, zero-add}
-use Rattle.std.specs.Prelude.{Option, None, Result, Ok, Err, OnOk, OnErr}
+use Rattle.std.proofs.Common.{◌≡◌, ℕ, suc, ◌+◌, ◌<◌, ◌≤◌, List, [], ◌∷◌, ◌++◌, length, take, drop, get_or, refl, sym, ap, subst, ◌∙◌, inl, inr, arith, append_assoc, append-nil, length-append, drop-cons, add-one, zero-add}
+use Rattle.std.specs.Prelude.{Option, Result, Ok, Err, OnOk, OnErr, IfErr}
 use Rattle.std.specs.Io.KnownBytes.{Appends}
-use Rattle.std.proofs.KnownBytes.{Appends-nil, Appends-trans}
+use Rattle.std.proofs.KnownBytes.{Appends-trans}
 use Rattle.std.proofs.lemmas.Bool.{cases_lt}
-use Rattle.std.proofs.lemmas.List.{take_more, take-append-drop}
-use Rattle.svc_world.specs.World.{Accepted}
+use Rattle.std.proofs.lemmas.List.{take-append-drop}
+use Rattle.svc_world.specs.World.{Accepted, accepted}
 use Rattle.serv_disk.specs.Faults.{AppendsPart, HasRisen}
-use Rattle.serv_http.specs.declared.ask.Allow.{Allow}
 use Rattle.serv_http.specs.declared.ask.Ask.{Ask}
-use Rattle.serv_http.specs.declared.ask.Ask.TheVariants.{Post, Fault}
 use Rattle.serv_http.specs.declared.conn.Conn.{Conn}
 use Rattle.serv_http.specs.Conns.{IsFed}
-use Rattle.serv_machine.specs.declared.faults.Halt.TheVariants as halt
-use Rattle.serv_machine.specs.History.{History}
+use Rattle.serv_machine.specs.History.{History, with_command}
 use Rattle.serv_machine.specs.OnDisk.{OnDisk}
 use Rattle.serv_machine.proofs.OnDiskLemmas.{disk_more}
 use Rattle.serv_links.specs.declared.outcome.Outcome.{Outcome}
 use Rattle.serv_links.specs.declared.outcome.Outcome.TheVariants.{Answered, Broken, Disk, NoMemory}
-use Rattle.serv_links.specs.Meanings.{Meaning, Faulty, Mean, IsNoBody}
-use Rattle.serv_links.specs.Responses.{Stand, MovesAll, response_to, responses_to, response_500, response_503, after_all, bound_of_all, history_after, bound_of}
-use Rattle.serv_links.specs.Outcomes.{IsReplied, IsFront, IsOne, IsAnswered, IsStopped, IsRound, IsCutOff, IsPiece, AppendsFront, Halts, Writes}
-use Rattle.serv_http.specs.Responses.{response}
+use Rattle.serv_links.specs.Meanings.{Meaning, Mean}
+use Rattle.serv_machine.specs.Stands.{Stand}
+use Rattle.serv_links.specs.Responses.{MovesAll, response_to, responses_to, response_500, response_503, after_all, bound_of_all, history_after, bound_of}
+use Rattle.serv_links.specs.Outcomes.{IsReplied, IsFront, IsAhead, IsNext, IsNextStuck, IsOne, IsStuck, IsAnswered, IsStopped, IsRound, IsCutOff, IsPiece, AppendsFront, Writes}
 
 -- ---- lists of meanings
 
@@ -72,7 +69,7 @@ answered_more n m xs ys s mid s' w1 w2 first second = record {
   moved = moved_more first.meant second.meant s mid s' first.moved second.moved;
 }
 
-answered_one : (a : Ask) (s s' : Stand) (text : List ℕ) → IsReplied a s s' text → IsAnswered 1 (a ∷ []) s s' text
+pub answered_one : (a : Ask) (s s' : Stand) (text : List ℕ) → IsReplied a s s' text → IsAnswered 1 (a ∷ []) s s' text
 answered_one a s s' text r = record {
   meant = r.meant ∷ [];
   mean = (r.means, tt);
@@ -96,36 +93,65 @@ stopped_more cut o n m xs ys s mid s' pending w1 w2 first second = record {
   one = second.one;
 }
 
-one_answered : (i : ℕ) (asks : List Ask) (a d : Ask) (s mid s' : Stand) (w1 w2 : List ℕ) → i < length asks → a ≡ get_or asks i d → IsAnswered i (take i asks) s mid w1 → IsReplied a mid s' w2
-    → IsAnswered (i + 1) (take (i + 1) asks) s s' (w1 ++ w2)
-one_answered i asks a d s mid s' w1 w2 lt is first second =
-    subst (λ l. IsAnswered (i + 1) l s s' (w1 ++ w2)) (ap (λ x. take i asks ++ x ∷ []) is ∙ sym (take_more asks i d lt))
-    (answered_more i 1 (take i asks) (a ∷ []) s mid s' w1 w2 first (answered_one a mid s' w2 second))
-
 pub parted : (i : ℕ) (asks : List Ask) (a d : Ask) → i < length asks → a ≡ get_or asks i d → asks ≡ take i asks ++ a ∷ drop (i + 1) asks
 parted i asks a d lt is =
     sym (take-append-drop i asks) ∙ ap (λ l. take i asks ++ l) (drop-cons asks i d lt ∙ (ap (λ x. x ∷ drop (suc i) asks) (sym is) ∙ ap (λ n. a ∷ drop n asks) (sym (add-one i))))
 
-one_stopped : (cut : Type 0) (o : Outcome) (i : ℕ) (asks : List Ask) (a d : Ask) (s mid s' : Stand) (pending : List Accepted) (w1 w2 : List ℕ) → i < length asks → a ≡ get_or asks i d
-    → IsAnswered i (take i asks) s mid w1 → IsOne cut o a mid s' pending w2 → IsStopped cut o i asks s s' pending (w1 ++ w2)
-one_stopped cut o i asks a d s mid s' pending w1 w2 lt is first one = record {
-  done = take i asks;
-  ask = a;
-  rest = drop (i + 1) asks;
-  asked = parted i asks a d lt is;
-  mid = mid;
-  before = w1;
-  answered = first;
-  part = w2;
-  wrote_is = refl;
-  one = one;
+ahead_wider : (rest more : List Ask) (h : History) (n m : ℕ) → IsAhead rest h n m → IsAhead (rest ++ more) h n m
+ahead_wider [] [] h n m is = is
+ahead_wider [] (a ∷ more) h n m is = inl is
+ahead_wider (a ∷ rest) more h n m is = is
+
+next_wider : (rest more : List Ask) (s s' : Stand) → IsNext rest s s' → IsNext (rest ++ more) s s'
+next_wider [] [] s s' is = is
+next_wider [] (a ∷ more) s s' is = inl is
+next_wider (a ∷ rest) more s s' is = is
+
+next_stuck_wider : (rest more : List Ask) (s s' : Stand) (pending : List Accepted) → IsNextStuck rest s s' pending → IsNextStuck (rest ++ more) s s' pending
+next_stuck_wider [] more s s' pending is = absurd is
+next_stuck_wider (a ∷ rest) more s s' pending is = is
+
+stuck_wider : (a : Ask) (rest more : List Ask) (s s' : Stand) (pending : List Accepted) → IsStuck a rest s s' pending → IsStuck a (rest ++ more) s s' pending
+stuck_wider a rest more s s' pending is = record {
+  key = is.key;
+  command = is.command;
+  last = is.last;
+  means = is.means;
+  fresh = is.fresh;
+  pending_is = is.pending_is;
+  same = is.same;
+  steps = is.steps;
+  cost = is.cost;
+  ahead = ahead_wider rest more (with_command s.history (accepted is.key is.command)) is.steps s'.steps is.ahead;
 }
 
-round_stopped : (cut : Type 0) (o : Outcome) (i : ℕ) (asks : List Ask) (s s' : Stand) (pending : List Accepted) (w : List ℕ) → (o ≡ Answered → ⊥) → IsStopped cut o i asks s s' pending w → IsRound cut o i asks s s' pending w
-round_stopped cut Answered i asks s s' pending w not stopped = absurd (not refl)
-round_stopped cut Broken i asks s s' pending w not stopped = stopped
-round_stopped cut Disk i asks s s' pending w not stopped = stopped
-round_stopped cut NoMemory i asks s s' pending w not stopped = stopped
+-- of more requests it is said too
+one_wider : (cut : Type 0) (o : Outcome) (a : Ask) (rest more : List Ask) (s s' : Stand) (pending : List Accepted) (w : List ℕ) → IsOne cut o a rest s s' pending w → IsOne cut o a (rest ++ more) s s' pending w
+one_wider cut Answered a rest more s s' pending w is = absurd is
+one_wider cut Broken a rest more s s' pending w (none, (t, is, next)) = (none, (t, is, next_wider rest more t s' next))
+one_wider cut Disk a rest more s s' pending w (inl (is, front)) = inl (stuck_wider a rest more s s' pending is, front)
+one_wider cut Disk a rest more s s' pending w (inr (risen, (t, is, next))) = inr (risen, (t, is, next_stuck_wider rest more t s' pending next))
+one_wider cut NoMemory a rest more s s' pending w is = is
+
+stopped_wider : (cut : Type 0) (o : Outcome) (n : ℕ) (asks more : List Ask) (s s' : Stand) (pending : List Accepted) (w : List ℕ) → IsStopped cut o n asks s s' pending w → IsStopped cut o n (asks ++ more) s s' pending w
+stopped_wider cut o n asks more s s' pending w is = record {
+  done = is.done;
+  ask = is.ask;
+  rest = is.rest ++ more;
+  asked = ap (λ l. l ++ more) is.asked ∙ append_assoc is.done (is.ask ∷ is.rest) more;
+  mid = is.mid;
+  before = is.before;
+  answered = is.answered;
+  part = is.part;
+  wrote_is = is.wrote_is;
+  one = one_wider cut o is.ask is.rest more is.mid s' pending is.part is.one;
+}
+
+round_stopped : (cut : Type 0) (o : Outcome) (n : ℕ) (asks : List Ask) (s s' : Stand) (pending : List Accepted) (w : List ℕ) → IsStopped cut o n asks s s' pending w → IsRound cut o n asks s s' pending w
+round_stopped cut Answered n asks s s' pending w stopped = absurd stopped.one
+round_stopped cut Broken n asks s s' pending w stopped = stopped
+round_stopped cut Disk n asks s s' pending w stopped = stopped
+round_stopped cut NoMemory n asks s s' pending w stopped = stopped
 
 pub piece_of : (cut : Type 0) (o : Outcome) (n : ℕ) (asks : List Ask) (bytes : List ℕ) (c : Conn) (s s' : Stand) (pending : List Accepted) (w : List ℕ) → IsFed bytes asks c → IsRound cut o n asks s s' pending w
     → IsPiece cut o n bytes c s s' pending w
@@ -134,15 +160,7 @@ piece_of cut Broken n asks bytes c s s' pending w fed round = record { asks = as
 piece_of cut Disk n asks bytes c s s' pending w fed round = record { asks = asks; left = fed.0; asked = fed.1; stopped = round }
 piece_of cut NoMemory n asks bytes c s s' pending w fed round = inl (record { asks = asks; left = fed.0; asked = fed.1; stopped = round })
 
--- ---- one request
-
-pub no_body_replied : (body : List ℕ) (last : Bool) (s : Stand) (text : List ℕ) → IsNoBody body → text ≡ response 400 [] last None → IsReplied (Post body last) s s text
-unfolding response_to
-no_body_replied body last s text none is = record { meant = Faulty 400 last None; means = (none, refl, refl, refl); text_is = is; moved = (refl, omega arith) }
-
-pub fault_replied : (status : ℕ) (last : Bool) (allow : Option Allow) (s : Stand) (text : List ℕ) → text ≡ response status [] last allow → IsReplied (Fault status last allow) s s text
-unfolding response_to
-fault_replied status last allow s text is = record { meant = Faulty status last allow; means = (refl, refl, refl); text_is = is; moved = (refl, omega arith) }
+-- ---- what is written last
 
 pub front_by : {E : Type 0} (cut : Type 0) (r : Result (Unit {0}) E) (held held' : Option (List ℕ)) (text : List ℕ) → OnOk r (Appends held held' text) → OnErr r (AppendsPart held held' text) → OnErr r cut
     → AppendsFront cut held held' text
@@ -155,31 +173,31 @@ front_by cut (Err e) held held' text whole part risen =
 front_weaker : (cut later : Type 0) (part whole : List ℕ) → (cut → later) → IsFront cut part whole → IsFront later part whole
 front_weaker cut later part whole then f = record { rest = f.rest; joined = f.joined; all = λ calm. f.all (λ c. calm (then c)) }
 
-pub one_weaker : (cut later : Type 0) (o : Outcome) (a : Ask) (s s' : Stand) (pending : List Accepted) (w : List ℕ) → (cut → later) → IsOne cut o a s s' pending w → IsOne later o a s s' pending w
-one_weaker cut later Answered a s s' pending w then is = is
-one_weaker cut later Broken a s s' pending w then is = is
-one_weaker cut later Disk a s s' pending w then is = (is.0, front_weaker cut later w response_500 then is.1)
-one_weaker cut later NoMemory a s s' pending w then is = (is.0, is.1, front_weaker cut later w response_503 then is.2)
+one_weaker : (cut later : Type 0) (o : Outcome) (a : Ask) (rest : List Ask) (s s' : Stand) (pending : List Accepted) (w : List ℕ) → (cut → later) → IsOne cut o a rest s s' pending w → IsOne later o a rest s s' pending w
+one_weaker cut later Answered a rest s s' pending w then is = absurd is
+one_weaker cut later Broken a rest s s' pending w then is = is
+one_weaker cut later Disk a rest s s' pending w then (inl is) = inl (is.0, front_weaker cut later w response_500 then is.1)
+one_weaker cut later Disk a rest s s' pending w then (inr is) = inr (then is.0, is.1)
+one_weaker cut later NoMemory a rest s s' pending w then is = (is.0, is.1, front_weaker cut later w response_503 then is.2)
+
+stopped_weaker : (cut later : Type 0) (o : Outcome) (n : ℕ) (asks : List Ask) (s s' : Stand) (pending : List Accepted) (w : List ℕ) → (cut → later) → IsStopped cut o n asks s s' pending w → IsStopped later o n asks s s' pending w
+stopped_weaker cut later o n asks s s' pending w then is = record {
+  done = is.done;
+  ask = is.ask;
+  rest = is.rest;
+  asked = is.asked;
+  mid = is.mid;
+  before = is.before;
+  answered = is.answered;
+  part = is.part;
+  wrote_is = is.wrote_is;
+  one = one_weaker cut later o is.ask is.rest is.mid s' pending is.part then is.one;
+}
 
 cut_off_weaker : (cut later : Type 0) (o : Outcome) (n : ℕ) (bytes : List ℕ) (s s' : Stand) (pending : List Accepted) (w : List ℕ) → (cut → later) → IsCutOff cut o n bytes s s' pending w
     → IsCutOff later o n bytes s s' pending w
-cut_off_weaker cut later o n bytes s s' pending w then is = record {
-  asks = is.asks;
-  left = is.left;
-  asked = is.asked;
-  stopped = record {
-    done = is.stopped.done;
-    ask = is.stopped.ask;
-    rest = is.stopped.rest;
-    asked = is.stopped.asked;
-    mid = is.stopped.mid;
-    before = is.stopped.before;
-    answered = is.stopped.answered;
-    part = is.stopped.part;
-    wrote_is = is.stopped.wrote_is;
-    one = one_weaker cut later o is.stopped.ask is.stopped.mid s' pending is.stopped.part then is.stopped.one;
-  };
-}
+cut_off_weaker cut later o n bytes s s' pending w then is =
+    record { asks = is.asks; left = is.left; asked = is.asked; stopped = stopped_weaker cut later o n is.asks s s' pending w then is.stopped }
 
 pub piece_weaker : (cut later : Type 0) (o : Outcome) (n : ℕ) (bytes : List ℕ) (c : Conn) (s s' : Stand) (pending : List Accepted) (w : List ℕ) → (cut → later) → IsPiece cut o n bytes c s s' pending w
     → IsPiece later o n bytes c s s' pending w
@@ -200,9 +218,6 @@ risen_last old mid new before after (inr full) = elim (cases_lt old mid) [ inl l
 -- ---- with what is left on a disk
 
 module _ {D : Type 0} (images : D → List ℕ → Type 0) (moment : D → ℕ) (images_since : D → ℕ → List ℕ → Type 0) where
-  pub halts_here : (d : D) (a : Ask) (s : Stand) → OnDisk images moment images_since d d s.history.commands s.history.commands [] → Halts images moment images_since d d halt.OutOfMemory a s s
-  halts_here d a s disk = record { pending = []; halted = (refl, inl (refl, omega arith)); disk = disk }
-
   -- what was written, and then more
   pub writes_more : (old mid new : D) (P Q R : List Accepted → List ℕ → Type 0) (h h1 h2 : List Accepted) (held held1 held2 : Option (List ℕ))
       (first : Writes images moment images_since old mid P h h1 held held1) → first.pending ≡ [] → (second : Writes images moment images_since mid new Q h1 h2 held1 held2)
@@ -219,27 +234,38 @@ module _ {D : Type 0} (images : D → List ℕ → Type 0) (moment : D → ℕ) 
       → Writes images moment images_since old new P h h' held held' → Writes images moment images_since old new Q h h' held held'
   writes_as old new P Q h h' held held' then w = record { pending = w.pending; wrote = w.wrote; appends = w.appends; says_so = then w.pending w.wrote w.says_so; disk = w.disk }
 
-  pub round_goes_on : (cut : Type 0) (old mid new : D) (i : ℕ) (asks : List Ask) (a d : Ask) (s t s' : Stand) (held held1 held2 : Option (List ℕ)) → i < length asks → a ≡ get_or asks i d
-      → Writes images moment images_since old mid (IsRound cut Answered i (take i asks) s t) s.history.commands t.history.commands held held1
-      → Writes images moment images_since mid new (IsOne cut Answered a t s') t.history.commands s'.history.commands held1 held2
-      → Writes images moment images_since old new (IsRound cut Answered (i + 1) (take (i + 1) asks) s s') s.history.commands s'.history.commands held held2
-  round_goes_on cut old mid new i asks a d s t s' held held1 held2 lt is first second =
-      writes_more old mid new _ _ _ _ _ _ held held1 held2 first first.says_so.0 second
-      (second.says_so.0, one_answered i asks a d s t s' first.wrote second.wrote lt is first.says_so.1 second.says_so.1)
+  -- the disk's calls before what was written
+  pub writes_after : (old mid new : D) (P : List Accepted → List ℕ → Type 0) (h h1 h2 : List Accepted) (held held' : Option (List ℕ)) → OnDisk images moment images_since old mid h h1 []
+      → Writes images moment images_since mid new P h1 h2 held held' → Writes images moment images_since old new P h h2 held held'
+  writes_after old mid new P h h1 h2 held held' first w =
+      record { pending = w.pending; wrote = w.wrote; appends = w.appends; says_so = w.says_so; disk = disk_more images moment images_since old mid new h h1 h2 w.pending first w.disk }
 
-  pub round_stops : (cut before : Type 0) (o : Outcome) (old mid new : D) (i : ℕ) (asks : List Ask) (a d : Ask) (s t s' : Stand) (held held1 held2 : Option (List ℕ)) → (o ≡ Answered → ⊥) → i < length asks → a ≡ get_or asks i d
-      → Writes images moment images_since old mid (IsRound before Answered i (take i asks) s t) s.history.commands t.history.commands held held1
-      → Writes images moment images_since mid new (IsOne cut o a t s') t.history.commands s'.history.commands held1 held2
-      → Writes images moment images_since old new (IsRound cut o i asks s s') s.history.commands s'.history.commands held held2
-  round_stops cut before o old mid new i asks a d s t s' held held1 held2 not lt is first second =
-      writes_more old mid new _ _ _ _ _ _ held held1 held2 first first.says_so.0 second
-      (round_stopped cut o i asks s s' second.pending (first.wrote ++ second.wrote) not
-      (one_stopped cut o i asks a d s t s' second.pending first.wrote second.wrote lt is first.says_so.1 second.says_so))
+  -- by the result of a call
+  pub stopped_after : (old mid new : D) (cut : Type 0) (r : Result (Unit {0}) Outcome) (n : ℕ) (asks : List Ask) (s s' : Stand) (h h1 h2 : List Accepted) (held held' : Option (List ℕ)) → OnDisk images moment images_since old mid h h1 []
+      → IfErr r (λ o. Writes images moment images_since mid new (IsStopped cut o n asks s s') h1 h2 held held') → IfErr r (λ o. Writes images moment images_since old new (IsStopped cut o n asks s s') h h2 held held')
+  stopped_after old mid new cut (Ok done) n asks s s' h h1 h2 held held' first second = tt
+  stopped_after old mid new cut (Err o) n asks s s' h h1 h2 held held' first second = writes_after old mid new _ h h1 h2 held held' first second
 
-  -- no request yet
-  pub round_none : (cut : Type 0) (d : D) (s : Stand) (held : Option (List ℕ)) → OnDisk images moment images_since d d s.history.commands s.history.commands []
-      → Writes images moment images_since d d (IsRound cut Answered 0 [] s s) s.history.commands s.history.commands held held
-  round_none cut d s held disk = record { pending = []; wrote = []; appends = Appends-nil held; says_so = (refl, answered_none s s refl (omega arith)); disk = disk }
+  pub disk_after : (old mid new : D) (r : Result (Unit {0}) Outcome) (h h1 h2 : List Accepted) → OnDisk images moment images_since old mid h h1 [] → OnOk r (OnDisk images moment images_since mid new h1 h2 [])
+      → OnOk r (OnDisk images moment images_since old new h h2 [])
+  disk_after old mid new (Ok done) h h1 h2 first second = disk_more images moment images_since old mid new h h1 h2 [] first second
+  disk_after old mid new (Err o) h h1 h2 first second = tt
+
+  -- a cut within a longer run
+  pub stops_weaker : (cut later : Type 0) (o : Outcome) (old new : D) (n : ℕ) (asks : List Ask) (s s' : Stand) (h h' : List Accepted) (held held' : Option (List ℕ)) → (cut → later)
+      → Writes images moment images_since old new (IsStopped cut o n asks s s') h h' held held' → Writes images moment images_since old new (IsStopped later o n asks s s') h h' held held'
+  stops_weaker cut later o old new n asks s s' h h' held held' then w =
+      writes_as old new _ _ h h' held held' (λ pending wrote stopped. stopped_weaker cut later o n asks s s' pending wrote then stopped) w
+
+  -- it stopped within the first of some requests
+  pub round_stops : (cut later : Type 0) (o : Outcome) (old mid new : D) (n : ℕ) (asks first more : List Ask) (s s' : Stand) (h h1 : List Accepted) (held held' : Option (List ℕ)) → (cut → later) → asks ≡ first ++ more
+      → OnDisk images moment images_since old mid h h1 [] → Writes images moment images_since mid new (IsStopped cut o n first s s') h1 s'.history.commands held held'
+      → Writes images moment images_since old new (IsRound later o n asks s s') h s'.history.commands held held'
+  round_stops cut later o old mid new n asks first more s s' h h1 held held' then is before stops =
+      writes_as old new _ _ _ _ held held'
+      (λ pending w stopped. round_stopped later o n asks s s' pending w (subst (λ l. IsStopped later o n l s s' pending w) (sym is)
+      (stopped_wider later o n first more s s' pending w (stopped_weaker cut later o n first s s' pending w then stopped))))
+      (writes_after old mid new _ h h1 _ held held' before stops)
 
   -- the requests of a piece cannot be read
   pub unread_here : (cut : Type 0) (d : D) (bytes : List ℕ) (c : Conn) (s : Stand) (held held' : Option (List ℕ)) → AppendsFront cut held held' response_503

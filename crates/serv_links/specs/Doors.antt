@@ -13,7 +13,7 @@ use Rattle.serv_links.specs.declared.doors.DoorsEnd.TheVariants.{Done, DiskFault
 use Rattle.serv_links.specs.declared.link_end.LinkEnd.{LinkEnd}
 use Rattle.serv_links.specs.declared.link_end.LinkEnd.TheVariants as link_end
 use Rattle.serv_links.specs.declared.summary.Summary.{Summary}
-use Rattle.serv_links.specs.Responses.{Stand}
+use Rattle.serv_machine.specs.Stands.{Stand}
 use Rattle.serv_links.specs.Links.{IsDiskEnd, Serves, number_in}
 
 -- what is said of a link: its end, how it came and how it was handed back, where the books stood before and after it,

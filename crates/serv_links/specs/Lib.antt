@@ -1,7 +1,8 @@
 pub mod Meanings
 pub mod Responses
-pub mod Told
 pub mod Outcomes
+pub mod Verdicts
+pub mod Gathered
 pub mod Answered
 pub mod Links
 pub mod Doors

@@ -8,7 +8,8 @@ use Rattle.serv_links.specs.declared.link_end.LinkEnd.{LinkEnd}
 use Rattle.serv_links.specs.declared.link_end.LinkEnd.TheVariants as link_end
 use Rattle.serv_links.specs.declared.outcome.Outcome.TheVariants as outcome
 use Rattle.serv_links.specs.Answered.{AreFirst, AreAnswersOf}
-use Rattle.serv_links.specs.Responses.{Stand, Stays, response_503}
+use Rattle.serv_machine.specs.Stands.{Stand, Stays}
+use Rattle.serv_links.specs.Responses.{response_503}
 use Rattle.serv_links.specs.Outcomes.{IsAnswered, IsCutOff, IsFront}
 
 -- the most bytes that are taken from a link: 16,777,216

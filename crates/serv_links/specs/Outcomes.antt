@@ -9,14 +9,13 @@ use Rattle.serv_http.specs.declared.ask.Ask.{Ask}
 use Rattle.serv_http.specs.declared.conn.Conn.{Conn}
 use Rattle.serv_http.specs.Conns.{IsFed}
 use Rattle.serv_http.specs.Streams.{AsksTo}
-use Rattle.serv_machine.specs.declared.faults.Halt.{Halt}
-use Rattle.serv_machine.specs.declared.faults.Halt.TheVariants as halt
-use Rattle.serv_machine.specs.History.{Fresh, decided}
+use Rattle.serv_machine.specs.History.{History, Fresh, decided, with_command}
 use Rattle.serv_machine.specs.OnDisk.{OnDisk}
 use Rattle.serv_links.specs.declared.outcome.Outcome.{Outcome}
 use Rattle.serv_links.specs.declared.outcome.Outcome.TheVariants.{Answered, Broken, Disk, NoMemory}
 use Rattle.serv_links.specs.Meanings.{Meaning, Asks, Means, Mean}
-use Rattle.serv_links.specs.Responses.{Stand, Stays, Moves, MovesAll, history_after, bound_of, response_to, responses_to, response_500, response_503}
+use Rattle.serv_machine.specs.Stands.{Stand, Stays}
+use Rattle.serv_links.specs.Responses.{Moves, MovesAll, history_after, bound_of, response_to, responses_to, response_500, response_503}
 
 -- ---- one request
 
@@ -34,8 +33,14 @@ pub record IsCut (a : Ask) (s s' : Stand) (wrote : List ℕ) : Type 0 where
   pub cut : IsProperPrefix wrote (response_to s.history meant)
   pub moved : Moves meant s s'
 
--- the disk failed while its command was being appended; it is not accepted
-pub record IsStuck (a : Ask) (s s' : Stand) (pending : List Accepted) : Type 0 where
+-- steps may have been taken for the first one of these, over these books
+abbrev pub IsAhead : List Ask → History → ℕ → ℕ → Type 0
+IsAhead [] h steps steps' = steps' ≤ steps
+IsAhead (a ∷ rest) h steps steps' =
+    (steps' ≤ steps) ⊎ ((meant : Meaning) × Means a meant × (steps' ≤ steps + bound_of h meant))
+
+-- the disk failed while its command was being appended; it is not accepted. Steps may have been taken for the next one
+pub record IsStuck (a : Ask) (rest : List Ask) (s s' : Stand) (pending : List Accepted) : Type 0 where
   pub key : List ℕ
   pub command : Command
   pub last : Bool
@@ -43,7 +48,9 @@ pub record IsStuck (a : Ask) (s s' : Stand) (pending : List Accepted) : Type 0 w
   pub fresh : decided s.history key command ≡ Fresh
   pub pending_is : pending ≡ accepted key command ∷ []
   pub same : s'.history ≡ s.history
-  pub cost : s'.steps ≤ s.steps + bound_of s.history (Asks (request.Do key command) last)
+  pub steps : ℕ
+  pub cost : steps ≤ s.steps + bound_of s.history (Asks (request.Do key command) last)
+  pub ahead : IsAhead rest (with_command s.history (accepted key command)) steps s'.steps
 
 -- no memory was there once it was known what it means: it was acted on or not
 pub record IsTriedAs (a : Ask) (s s' : Stand) : Type 0 where
@@ -55,6 +62,16 @@ pub record IsTriedAs (a : Ask) (s s' : Stand) : Type 0 where
 -- no memory was there
 abbrev pub IsTried : Ask → Stand → Stand → Type 0
 IsTried a s s' = Stays s s' ⊎ IsTriedAs a s s'
+
+-- the first one of these was acted on or not, and no further one
+abbrev pub IsNext : List Ask → Stand → Stand → Type 0
+IsNext [] s s' = Stays s s'
+IsNext (a ∷ rest) s s' = IsTried a s s'
+
+-- the disk failed while the command of the first one of these was being appended
+abbrev pub IsNextStuck : List Ask → Stand → Stand → List Accepted → Type 0
+IsNextStuck [] s s' pending = ⊥
+IsNextStuck (a ∷ rest) s s' pending = IsStuck a [] s s' pending
 
 -- a front part of a text, and all of it unless a write was cut
 pub record IsFront (cut : Type 0) (part whole : List ℕ) : Type 0 where
@@ -68,17 +85,15 @@ pub record AppendsFront (cut : Type 0) (held held' : Option (List ℕ)) (text : 
   pub appends : Appends held held' part
   pub front : IsFront cut part text
 
--- a request without a response, and the command that was being appended
-abbrev pub IsHalted : Halt → Ask → Stand → Stand → List Accepted → Type 0
-IsHalted halt.DiskFault a s s' pending = IsStuck a s s' pending
-IsHalted halt.OutOfMemory a s s' pending = (pending ≡ []) × IsTried a s s'
-
--- how it went, what was written, and the command that was being appended; 500 and 503 are written whole unless a write was cut
-abbrev pub IsOne : Type 0 → Outcome → Ask → Stand → Stand → List Accepted → List ℕ → Type 0
-IsOne cut Answered a s s' pending wrote = (pending ≡ []) × IsReplied a s s' wrote
-IsOne cut Broken a s s' pending wrote = (pending ≡ []) × IsCut a s s' wrote
-IsOne cut Disk a s s' pending wrote = IsStuck a s s' pending × IsFront cut wrote response_500
-IsOne cut NoMemory a s s' pending wrote = (pending ≡ []) × IsTried a s s' × IsFront cut wrote response_503
+-- How it went where it is not answered, or not whole, what was written, and the command that was being appended; 500 and 503 are
+-- written whole unless a write was cut. One request more may have been acted on before it was answered
+abbrev pub IsOne : Type 0 → Outcome → Ask → List Ask → Stand → Stand → List Accepted → List ℕ → Type 0
+IsOne cut Broken a rest s s' pending wrote = (pending ≡ []) × ((t : Stand) × IsCut a s t wrote × IsNext rest t s')
+IsOne cut Disk a rest s s' pending wrote =
+    (IsStuck a rest s s' pending × IsFront cut wrote response_500)
+    ⊎ (cut × ((t : Stand) × IsCut a s t wrote × IsNextStuck rest t s' pending))
+IsOne cut NoMemory a rest s s' pending wrote = (pending ≡ []) × IsTried a s s' × IsFront cut wrote response_503
+IsOne cut other a rest s s' pending wrote = ⊥
 
 -- ---- requests in order
 
@@ -90,7 +105,7 @@ pub record IsAnswered (n : ℕ) (asks : List Ask) (s s' : Stand) (wrote : List �
   pub wrote_is : wrote ≡ responses_to s.history meant
   pub moved : MovesAll meant s s'
 
--- the first ones are answered, and the next one went so; no further one is acted on
+-- the first ones are answered, and the next one went so
 pub record IsStopped (cut : Type 0) (o : Outcome) (n : ℕ) (asks : List Ask) (s s' : Stand) (pending : List Accepted) (wrote : List ℕ) : Type 0 where
   pub done : List Ask
   pub ask : Ask
@@ -101,7 +116,7 @@ pub record IsStopped (cut : Type 0) (o : Outcome) (n : ℕ) (asks : List Ask) (s
   pub answered : IsAnswered n done s mid before
   pub part : List ℕ
   pub wrote_is : wrote ≡ before ++ part
-  pub one : IsOne cut o ask mid s' pending part
+  pub one : IsOne cut o ask rest mid s' pending part
 
 abbrev pub IsRound : Type 0 → Outcome → ℕ → List Ask → Stand → Stand → List Accepted → List ℕ → Type 0
 IsRound cut Answered n asks s s' pending wrote = (pending ≡ []) × IsAnswered n asks s s' wrote
@@ -142,12 +157,6 @@ IsPiece cut NoMemory n bytes c s s' pending wrote =
 -- ---- with what is left on a disk
 
 module _ {D : Type 0} (images : D → List ℕ → Type 0) (moment : D → ℕ) (images_since : D → ℕ → List ℕ → Type 0) (old new : D) where
-  -- a request without a response
-  pub record Halts (why : Halt) (a : Ask) (s s' : Stand) : Type 0 where
-    pub pending : List Accepted
-    pub halted : IsHalted why a s s' pending
-    pub disk : OnDisk images moment images_since old new s.history.commands s'.history.commands pending
-
   -- what is written to a link too; the command that was being appended is the one of the disk
   pub record Writes (says : List Accepted → List ℕ → Type 0) (h h' : List Accepted) (held held' : Option (List ℕ)) : Type 0 where
     pub pending : List Accepted

@@ -4,7 +4,6 @@ use Rattle.svc_types.specs.declared.requests.Command.{Command}
 use Rattle.svc_types.specs.declared.requests.Request.{Request}
 use Rattle.svc_types.specs.declared.requests.Request.TheVariants as request
 use Rattle.svc_types.specs.declared.replies.Refusal.{Refusal}
-use Rattle.svc_world.specs.World.{world}
 use Rattle.svc_world.specs.Judging.{next_reply}
 use Rattle.svc_world.specs.Answers.{query_refusal}
 use Rattle.serv_line.specs.Refusals.{code_of}
@@ -12,6 +11,7 @@ use Rattle.serv_json.specs.Replies.{reply_text}
 use Rattle.serv_http.specs.Responses.{response}
 use Rattle.serv_machine.specs.History.{History, Decision, Kept, Refused, Full, Fresh, decided}
 use Rattle.serv_machine.specs.Replies.{reply_to_request, history_after_request, bound_of_request}
+use Rattle.serv_machine.specs.Stands.{Stand}
 use Rattle.serv_links.specs.Meanings.{Meaning, Asks, Faulty}
 
 -- ---- a reply
@@ -102,18 +102,6 @@ bound_of_all h [] = 0
 bound_of_all h (m ∷ meant) = bound_of h m + bound_of_all (history_after h m) meant
 
 -- ---- where the books stand
-
--- what is held, and how many steps were taken
-pub record Stand : Type 0 where
-  pub history : History
-  pub steps : ℕ
-
-abbrev pub stand : History → ℕ → Stand
-stand h steps = record { history = h; steps = steps }
-
--- nothing was acted on
-abbrev pub Stays : Stand → Stand → Type 0
-Stays s s' = (s'.history ≡ s.history) × (s'.steps ≤ s.steps)
 
 -- a request was acted on, within its bound
 abbrev pub Moves : Meaning → Stand → Stand → Type 0

@@ -2,7 +2,7 @@
 
 ghost use Rattle.std.specs.Prelude.{◌≡◌, ◌≢◌, ◌≤◌};
 ghost use Rattle.serv_disk.specs.Faults.{HasRisen};
-ghost use Rattle.serv_links.specs.Responses.{stand};
+ghost use Rattle.serv_machine.specs.Stands.{stand};
 ghost use Rattle.serv_links.specs.Doors.{ServedLink, ServesDoors};
 
 use crate::link_end::LinkEnd;
@@ -51,7 +51,7 @@ pub fn serve_doors<D: Disk, M: Machine<D>, G: Doors, L: Ledger>(
         (ServedLink G.Conn.left G.Conn.held G.Conn.log G.Conn.Source.faults G.Conn.Sink.faults
         (D.moment disk.new) (D.images_since disk.new)) result.end result.summary
         most (G.coming doors.old) (G.coming doors.new) (G.backed doors.old) (G.backed doors.new)
-        (stand (M.history machine.old) steps.old) (stand (M.history machine.new) steps.new) }
+        (stand (M.kept machine.old) steps.old) (stand (M.kept machine.new) steps.new) }
     ensures out { G.out doors.new ≡ 0 }
     ensures ready { result.end ≢ DoorsEnd.DiskFault → M.ready machine.new disk.new }
     ensures net { result.end ≡ DoorsEnd.NetFault → HasRisen (G.faults doors.old) (G.faults doors.new) }

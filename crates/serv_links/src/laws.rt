@@ -6,7 +6,7 @@ ghost use Rattle.serv_http.specs.Streams.{AsksTo};
 ghost use Rattle.svc_world.specs.World.{Accepted};
 ghost use Rattle.serv_disk.specs.Faults.{HasRisen, IsProperPrefix};
 ghost use Rattle.serv_links.specs.Meanings.{Meaning, Means};
-ghost use Rattle.serv_links.specs.Responses.{Stand};
+ghost use Rattle.serv_machine.specs.Stands.{Stand};
 ghost use Rattle.serv_links.specs.Outcomes.{IsCutOff};
 ghost use Rattle.serv_links.specs.Answered.{AreFirst};
 ghost use Rattle.serv_links.specs.Links.{IsAll};

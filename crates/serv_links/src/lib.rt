@@ -2,14 +2,16 @@
 #![tactic(auto)]
 
 mod answering;
+mod closing;
+mod deciding;
 mod doors;
 mod laws;
 mod link_end;
 mod outcome;
-mod replying;
+mod responses;
 mod serving;
 mod summary;
-mod told;
+mod verdict;
 
 pub use doors::{DoorsEnd, MOST_LINKS, Service, serve_doors};
 pub use laws::any_pieces;

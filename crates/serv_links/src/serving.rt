@@ -3,11 +3,12 @@
 ghost use Rattle.std.specs.Prelude.{◌≡◌, ◌≢◌, ◌≤◌};
 ghost use Rattle.serv_disk.specs.Faults.{HasRisen};
 ghost use Rattle.serv_machine.specs.Upheld.{Upholds};
-ghost use Rattle.serv_links.specs.Responses.{stand};
+ghost use Rattle.serv_machine.specs.Stands.{stand};
 ghost use Rattle.serv_links.specs.Outcomes.{Writes};
 ghost use Rattle.serv_links.specs.Links.{IsDiskEnd, Serves, link_limit, number_in};
 
-use crate::answering::{serve_piece, write_no_memory};
+use crate::answering::serve_piece;
+use crate::closing::write_no_memory;
 use crate::link_end::LinkEnd;
 use crate::outcome::Outcome;
 use serv_disk::{Disk, Link, read_some};
@@ -23,9 +24,9 @@ pub const LINK_LIMIT: u32 = 1 << 24;
 /// How many bytes are asked for at a time.
 const ROOM: usize = 1 << 14;
 
-/// Serves a link to its end: each request is acted on in its order, once the response before it is written,
-/// and what is said is that of the bytes, whatever the pieces in which they come. The machine is ready again
-/// unless the disk failed.
+/// Serves a link to its end: each request is acted on in its order, its response is written once the disk has its
+/// command, all of them before the next read, and what is said is that of the bytes, whatever the pieces in which
+/// they come. The machine is ready again unless the disk failed.
 pub fn serve_link<D: Disk, M: Machine<D>, C: Link, L: Ledger>(
     alloc: Global,
     machine: &mut M,
@@ -38,10 +39,10 @@ pub fn serve_link<D: Disk, M: Machine<D>, C: Link, L: Ledger>(
         (Serves result (HasRisen (C.Source.faults link.old) (C.Source.faults link.new))
         (HasRisen (C.Sink.faults link.old) (C.Sink.faults link.new))
         (λ covers. Upholds covers (D.moment disk.new) (D.images_since disk.new)
-        (M.history machine.new).commands (C.held link.old) (C.log link.old) (C.log link.new))
+        (M.kept machine.new).commands (C.held link.old) (C.log link.old) (C.log link.new))
         (C.left link.old) (C.left link.new)
-        (stand (M.history machine.old) steps.old) (stand (M.history machine.new) steps.new))
-        (M.history machine.old).commands (M.history machine.new).commands
+        (stand (M.kept machine.old) steps.old) (stand (M.kept machine.new) steps.new))
+        (M.kept machine.old).commands (M.kept machine.new).commands
         (C.held link.old) (C.held link.new) }
     ensures few { number_in result ≤ link_limit }
     ensures ready { ¬ (IsDiskEnd result) → M.ready machine.new disk.new }

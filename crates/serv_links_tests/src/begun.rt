@@ -3,7 +3,7 @@
 ghost use Rattle.std.specs.Prelude.{◌≡◌, ◌<◌, OnOk};
 ghost use Rattle.serv_engine.specs.Engines.{IsRunning};
 
-use crate::engines::{DAY, NEXT, ONE_LINE, TWO_LINES, disk_of, engine_of, opened};
+use crate::engines::{DAY, NEXT, ONE_LINE, TWO_LINES, disk_of, engine_of, is_laid, opened};
 use serv_disk::{Disk, MemDisk};
 use serv_engine::{Engine, EngineFault, Taken};
 use serv_line::read_line;
@@ -108,7 +108,7 @@ fn are_taken(
 ) -> Result<bool, OutOfMemory> {
     let mut disk = disk_of(alloc, ONE_LINE)?;
     let text = taken(alloc, sent, &mut disk)?;
-    let is_left = disk.content() == left && opened(alloc, left) == Ok(count);
+    let is_left = is_laid(disk.content(), left) && opened(alloc, disk.content()) == Ok(count);
     Ok(text.as_str() == answer && is_left)
 }
 

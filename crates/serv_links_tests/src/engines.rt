@@ -45,8 +45,16 @@ fn push_record(bytes: &mut Vec<u8>, number: u8, line: &str) -> Result<(), AllocE
 /// A disk with this content.
 pub(crate) fn disk_of(alloc: Global, content: &[u8]) -> Result<MemDisk, OutOfMemory> {
     let mut disk = MemDisk::new(content.to_vec(alloc)?, Vec::new(alloc))?;
-    disk.reserve(64, 4096)?;
+    disk.reserve(64, 70_000)?;
     Ok(disk)
+}
+
+/// Whether a disk holds this file, with nothing or zeros behind it.
+pub(crate) fn is_laid(content: &[u8], file: &[u8]) -> bool {
+    match content.strip_prefix(file) {
+        Some(rest) => rest.iter().all(|byte| *byte == 0),
+        None => false,
+    }
 }
 
 /// The engine of a disk's journal with this limit.
@@ -231,7 +239,7 @@ fn is_answered(alloc: Global, row: &Row) -> Result<bool, OutOfMemory> {
         limit: *limit,
         line: *line,
     };
-    Ok(answers(alloc, &sent, &mut disk, *answer)? && disk.content() == *left)
+    Ok(answers(alloc, &sent, &mut disk, *answer)? && is_laid(disk.content(), *left))
 }
 
 /// Replies that say no more than their numbers.
@@ -290,7 +298,7 @@ fn is_made(alloc: Global) -> Result<bool, OutOfMemory> {
         limit: 99,
         line: DAY,
     };
-    Ok(made && answers(alloc, &sent, &mut disk, OK_1)? && disk.content() == ONE_LINE)
+    Ok(made && answers(alloc, &sent, &mut disk, OK_1)? && is_laid(disk.content(), ONE_LINE))
 }
 
 #[test]

@@ -4,6 +4,8 @@
 #[cfg(test)]
 mod begun;
 #[cfg(test)]
+mod counted;
+#[cfg(test)]
 mod doors;
 #[cfg(test)]
 mod engines;

@@ -1,5 +1,6 @@
 //! What is said on a link, and what faults leave of it.
 
+use crate::counted::{DAYS, SAID_TO_DAYS};
 use crate::other_links::Waiting;
 use crate::serving::{DAY, DAY_SAID, is_said, link_of, serve, serve_on_disk};
 use serv_disk::MemDisk;
@@ -78,7 +79,7 @@ const FAILED: &str =
 fn is_told(alloc: Global, fails: &[u32], end: LinkEnd, said: &str) -> Result<bool, OutOfMemory> {
     let journal = b"MSRVJ002\x00".to_vec(alloc)?;
     let mut disk = MemDisk::new(journal, fails.to_vec(alloc)?)?;
-    disk.reserve(64, 4096)?;
+    disk.reserve(64, 70_000)?;
     let mut link = link_of(alloc, DAY.as_bytes(), &[], &[])?;
     let ended = serve_on_disk(alloc, &mut disk, &mut link)?;
     Ok(ended == end && link.content() == said.as_bytes())
@@ -90,7 +91,51 @@ fn a_fault_of_the_disk_is_told(rt: HostRuntime) {
     assert!(rt; matches!(is_told(alloc, &[], LinkEnd::Ended(1), DAY_SAID), Ok(true)));
     // The first call of an append fails, and the last one.
     assert!(rt; matches!(is_told(alloc, &[4], LinkEnd::Disk(0), FAILED), Ok(true)));
-    assert!(rt; matches!(is_told(alloc, &[7], LinkEnd::Disk(0), FAILED), Ok(true)));
+    assert!(rt; matches!(is_told(alloc, &[9], LinkEnd::Disk(0), FAILED), Ok(true)));
+}
+
+/// Whether three days that are asked for in one piece over a disk of which this call fails end so: first ones of them are
+/// answered, and where not all are, a 500 follows.
+fn stops_at(alloc: Global, call: u32, answered: u32) -> Result<bool, OutOfMemory> {
+    let mut disk = MemDisk::new(b"MSRVJ002\x00".to_vec(alloc)?, [call].to_vec(alloc)?)?;
+    disk.reserve(64, 70_000)?;
+    let mut link = link_of(alloc, DAYS.as_bytes(), &[], &[])?;
+    let ended = serve_on_disk(alloc, &mut disk, &mut link)?;
+    let (end, last) = if answered < 3 {
+        (LinkEnd::Disk(answered), FAILED)
+    } else {
+        (LinkEnd::Ended(3), "")
+    };
+    let said = &SAID_TO_DAYS.as_bytes()[..DAY_SAID.len() * answered.min(3) as usize];
+    let told = link.content();
+    Ok(ended == end && told.starts_with(said) && &told[said.len()..] == last.as_bytes())
+}
+
+/// How many of the three days are answered where this call fails. Two calls lay the file ahead. The first
+/// record takes a write and a sync, each further one two writes, the other of the commit byte before it, and a sync; the
+/// last commit byte a write and a sync.
+const STOPS: [(u32, u32); 13] = [
+    (4, 0),
+    (5, 0),
+    (6, 0),
+    (7, 0),
+    (8, 0),
+    (9, 0),
+    (10, 0),
+    (11, 1),
+    (12, 1),
+    (13, 1),
+    (14, 2),
+    (15, 2),
+    (16, 3),
+];
+
+#[test]
+fn no_response_comes_before_its_command_is_on_the_disk(rt: HostRuntime) {
+    for (call, answered) in STOPS.iter() {
+        let stops = stops_at(rt.alloc(), *call, *answered);
+        assert!(rt; matches!(stops, Ok(true)), "call {call}");
+    }
 }
 
 #[test]

@@ -58,7 +58,7 @@ pub(crate) fn serve<C: Link>(alloc: Global, link: &mut C) -> Result<LinkEnd, Out
 }
 
 /// Serves a link over an engine.
-fn serve_by_engine<D: Disk, C: Link, L: Ledger>(
+pub(crate) fn serve_by_engine<D: Disk, C: Link, L: Ledger>(
     alloc: Global,
     engine: &mut Engine<Checked>,
     disk: &mut D,

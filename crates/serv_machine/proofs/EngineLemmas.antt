@@ -10,7 +10,7 @@ use Rattle.svc_world.specs.Judging as judging
 use Rattle.svc_world.specs.Judging.{Judgement, judged, IsHistory}
 use Rattle.serv_engine.specs.declared.fault.EngineFault.{EngineFault}
 use Rattle.serv_engine.specs.declared.fault.EngineFault.TheVariants as engine
-use Rattle.serv_engine.specs.Engines.{EngineState, IsDurableIn, IsDurable, IsRunningIn, IsRunning, WasTaken, kept_of, begun_of}
+use Rattle.serv_engine.specs.Engines.{EngineState, IsRunningIn, IsRunning, WasTaken, kept_of, begun_of}
 use Rattle.serv_engine.specs.declared.taken.Taken.{Taken}
 use Rattle.serv_engine.specs.declared.taken.Taken.TheVariants as taken
 use Rattle.serv_machine.specs.declared.stage.Stage.TheVariants as stage
@@ -23,15 +23,15 @@ use Rattle.serv_engine.specs.Submitting.{HasRoom, IsFull, IsSubmitFault}
 use Rattle.serv_machine.specs.declared.faults.ActFault.{ActFault}
 use Rattle.serv_machine.specs.declared.faults.ActFault.TheVariants as fault
 use Rattle.serv_machine.specs.History.{Journal, Decision, Full, Fresh, in_journal, by_room, by_judgement, decided, after_decision}
-use Rattle.serv_machine.specs.Replies.{IsReplyBy, IsUnsaid, IsFaultBy, pending_at}
+use Rattle.serv_machine.specs.Replies.{IsReplyBy, IsUnsaid, IsFaultBy}
 use Rattle.std.specs.Prelude.{Result, Err, true, false, nat_lt, if◌then◌else◌}
 use Rattle.serv_disk.specs.Disks.{Each, LeavesOnly}
 use Rattle.serv_disk.proofs.Moments.{weaker}
 use Rattle.serv_journal.specs.Format.{Form, IsForm}
 use Rattle.serv_engine.specs.Histories.{IsGoodFor, IsGoodFound}
-use Rattle.serv_machine.specs.EngineLaws.{durable_whole, running_whole}
+use Rattle.serv_machine.specs.EngineLaws.{running_whole}
 use Rattle.serv_machine.specs.OnDisk.{HasHistory, IsAlong, IsTorn, OnDisk}
-use Rattle.serv_machine.proofs.OnDiskLemmas.{disk_same, disk_appended, disk_kept, disk_stopped, disk_torn, good_for, history_before}
+use Rattle.serv_machine.proofs.OnDiskLemmas.{disk_same, disk_kept, disk_torn, good_for, history_before}
 use Rattle.serv_machine.specs.Engines.{history_of, kept_history, fault_of}
 
 with_room : (base limit : ℕ) (h : List Accepted) (a : Accepted) → base + lengths_of h + record_length a ≤ limit → by_room (Journal base limit) h a ≡ Fresh
@@ -94,11 +94,6 @@ same_in b b' l l' h h' bs ls hs = ap (λ x. in_journal x l h) bs ∙ (ap (λ x. 
 base_on : (size n size' n' base : ℕ) → size ≡ base + n → size' ≡ base + n' → size' - n' ≡ size - n
 base_on size n size' n' base is is' = omega arith
 
-pub history_same : (old new : EngineState) → new.history ≡ old.history → new.journal.size ≡ old.journal.size → new.journal.limit ≡ old.journal.limit → history_of new ≡ history_of old
-history_same old new h size limit =
-    same_in (new.journal.size - lengths_of new.history) (old.journal.size - lengths_of old.history) new.journal.limit old.journal.limit new.history old.history
-    (ap (λ n. n - lengths_of new.history) size ∙ ap (λ x. old.journal.size - lengths_of x) h) limit h
-
 pub history_told : (old new : EngineState) (a : Accepted) (said : Judgement) (base : ℕ) (reply : Reply) → IsReplyTo old.history a.command said reply → old.journal.size ≡ base + lengths_of old.history
     → new.history ≡ judging.history_after old.history a.key a.command said → new.journal.limit ≡ old.journal.limit → new.journal.size ≡ base + lengths_of new.history
     → (said ≡ judging.Fresh → HasRoom old.journal a) → history_of new ≡ after_decision (history_of old) a (by_judgement (history_of old).store old.history a said)
@@ -135,54 +130,6 @@ act_after old new key c base reply is size h limit size' room = history_told old
 good_found : (form : Form) (h : List Accepted) (a : Accepted) (file : List ℕ) → IsForm form → IsGoodFor form h a file → IsGoodFound h a file
 good_found form h a file is_form good = record { form = form; is_form = is_form; good = good }
 
-module _ {D : Type 0} (images : D → List ℕ → Type 0) (moment : D → ℕ) (images_since : D → ℕ → List ℕ → Type 0) (old new : D) (e e' : EngineState) (a : Accepted)
-    (only_now : (c : List ℕ) → images_since old (moment old) c → images old c) (durable : IsDurable (images old) e)
-    (moments : (form : Form) → IsDurableIn form (images old) e → LeavesOnly moment images_since old new (IsGoodFor form e.history a)) where
-  -- a history stays one with the command
-  abbrev IsNext : Type 0
-  IsNext = IsHistory e.history → IsHistory (e.history ++ a ∷ [])
-
-  found_moments : LeavesOnly moment images_since old new (IsGoodFound e.history a)
-  found_moments =
-      weaker moment images_since old new (IsGoodFor durable.form e.history a) (IsGoodFound e.history a)
-      (moments durable.form durable.kept) (λ c good. good_found durable.form e.history a c durable.kept.stands.is_form good)
-
-  same_disk : (e' ≡ e) × (new ≡ old) → OnDisk images moment images_since old new e.history e'.history []
-  same_disk same = disk_same images moment images_since old new e.history e'.history same.1 (ap (λ (x : EngineState). x.history) same.0) (durable_whole (images old) e durable) only_now
-
-  pub ok_disk : (said : Judgement) (reply : Reply) → IsReplyTo e.history a.command said reply → e'.history ≡ judging.history_after e.history a.key a.command said
-      → ((r : Reply) → said ≡ judging.Kept r → (e' ≡ e) × (new ≡ old)) → (said ≡ judging.Fresh → IsNext) → IsDurable (images new) e' → OnDisk images moment images_since old new e.history e'.history []
-  ok_disk (judging.Kept kept) reply is h repeated next whole = same_disk (repeated kept refl)
-  ok_disk (judging.Refused why) reply is h repeated next whole = absurd is
-  ok_disk judging.Fresh reply is h repeated next whole =
-      disk_appended images moment images_since old new e.history e'.history a h (next refl) (durable_whole (images new) e' whole) found_moments
-
-  pub err_disk : (f : EngineFault) → (f ≡ engine.DiskFault) ⊎ ((e' ≡ e) × (new ≡ old)) → e'.history ≡ e.history → (f ≡ engine.DiskFault → IsNext) → ((form : Form) → IsDurableIn form (images old) e → Each (images new) (IsGoodFor form e.history a))
-      → OnDisk images moment images_since old new e.history e'.history (pending_at a (Err (fault_of f)))
-  err_disk engine.DiskFault kept h next good =
-      disk_stopped images moment images_since old new e.history e'.history a h (next refl)
-      (λ c image. good_found durable.form e.history a c durable.kept.stands.is_form (good durable.form durable.kept c image)) found_moments
-  err_disk (engine.Refused why) kept h next good = ⊎_elim (λ is. absurd (refused_no why is)) (λ same. same_disk same) kept
-    where
-      refused_no : (why : Refusal) → engine.Refused why ≡ engine.DiskFault → ⊥
-      refused_no why is = cc
-  err_disk (engine.JournalFull bytes) kept h next good = ⊎_elim (λ is. absurd (full_no bytes is)) (λ same. same_disk same) kept
-    where
-      full_no : (bytes : ℕ) → engine.JournalFull bytes ≡ engine.DiskFault → ⊥
-      full_no bytes is = cc
-  err_disk engine.OutOfMemory kept h next good = ⊎_elim (λ is. absurd (memory_no is)) (λ same. same_disk same) kept
-    where
-      memory_no : engine.OutOfMemory ≡ engine.DiskFault → ⊥
-      memory_no is = cc
-  err_disk engine.NotJournal kept h next good = ⊎_elim (λ is. absurd (journal_no is)) (λ same. same_disk same) kept
-    where
-      journal_no : engine.NotJournal ≡ engine.DiskFault → ⊥
-      journal_no is = cc
-  err_disk (engine.Damaged place) kept h next good = ⊎_elim (λ is. absurd (damaged_no place is)) (λ same. same_disk same) kept
-    where
-      damaged_no : (place : ℕ) → engine.Damaged place ≡ engine.DiskFault → ⊥
-      damaged_no place is = cc
-
 -- the command behind a fault of the disk is fresh
 pub fault_fresh : (e : EngineState) (a : Accepted) (said : Judgement) (old new : ℕ) (f : EngineFault) → IsSubmitFault said e.journal a old new f → f ≡ engine.DiskFault → said ≡ judging.Fresh
 fault_fresh e a said old new f is same = (subst (IsSubmitFault said e.journal a old new) same is).0
@@ -196,12 +143,6 @@ err_same old new e e' f other kept = ⊎_elim (λ is. absurd (other (ap (λ x. E
 -- the journal's length of an engine that runs
 pub running_base : (images : List ℕ → Type 0) (e : EngineState) → IsRunning images e → e.journal.version ≡ Two → (place : ℕ) × (e.journal.size ≡ place + lengths_of e.history)
 running_base images e r two = (length r.form.front + 1, size_of r.form e.history e.journal (running_stands r.form images e r.kept) two)
-
--- what an engine's run keeps stays the same
-pub kept_same : (old new : EngineState) → new.history ≡ old.history → kept_of new ≡ kept_of old → new.journal.size ≡ old.journal.size → new.journal.limit ≡ old.journal.limit → kept_history new ≡ kept_history old
-kept_same old new h kept size limit =
-    same_in (new.journal.size - lengths_of new.history) (old.journal.size - lengths_of old.history) new.journal.limit old.journal.limit (kept_of new) (kept_of old)
-    (ap (λ n. n - lengths_of new.history) size ∙ ap (λ x. old.journal.size - lengths_of x) h) limit kept
 
 -- all that was held is kept behind it
 pub kept_behind : (old new : EngineState) (base : ℕ) → kept_of new ≡ old.history → old.journal.size ≡ base + lengths_of old.history → new.journal.size ≡ base + lengths_of new.history → new.journal.limit ≡ old.journal.limit

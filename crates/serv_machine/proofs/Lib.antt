@@ -1,4 +1,5 @@
 pub mod OnDiskLemmas
+pub mod NextLemmas
 pub mod MemoryLemmas
 pub mod EngineLemmas
 pub mod UpheldLemmas

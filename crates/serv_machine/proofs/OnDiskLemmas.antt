@@ -71,17 +71,6 @@ module _ {D : Type 0} (images : D → List ℕ → Type 0) (moment : D → ℕ) 
             (λ c along. subst (λ x. IsAlong h x c) (sym grouped) (along_after h first.list (second.list ++ pending) c (subst (λ x. IsAlong x (second.list ++ pending) c) first.accepted along))));
       }
 
-  -- a command was appended
-  pub disk_appended : (old new : D) (h h' : List Accepted) (a : Accepted) → h' ≡ h ++ a ∷ [] → (IsHistory h → IsHistory (h ++ a ∷ [])) → Each (images new) (HasHistory h') → LeavesOnly moment images_since old new (IsGoodFound h a)
-      → OnDisk images moment images_since old new h h' []
-  disk_appended old new h h' a more fresh each run = record {
-    list = a ∷ [];
-    accepted = more;
-    fresh = λ is. alone (h ++ a ∷ []) h' more (fresh is);
-    left = each;
-    moments = weaker moment images_since old new (IsGoodFound h a) (IsAlong h (a ∷ [])) run (λ c good. inl good);
-  }
-
   -- a command was being appended
   pub disk_stopped : (old new : D) (h h' : List Accepted) (a : Accepted) → h' ≡ h → (IsHistory h → IsHistory (h ++ a ∷ [])) → Each (images new) (IsGoodFound h a) → LeavesOnly moment images_since old new (IsGoodFound h a)
       → OnDisk images moment images_since old new h h' (a ∷ [])

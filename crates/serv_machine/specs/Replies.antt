@@ -1,5 +1,5 @@
 -- What a machine says to a request, what it holds after it, and how many steps it may take.
-use Rattle.std.specs.Prelude.{◌≡◌, ℕ, List, [], ◌∷◌, length, Option, Some, None, Result, Ok, Err, ⊤}
+use Rattle.std.specs.Prelude.{◌≡◌, ℕ, List, [], ◌∷◌, Option, Some, None, ⊤}
 use Rattle.svc_types.specs.declared.requests.Command.{Command}
 use Rattle.svc_types.specs.declared.requests.Request.{Request}
 use Rattle.svc_types.specs.declared.requests.Request.TheVariants as request
@@ -13,12 +13,9 @@ use Rattle.svc_world.specs.declared.answer.Answer.{Answer}
 use Rattle.svc_world.specs.World.{Accepted, accepted, world}
 use Rattle.svc_world.specs.Judging.{next_reply}
 use Rattle.svc_world.specs.Answers.{answer_to, query_refusal}
-use Rattle.svc_world.specs.Custody.{rows_in}
 use Rattle.serv_disk.specs.Faults.{HasRisen}
 use Rattle.serv_machine.specs.declared.faults.ActFault.{ActFault}
 use Rattle.serv_machine.specs.declared.faults.ActFault.TheVariants as fault
-use Rattle.serv_machine.specs.declared.faults.Halt.{Halt}
-use Rattle.serv_machine.specs.declared.faults.Halt.TheVariants as halt
 use Rattle.serv_machine.specs.History.{History, Decision, Kept, Refused, Full, Fresh, decided, after_decision}
 
 -- ---- a command
@@ -44,14 +41,6 @@ IsFaultBy d old new (fault.Refused why) = d ≡ Refused why
 IsFaultBy d old new (fault.Full bytes) = d ≡ Full bytes
 IsFaultBy d old new fault.DiskFault = (d ≡ Fresh) × HasRisen old new
 IsFaultBy d old new fault.OutOfMemory = IsUnsaid d
-
--- the command that was being appended: there is one where the disk failed
-abbrev pub pending_at : Accepted → Result Reply ActFault → List Accepted
-pending_at a (Ok reply) = []
-pending_at a (Err (fault.Refused why)) = []
-pending_at a (Err (fault.Full bytes)) = []
-pending_at a (Err fault.DiskFault) = a ∷ []
-pending_at a (Err fault.OutOfMemory) = []
 
 -- ---- the text of the reply
 

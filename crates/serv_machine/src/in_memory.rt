@@ -9,7 +9,7 @@ use std::sync::ledger::Ledger;
 use svc_base::Steps;
 use svc_checkpoint::Checked;
 use svc_core::{Core, CoreFault};
-use svc_types::{Command, Key, Query, Reply};
+use svc_types::{Command, Key, Query};
 use svc_world::Answer;
 
 impl Machine<Nowhere> for Core<Checked> {
@@ -26,31 +26,18 @@ impl Machine<Nowhere> for Core<Checked> {
 
     ghost failed = { λ _. ⊥ };
 
-    fn act<L: Ledger>(
+    fn begin<L: Ledger>(
         &mut self,
         _: &mut Nowhere,
         key: &Key,
         command: &Command,
         steps: &mut Steps<L>,
-    ) -> Result<Reply, ActFault> {
+    ) -> Result<Taken, ActFault> {
         let _ = key.bytes();
         match self.submit(key, command, steps) {
-            Ok(reply) => Ok(reply),
+            Ok(reply) => Ok(Taken::Settled(reply)),
             Err(CoreFault::Refused(why)) => Err(ActFault::Refused(why)),
             Err(CoreFault::OutOfMemory) => Err(ActFault::OutOfMemory),
-        }
-    }
-
-    fn begin<L: Ledger>(
-        &mut self,
-        disk: &mut Nowhere,
-        key: &Key,
-        command: &Command,
-        steps: &mut Steps<L>,
-    ) -> Result<Taken, ActFault> {
-        match self.act(disk, key, command, steps) {
-            Ok(reply) => Ok(Taken::Settled(reply)),
-            Err(fault) => Err(fault),
         }
     }
 

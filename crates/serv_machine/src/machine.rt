@@ -13,7 +13,7 @@ ghost use Rattle.serv_disk.specs.Faults.{HasCause};
 ghost use Rattle.serv_engine.specs.Engines.{reply_of};
 ghost use Rattle.serv_report.specs.AnswerTexts.{IsSpellable};
 ghost use Rattle.serv_machine.specs.History.{History, Fresh, decided, after_decision};
-ghost use Rattle.serv_machine.specs.Replies.{IsReplyBy, IsFaultBy, pending_at};
+ghost use Rattle.serv_machine.specs.Replies.{IsReplyBy, IsFaultBy};
 ghost use Rattle.serv_machine.specs.Stages.{IsStaged, stage_in};
 ghost use Rattle.serv_machine.specs.OnDisk.{HasHistory, IsTorn, OnDisk};
 
@@ -24,7 +24,7 @@ use serv_engine::Taken;
 use std::sync::ledger::Ledger;
 use svc_base::Steps;
 use svc_core::CoreFault;
-use svc_types::{Command, Key, Query, Reply};
+use svc_types::{Command, Key, Query};
 use svc_world::Answer;
 
 /// The books of a servicer: they act on commands, once for each key, and answer queries. The disk that they
@@ -45,36 +45,9 @@ pub trait Machine<D: Disk> {
     /// A call of the disk has failed, and no further command is taken.
     ghost failed: { Self → Type 0 };
 
-    /// Acts on a command, and replies to it: with the reply that was kept for its key, or, where it is fresh
-    /// and there is room for it, as the next command of the history. It is on the disk then.
-    fn act<L: Ledger>(
-        &mut self,
-        disk: &mut D,
-        key: &Key,
-        command: &Command,
-        steps: &mut Steps<L>,
-    ) -> Result<Reply, ActFault>
-        requires command { IsCommand command.now }
-        requires ready { ready self.old disk.old }
-        ensures reply { IfOk result (IsReplyBy (history self.old) command.now
-            (decided (history self.old) key.now command.now)) }
-        ensures fault { IfErr result (IsFaultBy (decided (history self.old) key.now command.now)
-            (D.faults disk.old) (D.faults disk.new)) }
-        ensures after { OnOk result (history self.new ≡ after_decision (history self.old)
-            (accepted key.now command.now) (decided (history self.old) key.now command.now)) }
-        ensures kept { OnErr result (history self.new ≡ history self.old) }
-        // What a crash leaves, now and at each moment: after a fault of the disk also the command.
-        ensures disk { OnDisk D.images D.moment D.images_since disk.old disk.new
-            (history self.old).commands (history self.new).commands
-            (pending_at (accepted key.now command.now) result) }
-        ensures ready { result ≢ Err ActFault.DiskFault → ready self.new disk.new }
-        ensures failed { result ≡ Err ActFault.DiskFault → failed self.new }
-        ensures faults { D.faults disk.old ≤ D.faults disk.new }
-        ensures steps { steps.new ≤ steps.old
-            + step_bound (history self.old).commands key.now command.now };
-
-    /// Acts on a command as `act` does, but where it is fresh it is begun: the disk has it after the next call of `begin` that
-    /// begins another, or of `commit`. After `Begun` it has all commands before it.
+    /// Acts on a command, and replies to it: with the reply that was kept for its key, or, where it is fresh and there is
+    /// room for it, as the next command of the history. Then it is begun: the disk has it after the next call of `begin`
+    /// that begins another, or of `commit`. After `Begun` it has all commands before it.
     fn begin<L: Ledger>(
         &mut self,
         disk: &mut D,

@@ -11,7 +11,7 @@ use std::sync::ledger::Ledger;
 use svc_base::Steps;
 use svc_checkpoint::Checked;
 use svc_core::CoreFault;
-use svc_types::{Command, Key, Query, Reply};
+use svc_types::{Command, Key, Query};
 use svc_world::Answer;
 
 /// Why an engine does not accept a command. It is open, so its journal is one and is not damaged.
@@ -44,20 +44,6 @@ impl<D: Disk> Machine<D> for Engine<Checked> {
     ghost running = { λ e d. (e.journal.spent ≡ false) × (e.journal.version ≡ Two) × IsRunning (D.images d) e };
 
     ghost failed = { λ e. e.journal.spent ≡ true };
-
-    fn act<L: Ledger>(
-        &mut self,
-        disk: &mut D,
-        key: &Key,
-        command: &Command,
-        steps: &mut Steps<L>,
-    ) -> Result<Reply, ActFault> {
-        let _ = key.bytes();
-        match self.submit(disk, key, command, steps) {
-            Ok(reply) => Ok(reply),
-            Err(fault) => Err(act_fault(fault)),
-        }
-    }
 
     fn begin<L: Ledger>(
         &mut self,

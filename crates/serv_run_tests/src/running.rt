@@ -56,9 +56,12 @@ impl Ending {
         self.status == status && self.output.as_slice() == output
     }
 
-    /// Whether it left this journal.
+    /// Whether it left this journal, with nothing or zeros behind it.
     pub fn leaves(&self, journal: &[u8]) -> bool {
-        self.journal.as_slice() == journal
+        match self.journal.strip_prefix(journal) {
+            Some(rest) => rest.iter().all(|byte| *byte == 0),
+            None => false,
+        }
     }
 }
 
@@ -119,7 +122,7 @@ pub fn sink_of(alloc: Global, given: &Given) -> Result<MemSink, OutOfMemory> {
 pub fn disk_of(alloc: Global, given: &Given) -> Result<MemDisk, OutOfMemory> {
     let journal = given.journal.to_vec(alloc)?;
     let mut disk = MemDisk::new(journal, given.calls.to_vec(alloc)?)?;
-    disk.reserve(64, 4096)?;
+    disk.reserve(64, 70_000)?;
     Ok(disk)
 }
 

@@ -9,25 +9,42 @@ use serv_top::Status;
 use std::alloc::{AllocError, Global};
 use svc_base::OutOfMemory;
 
-/// Fifteen commands, the replies to them, and the journal that they leave.
+/// Fifteen commands, the replies to them, the journal that they leave, and one without a command whose file reaches as far.
 #[derive(Drop)]
 struct Course {
     lines: Vec<u8>,
     replies: Vec<u8>,
     journal: Vec<u8>,
+    empty: Vec<u8>,
 }
 
 fn course_of(alloc: Global) -> Result<Course, OutOfMemory> {
     let texts = [TAKEN_ON, FIRST_PAYMENT, CLOSED, CLOSED_LATER];
     let lines = lines_of(alloc, &texts)?;
-    let mut disk = disk_of(alloc, NEW_JOURNAL, &[])?;
-    let end = applied(alloc, &lines, &mut disk)?;
+    let empty = reaching(alloc)?;
+    let mut disk = disk_of(alloc, &empty, &[])?;
+    let mut journal = applied(alloc, &lines, &mut disk)?.journal;
+    journal.truncate(length_of(&lines));
     let replies = replies_to(alloc, &texts)?;
     Ok(Course {
         lines,
         replies,
-        journal: end.journal,
+        journal,
+        empty,
     })
+}
+
+/// A journal without a command, with room in its file for all that the tests write. A disk that keeps 65,536 bytes more at each
+/// stop would take long.
+fn reaching(alloc: Global) -> Result<Vec<u8>, AllocError> {
+    let mut bytes = NEW_JOURNAL.to_vec(alloc)?;
+    bytes.extend_from_slice(&[0; 2000])?;
+    Ok(bytes)
+}
+
+/// The length of the journal of fifteen commands: 9 bytes, and 7 for each beside its line. Each line has a line feed here.
+fn length_of(lines: &[u8]) -> usize {
+    lines.len().saturating_add(9 + 15 * 6)
 }
 
 /// A disk with this content, whose calls with these numbers fail.
@@ -160,7 +177,7 @@ const EACH_TORN: [(Torn, bool); 8] = [
 fn calls_of_course(alloc: Global, torn: Torn, longer: bool) -> Result<u32, OutOfMemory> {
     let course = course_of(alloc)?;
     let stopped = Stopped {
-        content: NEW_JOURNAL,
+        content: &course.empty,
         held: 0,
         lines: &course.lines,
         replies: &course.replies,
@@ -172,14 +189,45 @@ fn calls_of_course(alloc: Global, torn: Torn, longer: bool) -> Result<u32, OutOf
 fn a_stop_after_any_call_keeps_what_was_answered(rt: HostRuntime) {
     for (torn, longer) in EACH_TORN {
         let calls = calls_of_course(rt.alloc(), torn, longer);
-        assert!(rt; matches!(calls, Ok(47..=99)), "{torn:?} {longer}");
+        assert!(rt; matches!(calls, Ok(48..=99)), "{torn:?} {longer}");
+    }
+}
+
+/// What is seen where a disk stops after so many calls, on which the file is lengthened by zeros.
+fn seen_while_lengthened(alloc: Global, stop: Stop) -> Result<Seen, OutOfMemory> {
+    let course = course_of(alloc)?;
+    let stopped = Stopped {
+        content: NEW_JOURNAL,
+        held: 0,
+        lines: &course.lines,
+        replies: &course.replies,
+    };
+    seen_after(alloc, &course, &stopped, stop)
+}
+
+#[test]
+fn a_stop_while_the_file_is_lengthened_keeps_what_was_answered(rt: HostRuntime) {
+    for (torn, longer) in [(Torn::New, false), (Torn::Ones, false), (Torn::Ones, true)] {
+        for calls in 3..10 {
+            let stop = Stop {
+                calls,
+                torn,
+                longer,
+            };
+            let seen = seen_while_lengthened(rt.alloc(), stop);
+            assert!(rt;
+                matches!(seen, Ok(Seen::Refused)),
+                "after {calls}: {torn:?} {longer}"
+            );
+        }
     }
 }
 
 /// The first call that applying no line does not make.
 fn first_call_of_a_line(alloc: Global) -> Result<u32, OutOfMemory> {
+    let empty = reaching(alloc)?;
     for call in 1..20 {
-        let mut disk = disk_of(alloc, NEW_JOURNAL, &[call])?;
+        let mut disk = disk_of(alloc, &empty, &[call])?;
         let end = applied(alloc, b"", &mut disk)?;
         if end.status == Status::Done {
             return Ok(call);
@@ -201,7 +249,7 @@ fn is_cut_after(end: &Ending, course: &Course, answered: usize) -> bool {
 /// Whether a run of which this call fails ends after so many lines, and nothing is lost.
 fn goes_on_after(alloc: Global, call: u32, answered: usize) -> Result<bool, OutOfMemory> {
     let course = course_of(alloc)?;
-    let mut disk = disk_of(alloc, NEW_JOURNAL, &[call])?;
+    let mut disk = disk_of(alloc, &course.empty, &[call])?;
     let end = applied(alloc, &course.lines, &mut disk)?;
     let mut left = disk.crash(Torn::New, false)?;
     Ok(
@@ -211,12 +259,12 @@ fn goes_on_after(alloc: Global, call: u32, answered: usize) -> Result<bool, OutO
     )
 }
 
-/// How many lines are answered where this call fails, counted from the first that a line makes. The first record takes a
-/// write and a sync, each further one two writes, the other of the commit byte before it, and a sync; the last commit
-/// byte takes a write and a sync. A reply is written once its commit byte is synced.
+/// How many lines are answered where this call fails, counted from the first that a line makes. The first record takes the
+/// length, a write and a sync, each further one two writes, the other of the commit byte before it, and a sync; the last
+/// commit byte takes a write and a sync. A reply is written once its commit byte is synced.
 fn answered_before(call: u32) -> usize {
-    if call < 46 {
-        call.saturating_sub(2) as usize / 3
+    if call < 47 {
+        call.saturating_sub(3) as usize / 3
     } else {
         15
     }
@@ -226,7 +274,7 @@ fn answered_before(call: u32) -> usize {
 fn any_call_that_fails_ends_the_run_with_the_replies_before_it(rt: HostRuntime) {
     let first = first_call_of_a_line(rt.alloc()).unwrap_or(0);
     assert!(rt; first > 1);
-    for call in 1..first.saturating_add(47) {
+    for call in 1..first.saturating_add(48) {
         let answered = answered_before(call.saturating_sub(first));
         let goes_on = goes_on_after(rt.alloc(), call, answered);
         assert!(rt; matches!(goes_on, Ok(true)), "call {call}");

@@ -15,7 +15,8 @@ use Rattle.serv_machine.specs.Upheld.{HasCommands, Upholds}
 use Rattle.serv_machine.proofs.UpheldLemmas.{commands_kept, commands_left, upheld_none, upheld_wider, upheld_later, upheld_written, upheld_then}
 use Rattle.serv_top.specs.declared.serving.Stop.{Stop}
 use Rattle.serv_top.specs.Lines.{ended_lines, open_line}
-use Rattle.serv_top.specs.Machine.{Said, Stand, stand, Running}
+use Rattle.serv_machine.specs.Stands.{Stand, stand, Running}
+use Rattle.serv_top.specs.Machine.{Said}
 use Rattle.serv_top.specs.Replies.{replies_to, history_after_all}
 use Rattle.serv_top.specs.Serving.{Gathered, IsHalted, IsReplied, IsWaiting, Stops}
 use Rattle.serv_top.specs.Imported.{AreFirstIn, FileSays}

@@ -25,7 +25,8 @@ use Rattle.serv_machine.specs.OnDisk.{OnDisk}
 use Rattle.serv_machine.proofs.EngineLemmas.{long_enough}
 use Rattle.serv_top.specs.declared.status.Status.{Status}
 use Rattle.serv_top.specs.declared.status.Status.TheVariants as status
-use Rattle.serv_top.specs.Machine.{Said, Asks, Faulty, Unfit, Stand, stand, history_after}
+use Rattle.serv_machine.specs.Stands.{Stand, stand}
+use Rattle.serv_top.specs.Machine.{Said, Asks, Faulty, Unfit, history_after}
 use Rattle.serv_top.specs.Replies.{IsBegun, IsCutIn, IsHeldUp, IsMaybeNext, MovesAll, history_after_all}
 use Rattle.serv_top.specs.Outcome.{Ended, Ends, IsOutput, input_limit}
 use Rattle.serv_top.specs.Stop.{status_of_fault}

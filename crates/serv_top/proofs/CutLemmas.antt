@@ -4,7 +4,8 @@ use Rattle.std.proofs.lemmas.Bool.{cases_lt}
 use Rattle.std.proofs.lemmas.List.{length-drop, take_at, drop_at, take-append-le, drop-append-le}
 use Rattle.serv_disk.specs.Faults.{IsProperPrefix}
 use Rattle.serv_machine.specs.History.{History}
-use Rattle.serv_top.specs.Machine.{Said, reply_to, history_after, Stand}
+use Rattle.serv_machine.specs.Stands.{Stand}
+use Rattle.serv_top.specs.Machine.{Said, reply_to, history_after}
 use Rattle.serv_top.specs.Replies.{history_after_all, replies_to, IsCutIn, IsCutAt}
 use Rattle.serv_top.specs.Upheld.{AreSaidFirst}
 use Rattle.serv_top.proofs.AnsweredLemmas.{first_lines}

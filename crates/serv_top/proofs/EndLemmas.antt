@@ -8,7 +8,7 @@ use Rattle.serv_top.specs.declared.status.Status.TheVariants as status
 use Rattle.serv_top.specs.Drilled.{IsDrilledAs}
 use Rattle.serv_top.specs.Ends.{Finishes}
 use Rattle.serv_top.specs.Journal.{IsInit}
-use Rattle.serv_top.specs.Machine.{Stand}
+use Rattle.serv_machine.specs.Stands.{Stand}
 use Rattle.serv_top.specs.Outcome.{Ended, input_limit}
 use Rattle.serv_top.proofs.Applied.{few_taken}
 

@@ -16,7 +16,8 @@ use Rattle.serv_engine.specs.Histories.{line_of_command, lines_of_history, recor
 use Rattle.serv_machine.specs.History.{Store, Memory, Journal, History, Full, Fresh, by_judgement, decided, after_decision}
 use Rattle.serv_machine.specs.Replies.{text_of_decision, reply_to_request, history_after_request}
 use Rattle.serv_top.specs.Lines.{IsPlain, onto_first, onto_ended, lines_of, ended_lines}
-use Rattle.serv_top.specs.Machine.{Said, Asks, asks, Stand}
+use Rattle.serv_machine.specs.Stands.{Stand}
+use Rattle.serv_top.specs.Machine.{Said, Asks, asks}
 use Rattle.serv_top.specs.Replies.{Answers, history_after_all, replies_to}
 use Rattle.serv_top.specs.Upheld.{Say}
 use Rattle.serv_top.specs.Extracts.{lines_of_commands, HasRoomFor, replies_after, AreTakenOn}

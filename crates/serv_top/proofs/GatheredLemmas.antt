@@ -15,7 +15,8 @@ use Rattle.serv_machine.specs.OnDisk.{OnDisk}
 use Rattle.serv_machine.proofs.OnDiskLemmas.{disk_more}
 use Rattle.serv_top.specs.declared.serving.Stop.{Stop}
 use Rattle.serv_top.specs.declared.serving.Stop.TheVariants.{WriteFault, DiskFault, OutOfMemory}
-use Rattle.serv_top.specs.Machine.{Said, reply_to, history_after, bound_of, commands_of, IsFresh, Stand, stand, Running}
+use Rattle.serv_machine.specs.Stands.{Stand, stand, Running}
+use Rattle.serv_top.specs.Machine.{Said, reply_to, history_after, bound_of, commands_of, IsFresh}
 use Rattle.serv_top.specs.Replies.{IsBegun, IsCutIn, IsHeldUp, IsMaybeNext, IsStopped, before_last, replies_to, history_after_all, bound_of_all}
 use Rattle.serv_top.specs.Serving.{AppendsFront, Gathered, IsHalted, IsHeldBack, IsReplied, IsStarved, IsStuck, IsWaiting, IsWrittenBut, Stopped, Stops}
 use Rattle.serv_top.specs.Stop.{stop_of}

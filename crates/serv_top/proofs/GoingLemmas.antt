@@ -7,7 +7,7 @@ use Rattle.svc_world.specs.World.{Accepted}
 use Rattle.serv_disk.specs.Stamps.{Stamp}
 use Rattle.serv_machine.specs.History.{History}
 use Rattle.serv_top.specs.Lines.{lines_of, ended_lines, open_line}
-use Rattle.serv_top.specs.Machine.{Stand, Running}
+use Rattle.serv_machine.specs.Stands.{Stand, Running}
 use Rattle.serv_top.specs.Serving.{Served}
 use Rattle.serv_machine.specs.Upheld.{Upholds}
 use Rattle.serv_top.specs.Upheld.{AreReplies, AreSaidFirst, IsAcknowledged}

@@ -21,7 +21,8 @@ use Rattle.serv_top.specs.declared.serving.Stop.{Stop}
 use Rattle.serv_top.specs.declared.serving.Stop.TheVariants as stop
 use Rattle.serv_top.specs.declared.status.Status.{Status}
 use Rattle.serv_top.specs.declared.status.Status.TheVariants as status
-use Rattle.serv_top.specs.Machine.{Said, Unfit, Stand, stand, Running}
+use Rattle.serv_machine.specs.Stands.{Stand, stand, Running}
+use Rattle.serv_top.specs.Machine.{Said, Unfit}
 use Rattle.serv_top.specs.Replies.{IsStopped}
 use Rattle.serv_top.specs.Serving.{Gathered, Stops}
 use Rattle.serv_top.specs.Outcome.{input_limit}

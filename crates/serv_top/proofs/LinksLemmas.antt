@@ -21,14 +21,14 @@ use Rattle.serv_links.specs.declared.outcome.Outcome.TheVariants as outcome
 use Rattle.serv_links.specs.declared.summary.Summary.{Summary}
 use Rattle.serv_links.specs.Meanings.{Meaning, Asks, Faulty}
 use Rattle.serv_links.specs.Responses as links
-use Rattle.serv_links.specs.Outcomes.{IsAnswered, IsCutOff, IsOne, IsStopped, IsTriedAs}
+use Rattle.serv_links.specs.Outcomes.{IsAnswered, IsCut, IsCutOff, IsNext, IsNextStuck, IsOne, IsStopped, IsTriedAs}
 use Rattle.serv_links.specs.Links.{IsDiskEnd, IsServed, IsStarved, Serves, link_limit}
 use Rattle.serv_links.specs.Doors.{AreServed, IsDoorsEnd, IsSummary, OneServed, ServedLink, ServesDoors, text_of_summary}
 use Rattle.serv_top.specs.declared.status.Status.{Status}
 use Rattle.serv_top.specs.declared.status.Status.TheVariants as status
-use Rattle.serv_top.specs.Machine.{Stand, stand}
+use Rattle.serv_machine.specs.Stands.{Stand, stand, Stays}
 use Rattle.serv_top.specs.Journal.{IsUnopened, IsOpened, journal_limit}
-use Rattle.serv_top.specs.Served.{IsServedAs, IsServedOver, LinksEnd, ServesLinks, of_links}
+use Rattle.serv_top.specs.Served.{IsServedAs, IsServedOver, LinksEnd, ServesLinks}
 use Rattle.serv_top.proofs.Applied.{few_taken, run_over, store_of, store_request, unopened_ends}
 use Rattle.serv_top.specs.Ends.{Completes}
 
@@ -42,33 +42,45 @@ store_meant_all : (h : History) (meant : List Meaning) → (links.after_all h me
 store_meant_all h [] = refl
 store_meant_all h (m ∷ meant) = store_meant_all (links.history_after h m) meant ∙ store_meant h m
 
-store_answered : (n : ℕ) (asks : List Ask) (s s' : links.Stand) (wrote : List ℕ) → IsAnswered n asks s s' wrote → s'.history.store ≡ s.history.store
+store_answered : (n : ℕ) (asks : List Ask) (s s' : Stand) (wrote : List ℕ) → IsAnswered n asks s s' wrote → s'.history.store ≡ s.history.store
 store_answered n asks s s' wrote is = ap store_of is.moved.0 ∙ store_meant_all s.history is.meant
 
-store_tried : (a : Ask) (s s' : links.Stand) → links.Stays s s' ⊎ IsTriedAs a s s' → s'.history.store ≡ s.history.store
+store_tried : (a : Ask) (s s' : Stand) → Stays s s' ⊎ IsTriedAs a s s' → s'.history.store ≡ s.history.store
 store_tried a s s' is =
     ⊎_elim (λ same. ap store_of same.0)
     (λ tried. ⊎_elim (λ same. ap store_of same) (λ moved. ap store_of moved ∙ store_meant s.history tried.meant) tried.near) is
 
-store_one : (cut : Type 0) (o : Outcome) (a : Ask) (s s' : links.Stand) (pending : List Accepted) (wrote : List ℕ) → IsOne cut o a s s' pending wrote → s'.history.store ≡ s.history.store
-store_one cut outcome.Answered a s s' pending wrote is = ap store_of is.1.moved.0 ∙ store_meant s.history is.1.meant
-store_one cut outcome.Broken a s s' pending wrote is = ap store_of is.1.moved.0 ∙ store_meant s.history is.1.meant
-store_one cut outcome.Disk a s s' pending wrote is = ap store_of is.0.same
-store_one cut outcome.NoMemory a s s' pending wrote is = store_tried a s s' is.1
+store_next : (rest : List Ask) (s s' : Stand) → IsNext rest s s' → s'.history.store ≡ s.history.store
+store_next [] s s' is = ap store_of is.0
+store_next (a ∷ rest) s s' is = store_tried a s s' is
 
-store_stopped : (cut : Type 0) (o : Outcome) (n : ℕ) (asks : List Ask) (s s' : links.Stand) (pending : List Accepted) (wrote : List ℕ) → IsStopped cut o n asks s s' pending wrote
+store_next_stuck : (rest : List Ask) (s s' : Stand) (pending : List Accepted) → IsNextStuck rest s s' pending → s'.history.store ≡ s.history.store
+store_next_stuck [] s s' pending is = absurd is
+store_next_stuck (a ∷ rest) s s' pending is = ap store_of is.same
+
+store_cut : (a : Ask) (s s' : Stand) (wrote : List ℕ) → IsCut a s s' wrote → s'.history.store ≡ s.history.store
+store_cut a s s' wrote is = ap store_of is.moved.0 ∙ store_meant s.history is.meant
+
+store_one : (cut : Type 0) (o : Outcome) (a : Ask) (rest : List Ask) (s s' : Stand) (pending : List Accepted) (wrote : List ℕ) → IsOne cut o a rest s s' pending wrote → s'.history.store ≡ s.history.store
+store_one cut outcome.Answered a rest s s' pending wrote is = absurd is
+store_one cut outcome.Broken a rest s s' pending wrote (none, (t, is, next)) = store_next rest t s' next ∙ store_cut a s t wrote is
+store_one cut outcome.Disk a rest s s' pending wrote (inl (is, front)) = ap store_of is.same
+store_one cut outcome.Disk a rest s s' pending wrote (inr (risen, (t, is, next))) = store_next_stuck rest t s' pending next ∙ store_cut a s t wrote is
+store_one cut outcome.NoMemory a rest s s' pending wrote is = store_tried a s s' is.1
+
+store_stopped : (cut : Type 0) (o : Outcome) (n : ℕ) (asks : List Ask) (s s' : Stand) (pending : List Accepted) (wrote : List ℕ) → IsStopped cut o n asks s s' pending wrote
     → s'.history.store ≡ s.history.store
 store_stopped cut o n asks s s' pending wrote is =
-    store_one cut o is.ask is.mid s' pending is.part is.one ∙ store_answered n is.done s is.mid is.before is.answered
+    store_one cut o is.ask is.rest is.mid s' pending is.part is.one ∙ store_answered n is.done s is.mid is.before is.answered
 
-store_cut_off : (cut : Type 0) (o : Outcome) (n : ℕ) (bytes : List ℕ) (s s' : links.Stand) (pending : List Accepted) (wrote : List ℕ) → IsCutOff cut o n bytes s s' pending wrote
+store_cut_off : (cut : Type 0) (o : Outcome) (n : ℕ) (bytes : List ℕ) (s s' : Stand) (pending : List Accepted) (wrote : List ℕ) → IsCutOff cut o n bytes s s' pending wrote
     → s'.history.store ≡ s.history.store
 store_cut_off cut o n bytes s s' pending wrote is = store_stopped cut o n is.asks s s' pending wrote is.stopped
 
-store_starved : (cut : Type 0) (n : ℕ) (taken added : List ℕ) (s s' : links.Stand) → IsStarved cut n taken added s s' → s'.history.store ≡ s.history.store
+store_starved : (cut : Type 0) (n : ℕ) (taken added : List ℕ) (s s' : Stand) → IsStarved cut n taken added s s' → s'.history.store ≡ s.history.store
 store_starved cut n taken added s s' is = ap store_of is.stays.0 ∙ store_answered n is.asks s is.mid is.before is.answered
 
-store_served : (end : LinkEnd) (reads writes at_end : Type 0) (taken : List ℕ) (s s' : links.Stand) (pending : List Accepted) (added : List ℕ)
+store_served : (end : LinkEnd) (reads writes at_end : Type 0) (taken : List ℕ) (s s' : Stand) (pending : List Accepted) (added : List ℕ)
     → IsServed end reads writes at_end taken s s' pending added → s'.history.store ≡ s.history.store
 store_served (link_end.Ended n) reads writes at_end taken s s' pending added (none, below, (left, all, over)) =
     store_answered n all.asks s s' added all.answered
@@ -84,14 +96,14 @@ store_served (link_end.NoMemory n) reads writes at_end taken s s' pending added 
 
 -- links came, and were served in their turn
 module _ {C : Type 0} (left held : C → Option (List ℕ)) (log : C → Option (List Stamp)) (reads writes : C → ℕ) (at : ℕ) (since : ℕ → List ℕ → Type 0) where
-  abbrev P : links.Stand → OneServed C
+  abbrev P : Stand → OneServed C
   P exit = ServedLink left held log reads writes at since exit
 
-  store_link : (exit : links.Stand) (end : LinkEnd) (x y : C) (s s' : links.Stand) (pending : List Accepted) → P exit end x y s s' pending → s'.history.store ≡ s.history.store
+  store_link : (exit : Stand) (end : LinkEnd) (x y : C) (s s' : Stand) (pending : List Accepted) → P exit end x y s s' pending → s'.history.store ≡ s.history.store
   store_link exit end x y s s' pending is = store_served end _ _ _ is.serves.taken s s' pending is.added is.serves.says
 
-  store_links : (exit : links.Stand) (ends : List LinkEnd) (came back : List C) (s s' : links.Stand) (pending : List Accepted) → AreServed (P exit) ends came back s s' pending → s'.history.store ≡ s.history.store
-  store_links exit [] [] [] s s' pending is = ap (λ (z : links.Stand). z.history.store) is.0
+  store_links : (exit : Stand) (ends : List LinkEnd) (came back : List C) (s s' : Stand) (pending : List Accepted) → AreServed (P exit) ends came back s s' pending → s'.history.store ≡ s.history.store
+  store_links exit [] [] [] s s' pending is = ap (λ (z : Stand). z.history.store) is.0
   store_links exit [] [] (y ∷ back) s s' pending is = absurd is
   store_links exit [] (x ∷ came) back s s' pending is = absurd is
   store_links exit (end ∷ ends) [] back s s' pending is = absurd is
@@ -104,7 +116,7 @@ module _ {C : Type 0} (left held : C → Option (List ℕ)) (log : C → Option 
   module _ (status_ : Status) (most : ℕ) (coming coming' backed backed' : Option (List C)) (held0 held' : Option (List ℕ)) (s s' : Stand) where
     -- over a machine: why no further link was served, and what is written then
     pub ended : {D : Type 0} (images : D → List ℕ → Type 0) (moment : D → ℕ) (images_since : D → ℕ → List ℕ → Type 0) (old new : D) (end : DoorsEnd) (summary : Summary)
-        → ServesDoors images moment images_since old new P end summary most coming coming' backed backed' (of_links s) (of_links s')
+        → ServesDoors images moment images_since old new P end summary most coming coming' backed backed' s s'
         → ((ends : List LinkEnd) → IsDoorsEnd end most coming' ends → IsSummary ends summary → (written : List ℕ) × Appends held0 held' written × IsServedAs status_ most coming' ends written)
         → LinksEnd images moment images_since old new P status_ most coming coming' backed backed' held0 held' s s'
     ended images moment images_since old new end summary all says =
@@ -115,17 +127,17 @@ module _ {C : Type 0} (left held : C → Option (List ℕ)) (log : C → Option 
           disk = all.disk;
         }
 
-    pub over_engine : {D : Type 0} (seen : D → Option (List ℕ)) (images : D → List ℕ → Type 0) (moment : D → ℕ) (images_since : D → ℕ → List ℕ → Type 0) (old mid new : D) (e e' : EngineState) (steps begun steps' : ℕ)
-        → s ≡ stand (history_of e) begun → s' ≡ stand (history_of e') steps'
+    pub over_engine : {D : Type 0} (seen : D → Option (List ℕ)) (images : D → List ℕ → Type 0) (moment : D → ℕ) (images_since : D → ℕ → List ℕ → Type 0) (old mid new : D) (e : EngineState) (h : History) (steps begun steps' : ℕ)
+        → s ≡ stand (history_of e) begun → s' ≡ stand h steps'
         → IsOpened seen images moment images_since old mid steps begun (e.journal.size - lengths_of e.history) e.history → e.journal.limit ≡ journal_limit
         → LinksEnd images moment images_since mid new P status_ most coming coming' backed backed' held0 held' s s'
         → IsServedOver seen images moment images_since old new P status_ most steps steps' coming coming' backed backed' held0 held'
-    over_engine {D} seen images moment images_since old mid new e e' steps begun steps' is is' opening limit end =
-        let all : LinksEnd images moment images_since mid new P status_ most coming coming' backed backed' held0 held' (stand (history_of e) begun) (stand (history_of e') steps') =
+    over_engine {D} seen images moment images_since old mid new e h steps begun steps' is is' opening limit end =
+        let all : LinksEnd images moment images_since mid new P status_ most coming coming' backed backed' held0 held' (stand (history_of e) begun) (stand h steps') =
         subst (λ z. LinksEnd images moment images_since mid new P status_ most coming coming' backed backed' held0 held' (stand (history_of e) begun) z) is'
         (subst (λ z. LinksEnd images moment images_since mid new P status_ most coming coming' backed backed' held0 held' z s') is end) in
-        run_over (λ s s' pending. ServesLinks P status_ most coming coming' backed backed' held0 held' s s' pending) seen images moment images_since old mid new e (history_of e') steps begun steps' all.pending opening limit
-        (store_links (links.stand (history_of e') steps') all.served.ends all.served.served.came all.served.served.back (links.stand (history_of e) begun) (links.stand (history_of e') steps') all.pending all.served.served.served) all.served all.disk
+        run_over (λ s s' pending. ServesLinks P status_ most coming coming' backed backed' held0 held' s s' pending) seen images moment images_since old mid new e h steps begun steps' all.pending opening limit
+        (store_links (stand h steps') all.served.ends all.served.served.came all.served.served.back (stand (history_of e) begun) (stand h steps') all.pending all.served.served.served) all.served all.disk
 
 -- the summary was written, or a part of it, or no memory was there for it
 pub counts_written : {C : Type 0} (st : Status) (most : ℕ) (coming : Option (List C)) (held held' : Option (List ℕ)) (summary : Summary)
@@ -153,7 +165,7 @@ served_ends status.NetFault most coming ends written writes disks nets is = absu
 served_ends status.OutOfMemory most coming ends written writes disks nets is = inr (inl refl)
 served_ends other most coming ends written writes disks nets is = absurd is
 
-pub complete_served : {D C A B : Type 0} (seen : D → Option (List ℕ)) (images : D → List ℕ → Type 0) (moment : D → ℕ) (images_since : D → ℕ → List ℕ → Type 0) (faults : D → ℕ) (old new : D) (Q : links.Stand → OneServed C)
+pub complete_served : {D C A B : Type 0} (seen : D → Option (List ℕ)) (images : D → List ℕ → Type 0) (moment : D → ℕ) (images_since : D → ℕ → List ℕ → Type 0) (faults : D → ℕ) (old new : D) (Q : Stand → OneServed C)
     (st : Status) (most steps steps' : ℕ) (coming coming' backed backed' : Option (List C)) (held held' : Option (List ℕ)) (s : List ℕ) (h : List Accepted) (a : Accepted)
     → seen old ≡ Some s → IsHistory (h ++ a ∷ []) → IsGoodFound h a s
     → (st ≡ status.WriteFault → ⊥) → (st ≡ status.DiskFault → ⊥) → (st ≡ status.NetFault → ⊥) → (HasRisen (faults old) (faults new) → ⊥)
@@ -168,7 +180,7 @@ complete_served seen images moment images_since faults old new Q st most steps s
 -- ---- one link
 
 -- no count has risen, and the limit was not reached
-pub complete_link : (end : LinkEnd) (reads writes : Type 0) (U : (ℕ → List Accepted → Type 0) → Type 0) (left left' : Option (List ℕ)) (s s' : links.Stand) (pending : List Accepted) (added input : List ℕ)
+pub complete_link : (end : LinkEnd) (reads writes : Type 0) (U : (ℕ → List Accepted → Type 0) → Type 0) (left left' : Option (List ℕ)) (s s' : Stand) (pending : List Accepted) (added input : List ℕ)
     → left ≡ Some input → length input < link_limit → (reads → ⊥) → (writes → ⊥) → (IsDiskEnd end → ⊥) → Serves end reads writes U left left' s s' pending added
     → ((n : ℕ) × (end ≡ link_end.Ended n)) ⊎ ((n : ℕ) × (end ≡ link_end.NoMemory n))
 complete_link (link_end.Ended n) reads writes U left left' s s' pending added input is short read write disk serves = inl (n, refl)

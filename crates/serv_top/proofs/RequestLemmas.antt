@@ -14,7 +14,8 @@ use Rattle.serv_machine.specs.OnDisk.{HasHistory, OnDisk, IsTorn}
 use Rattle.serv_machine.specs.Stages.{IsNear, IsStaged}
 use Rattle.serv_machine.specs.Replies.{reply_to_request, history_after_request, bound_of_request, commands_in, IsAppending}
 use Rattle.serv_machine.proofs.OnDiskLemmas.{disk_none}
-use Rattle.serv_top.specs.Machine.{Said, Asks, asks, reply_to, history_after, Running}
+use Rattle.serv_machine.specs.Stands.{Running}
+use Rattle.serv_top.specs.Machine.{Said, Asks, asks, reply_to, history_after}
 use Rattle.serv_top.specs.Serving.{ByLine, IsHalted, IsReplied, IsStarved}
 
 -- ---- it has a reply

@@ -14,7 +14,7 @@ use Rattle.serv_top.specs.declared.serving.Stop.TheVariants as stop
 use Rattle.serv_top.specs.declared.status.Status.{Status}
 use Rattle.serv_top.specs.declared.status.Status.TheVariants as status
 use Rattle.serv_top.specs.Lines.{lines_of, ended_lines}
-use Rattle.serv_top.specs.Machine.{Stand, stand, Running}
+use Rattle.serv_machine.specs.Stands.{Stand, stand, Running}
 use Rattle.serv_top.specs.Replies.{Answers}
 use Rattle.serv_top.specs.Serving.{AllServed, Served, Stopped, Stops}
 use Rattle.serv_top.specs.Upheld.{Say, AreSaidFirst}

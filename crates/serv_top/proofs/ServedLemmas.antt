@@ -9,7 +9,8 @@ use Rattle.serv_machine.specs.OnDisk.{HasHistory, OnDisk}
 use Rattle.serv_machine.specs.Upheld.{Upholds}
 use Rattle.serv_machine.proofs.OnDiskLemmas.{disk_none}
 use Rattle.serv_top.specs.Lines.{IsPlain, lines_of, ended_lines, open_line}
-use Rattle.serv_top.specs.Machine.{Said, Says, Stand, stand, Running}
+use Rattle.serv_machine.specs.Stands.{Stand, stand, Running}
+use Rattle.serv_top.specs.Machine.{Said, Says}
 use Rattle.serv_top.specs.Serving.{AllServed, Gathered, Served}
 use Rattle.serv_top.specs.Upheld.{Say, AreFirst, AreSaidFirst, AreReplies}
 use Rattle.serv_top.proofs.AnsweredLemmas.{first_lines, first_of_more, upheld_call, writes_given_up}

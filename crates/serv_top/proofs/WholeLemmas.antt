@@ -2,7 +2,8 @@
 use Rattle.std.proofs.Common.{◌≡◌, ℕ, ◌+◌, ◌<◌, ◌≤◌, List, [], ◌∷◌, ◌++◌, length, take, drop, arith, refl, sym, ap, subst, ◌∙◌, length-append, append_assoc, append-nil, take-append-drop}
 use Rattle.std.proofs.lemmas.List.{take_at, take-append-le, drop_at, drop-append-le}
 use Rattle.serv_machine.specs.History.{History}
-use Rattle.serv_top.specs.Machine.{Said, reply_to, Stand}
+use Rattle.serv_machine.specs.Stands.{Stand}
+use Rattle.serv_top.specs.Machine.{Said, reply_to}
 use Rattle.serv_top.specs.Replies.{replies_to, history_after_all, bound_of_all, before_last, IsCutIn}
 use Rattle.serv_top.specs.Whole.{IsCutOff}
 use Rattle.serv_top.proofs.Cutting.{replies_to-push}

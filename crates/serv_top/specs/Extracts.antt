@@ -12,7 +12,7 @@ use Rattle.serv_top.specs.declared.extracts.Extract.{Extract}
 use Rattle.serv_top.specs.declared.extracts.Extract.TheVariants.{Transfer, Remain, Statement}
 use Rattle.serv_top.specs.declared.status.Status.{Status}
 use Rattle.serv_top.specs.Journal.{IsOpened}
-use Rattle.serv_top.specs.Machine.{Stand}
+use Rattle.serv_machine.specs.Stands.{Stand}
 use Rattle.serv_top.specs.Written.{Writes}
 
 -- the lines of commands, each with a line feed: what `apply` is given to accept them again

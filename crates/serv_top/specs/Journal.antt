@@ -12,7 +12,7 @@ use Rattle.serv_machine.specs.History.{in_journal}
 use Rattle.serv_machine.specs.OnDisk.{HasHistory, OnDisk}
 use Rattle.serv_top.specs.declared.status.Status.{Status}
 use Rattle.serv_top.specs.declared.status.Status.TheVariants.{Done, DiskFault, NotJournal, AlreadyThere, Damaged, OutOfMemory, JournalFull}
-use Rattle.serv_top.specs.Machine.{Stand, stand}
+use Rattle.serv_machine.specs.Stands.{Stand, stand}
 use Rattle.serv_top.specs.Outcome.{Ended}
 use Rattle.serv_top.specs.Sound.{StaySound}
 use Rattle.serv_top.specs.Lines.{lines_of}

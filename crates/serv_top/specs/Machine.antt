@@ -1,5 +1,5 @@
 -- What a line says to the machine, its reply, what is held after it, and how many steps it may take.
-use Rattle.std.specs.Prelude.{◌≡◌, ℕ, ◌≤◌, List, []}
+use Rattle.std.specs.Prelude.{◌≡◌, ℕ, List, []}
 use Rattle.svc_types.specs.declared.requests.Request.{Request}
 use Rattle.svc_types.specs.Requests.{IsRequest}
 use Rattle.svc_world.specs.World.{Accepted}
@@ -51,26 +51,3 @@ abbrev pub IsFresh : History → Said → Type 0
 IsFresh h (Asks r) = IsAppending h r
 IsFresh h (Faulty place) = ⊥
 IsFresh h (Unfit number column) = ⊥
-
--- ---- where the machine stands
-
--- what is held, and how many steps were taken
-pub record Stand : Type 0 where
-  pub history : History
-  pub steps : ℕ
-
-abbrev pub stand : History → ℕ → Stand
-stand h steps = record { history = h; steps = steps }
-
--- nothing was accepted, and no step was taken
-abbrev pub Stays : Stand → Stand → Type 0
-Stays s s' = (s'.history ≡ s.history) × (s'.steps ≤ s.steps)
-
--- what is held, what of it is kept, and how many steps were taken
-pub record Running : Type 0 where
-  pub held : History
-  pub kept : History
-  pub steps : ℕ
-
-abbrev pub running : History → History → ℕ → Running
-running held kept steps = record { held = held; kept = kept; steps = steps }

@@ -7,7 +7,7 @@ use Rattle.serv_machine.specs.OnDisk.{OnDisk}
 use Rattle.serv_top.specs.declared.status.Status.{Status}
 use Rattle.serv_top.specs.declared.status.Status.TheVariants.{Done, ReadFault, WriteFault, DiskFault, TooMuch, OutOfMemory}
 use Rattle.serv_top.specs.Lines.{lines_of, ended_lines}
-use Rattle.serv_top.specs.Machine.{Stand, stand}
+use Rattle.serv_machine.specs.Stands.{Stand, stand}
 use Rattle.serv_top.specs.Replies.{Answers, IsBegun, IsCutIn, IsHeldUp}
 use Rattle.serv_top.specs.Upheld.{Say, AreSaidFirst}
 use Rattle.serv_top.specs.Sound.{StaySound}

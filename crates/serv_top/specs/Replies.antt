@@ -6,7 +6,8 @@ use Rattle.serv_disk.specs.Faults.{IsProperPrefix}
 use Rattle.serv_machine.specs.History.{History}
 use Rattle.serv_top.specs.declared.serving.Stop.{Stop}
 use Rattle.serv_top.specs.declared.serving.Stop.TheVariants.{WriteFault, DiskFault, OutOfMemory}
-use Rattle.serv_top.specs.Machine.{Said, reply_to, history_after, bound_of, commands_of, IsFresh, Stand}
+use Rattle.serv_machine.specs.Stands.{Stand}
+use Rattle.serv_top.specs.Machine.{Said, reply_to, history_after, bound_of, commands_of, IsFresh}
 
 -- the history after all of it
 abbrev pub history_after_all : History → List Said → History

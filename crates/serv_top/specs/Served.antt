@@ -7,11 +7,10 @@ use Rattle.serv_machine.specs.OnDisk.{OnDisk}
 use Rattle.serv_links.specs.declared.doors.DoorsEnd.TheVariants as doors_end
 use Rattle.serv_links.specs.declared.link_end.LinkEnd.{LinkEnd}
 use Rattle.serv_links.specs.declared.summary.Summary.{Summary}
-use Rattle.serv_links.specs.Responses as links
 use Rattle.serv_links.specs.Doors.{OneServed, HasServed, IsDoorsEnd, IsSummary, text_of_summary}
 use Rattle.serv_top.specs.declared.status.Status.{Status}
 use Rattle.serv_top.specs.declared.status.Status.TheVariants.{Done, WriteFault, DiskFault, NetFault, OutOfMemory}
-use Rattle.serv_top.specs.Machine.{Stand}
+use Rattle.serv_machine.specs.Stands.{Stand}
 use Rattle.serv_top.specs.Journal.{IsRunOver}
 
 -- the line that counts these ends
@@ -36,28 +35,24 @@ IsServedAs DiskFault most coming ends written = IsDoorsEnd doors_end.DiskFault m
 IsServedAs NetFault most coming ends written = IsDoorsEnd doors_end.NetFault most coming ends × (written ≡ [])
 IsServedAs other most coming ends written = ⊥
 
--- where the books stand, as it is said of links
-abbrev pub of_links : Stand → links.Stand
-of_links s = links.stand s.history s.steps
-
 -- links came, each was served over the history that the one before it left, and they were handed back; and then their
 -- summary was written
-pub record ServesLinks {C : Type 0} (P : links.Stand → OneServed C) (status : Status) (most : ℕ) (coming coming' backed backed' : Option (List C)) (held held' : Option (List ℕ))
+pub record ServesLinks {C : Type 0} (P : Stand → OneServed C) (status : Status) (most : ℕ) (coming coming' backed backed' : Option (List C)) (held held' : Option (List ℕ))
     (s s' : Stand) (pending : List Accepted) : Type 0 where
   pub ends : List LinkEnd
-  pub served : HasServed (P (of_links s')) coming coming' backed backed' ends (of_links s) (of_links s') pending
+  pub served : HasServed (P s') coming coming' backed backed' ends s s' pending
   pub written : List ℕ
   pub wrote : Appends held held' written
   pub says : IsServedAs status most coming' ends written
 
 pub record LinksEnd {D : Type 0} (images : D → List ℕ → Type 0) (moment : D → ℕ) (images_since : D → ℕ → List ℕ → Type 0) (old new : D)
-    {C : Type 0} (P : links.Stand → OneServed C) (status : Status) (most : ℕ) (coming coming' backed backed' : Option (List C)) (held held' : Option (List ℕ)) (s s' : Stand) : Type 0 where
+    {C : Type 0} (P : Stand → OneServed C) (status : Status) (most : ℕ) (coming coming' backed backed' : Option (List C)) (held held' : Option (List ℕ)) (s s' : Stand) : Type 0 where
   pub pending : List Accepted
   pub served : ServesLinks P status most coming coming' backed backed' held held' s s' pending
   pub disk : OnDisk images moment images_since old new s.history.commands s'.history.commands pending
 
 -- a journal was opened, and then links were served over it
-abbrev pub IsServedOver : {D : Type 0} → (D → Option (List ℕ)) → (D → List ℕ → Type 0) → (D → ℕ) → (D → ℕ → List ℕ → Type 0) → D → D → {C : Type 0} → (links.Stand → OneServed C) → Status → ℕ → ℕ → ℕ
+abbrev pub IsServedOver : {D : Type 0} → (D → Option (List ℕ)) → (D → List ℕ → Type 0) → (D → ℕ) → (D → ℕ → List ℕ → Type 0) → D → D → {C : Type 0} → (Stand → OneServed C) → Status → ℕ → ℕ → ℕ
     → Option (List C) → Option (List C) → Option (List C) → Option (List C) → Option (List ℕ) → Option (List ℕ) → Type 0
 IsServedOver seen images moment images_since old new P status most steps steps' coming coming' backed backed' held held' =
     IsRunOver (λ s s' pending. ServesLinks P status most coming coming' backed backed' held held' s s' pending) seen images moment images_since old new steps steps'

@@ -11,7 +11,8 @@ use Rattle.serv_machine.specs.OnDisk.{OnDisk, IsTorn}
 use Rattle.serv_machine.specs.Stages.{IsNear, IsStaged}
 use Rattle.serv_top.specs.declared.serving.Stop.{Stop}
 use Rattle.serv_top.specs.Lines.{ended_lines, open_line}
-use Rattle.serv_top.specs.Machine.{Said, Says, reply_to, history_after, bound_of, commands_of, IsFresh, Stand, Running}
+use Rattle.serv_machine.specs.Stands.{Stand, Running}
+use Rattle.serv_top.specs.Machine.{Said, Says, reply_to, history_after, bound_of, commands_of, IsFresh}
 use Rattle.serv_top.specs.Replies.{Answers, IsStopped, replies_to, history_after_all, bound_of_all}
 use Rattle.serv_top.specs.Upheld.{Say}
 

@@ -1,7 +1,8 @@
 -- What is written where no reply may wait: the reply to each request is whole before a part of the next one is written.
 use Rattle.std.specs.Prelude.{◌≡◌, ℕ, ◌+◌, ◌≤◌, List, [], ◌∷◌, ◌++◌, length}
 use Rattle.serv_disk.specs.Faults.{IsProperPrefix}
-use Rattle.serv_top.specs.Machine.{Said, reply_to, Stand}
+use Rattle.serv_machine.specs.Stands.{Stand}
+use Rattle.serv_top.specs.Machine.{Said, reply_to}
 use Rattle.serv_top.specs.Replies.{replies_to, history_after_all, bound_of_all}
 
 -- the requests up to this one were acted on; the replies to those before it are written whole, and of its own a part that is not

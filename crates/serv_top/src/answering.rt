@@ -3,7 +3,7 @@
 ghost use Rattle.std.specs.Prelude.{◌≡◌, ◌≤◌, [], Err, IfErr, IfOk, OnErr, OnOk};
 ghost use Rattle.serv_disk.specs.Faults.{HasRisen};
 ghost use Rattle.serv_machine.specs.OnDisk.{OnDisk};
-ghost use Rattle.serv_top.specs.Machine.{running};
+ghost use Rattle.serv_machine.specs.Stands.{running};
 ghost use Rattle.serv_top.specs.Serving.{ByLine, IsHalted, IsReplied};
 
 use serv_disk::Disk;

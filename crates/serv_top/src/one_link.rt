@@ -2,10 +2,10 @@
 
 ghost use Rattle.std.specs.Prelude.{◌≡◌, ◌≤◌, ◌<◌, ◌⊎◌, ◌↔◌, ℕ, List, Some, length, true, false};
 ghost use Rattle.serv_disk.specs.Faults.{HasRisen};
-ghost use Rattle.serv_engine.specs.Engines.{IsDurable};
-ghost use Rattle.serv_machine.specs.Engines.{history_of};
+ghost use Rattle.serv_engine.specs.Engines.{IsDurable, kept_of};
+ghost use Rattle.serv_machine.specs.Engines.{history_of, kept_history};
+ghost use Rattle.serv_machine.specs.Stands.{stand};
 ghost use Rattle.serv_machine.specs.Upheld.{Upholds};
-ghost use Rattle.serv_links.specs.Responses.{stand};
 ghost use Rattle.serv_links.specs.Outcomes.{Writes};
 ghost use Rattle.serv_links.specs.Links.{IsDiskEnd, Serves, link_limit, number_in};
 
@@ -17,8 +17,8 @@ use std::sync::ledger::Ledger;
 use svc_base::Steps;
 use svc_checkpoint::Checked;
 
-/// Serves a link to its end over the engine: each request is acted on in its order, once the response before it is
-/// written, and what is said is that of the bytes, whatever the pieces in which they come.
+/// Serves a link to its end over the engine: each request is acted on in its order, its response is written once the
+/// disk has its command, and what is said is that of the bytes, whatever the pieces in which they come.
 pub fn serve_one<D: Disk, C: Link, L: Ledger>(
     alloc: Global,
     engine: &mut Engine<Checked>,
@@ -33,10 +33,10 @@ pub fn serve_one<D: Disk, C: Link, L: Ledger>(
     ensures served { Writes D.images D.moment D.images_since disk.old disk.new
         (Serves result (HasRisen (C.Source.faults link.old) (C.Source.faults link.new))
         (HasRisen (C.Sink.faults link.old) (C.Sink.faults link.new))
-        (λ covers. Upholds covers (D.moment disk.new) (D.images_since disk.new) engine.new.history
+        (λ covers. Upholds covers (D.moment disk.new) (D.images_since disk.new) (kept_of engine.new)
         (C.held link.old) (C.log link.old) (C.log link.new)) (C.left link.old) (C.left link.new)
-        (stand (history_of engine.old) steps.old) (stand (history_of engine.new) steps.new))
-        engine.old.history engine.new.history (C.held link.old) (C.held link.new) }
+        (stand (history_of engine.old) steps.old) (stand (kept_history engine.new) steps.new))
+        engine.old.history (kept_of engine.new) (C.held link.old) (C.held link.new) }
     ensures few { number_in result ≤ link_limit }
     ensures disk { IsDiskEnd result → HasRisen (D.faults disk.old) (D.faults disk.new) }
     // The engine is spent exactly where the disk failed, and can be used on otherwise.

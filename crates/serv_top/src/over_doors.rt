@@ -5,7 +5,7 @@ ghost use Rattle.std.specs.Io.KnownBytes.{Appends};
 ghost use Rattle.serv_disk.specs.Faults.{AppendsPart, HasRisen};
 ghost use Rattle.serv_links.specs.Doors.{ServedLink, text_of_summary};
 ghost use Rattle.serv_top.specs.Journal.{HasFileFaults, IsUnopened};
-ghost use Rattle.serv_top.specs.Machine.{stand};
+ghost use Rattle.serv_machine.specs.Stands.{stand};
 ghost use Rattle.serv_top.specs.Served.{IsServedOver, LinksEnd};
 
 use crate::over_journal::open_journal;
@@ -69,7 +69,7 @@ fn serve_by<D: Disk, M: Machine<D>, K: Sink, G: Doors, L: Ledger>(
         (D.moment disk.new) (D.images_since disk.new)) result most
         (G.coming doors.old) (G.coming doors.new) (G.backed doors.old) (G.backed doors.new)
         (K.held snk.old) (K.held snk.new)
-        (stand (M.history machine.old) steps.old) (stand (M.history machine.new) steps.new) }
+        (stand (M.history machine.old) steps.old) (stand (M.kept machine.new) steps.new) }
     ensures write { result ≡ Status.WriteFault → HasRisen (K.faults snk.old) (K.faults snk.new) }
     ensures disk { result ≡ Status.DiskFault → HasRisen (D.faults disk.old) (D.faults disk.new) }
     ensures net { result ≡ Status.NetFault → HasRisen (G.faults doors.old) (G.faults doors.new) }

@@ -7,7 +7,8 @@ ghost use Rattle.serv_disk.specs.Stamps.{Notes};
 ghost use Rattle.serv_machine.specs.declared.stage.Stage.TheVariants as stages;
 ghost use Rattle.serv_machine.specs.OnDisk.{OnDisk};
 ghost use Rattle.serv_machine.specs.Upheld.{Upholds};
-ghost use Rattle.serv_top.specs.Machine.{Running, Said, Stand, running, stand};
+ghost use Rattle.serv_machine.specs.Stands.{Running, Stand, running, stand};
+ghost use Rattle.serv_top.specs.Machine.{Said};
 ghost use Rattle.serv_top.specs.Serving.{AppendsFront, Gathered, IsReplied, IsWrittenBut, Stops};
 ghost use Rattle.serv_top.specs.Upheld.{AreFirst, AreReplies};
 

@@ -107,7 +107,7 @@ fn text_about<L: Ledger>(
         Review::Confirm => confirmed(alloc, core, input, steps),
         Review::Pmi => pmi_text(alloc, core, input, steps),
         Review::PmiDrops => pmi_drops(alloc, core, input, steps),
-        Review::Reconcile(first, last) => recon_text(alloc, core, first, last, input, steps),
+        Review::Reconcile(first, last) => recon_text(alloc, core, first, last, input),
     }
 }
 

@@ -6,7 +6,7 @@ ghost use Rattle.serv_disk.specs.Faults.{HasRisen};
 ghost use Rattle.serv_disk.specs.Stamps.{Notes, Stamp};
 ghost use Rattle.serv_machine.specs.OnDisk.{OnDisk};
 ghost use Rattle.serv_top.specs.declared.serving.Stop.TheVariants as stop;
-ghost use Rattle.serv_top.specs.Machine.{Running, Stand, running, stand};
+ghost use Rattle.serv_machine.specs.Stands.{Running, Stand, running, stand};
 ghost use Rattle.serv_top.specs.Serving.{AllServed, ByLine, IsHalted, IsReplied, Served, Stopped, Stops};
 ghost use Rattle.serv_top.specs.Lines.{IsPlain, ended_lines, lines_of};
 ghost use Rattle.serv_top.specs.Stop.{status_of, stop_of};

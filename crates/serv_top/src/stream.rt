@@ -2,7 +2,7 @@
 
 ghost use Rattle.std.specs.Prelude.{◌≡◌, ◌≤◌};
 ghost use Rattle.serv_disk.specs.Faults.{HasRisen};
-ghost use Rattle.serv_top.specs.Machine.{stand};
+ghost use Rattle.serv_machine.specs.Stands.{stand};
 ghost use Rattle.serv_top.specs.Lines.{lines_of};
 ghost use Rattle.serv_top.specs.Outcome.{Ends};
 ghost use Rattle.serv_top.specs.Upheld.{AreSaidFirst, IsAcknowledged};

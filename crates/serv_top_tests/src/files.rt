@@ -94,12 +94,13 @@ fn calls_of_opening(alloc: Global) -> u32 {
     0
 }
 
-/// What an import comes to whose disk fails after so many calls of appending. The first row makes two: a write and a sync
-/// of its record. The second makes three, as it writes the commit byte of the first too, and its own commit byte two.
+/// What an import comes to whose disk fails after so many calls of appending. The first row makes three: it asks for the
+/// file's length, and a write and a sync of its record. The second makes three, as it writes the commit byte of the first
+/// too, and its own commit byte two.
 fn ending_after(made: u32) -> (Status, &'static str) {
     match made {
-        0..=4 => (Status::DiskFault, ""),
-        5..=6 => (Status::DiskFault, "ok 4\n"),
+        0..=5 => (Status::DiskFault, ""),
+        6..=7 => (Status::DiskFault, "ok 4\n"),
         _ => (Status::Done, REPLIES),
     }
 }
@@ -108,7 +109,7 @@ fn ending_after(made: u32) -> (Status, &'static str) {
 fn a_file_goes_on_after_any_call_of_the_disk_that_failed(rt: HostRuntime) {
     let opening = calls_of_opening(rt.alloc());
     assert!(rt; opening > 1);
-    for call in 1..opening.saturating_add(8) {
+    for call in 1..opening.saturating_add(9) {
         let (status, output) = ending_after(call.saturating_sub(opening));
         let again = comes_again(rt.alloc(), (&[call], &[], &[]), status, output);
         assert!(rt; matches!(again, Ok(true)), "call {call}");

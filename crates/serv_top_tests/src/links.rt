@@ -125,8 +125,8 @@ fn doors_a_sink_and_a_disk_that_fail_end_the_run(rt: HostRuntime) {
     assert!(rt; matches!(ends(alloc, doors, &[ASKING], (9, "", ONE_LINE)), Ok(true)));
     let sink = ("10", 0, 1, 0);
     assert!(rt; matches!(ends(alloc, sink, &[ASKING], (4, "", ONE_LINE)), Ok(true)));
-    // The first call of the append fails.
-    let disk = ("10", 4, 0, 0);
+    // The write of the record fails.
+    let disk = ("10", 6, 0, 0);
     assert!(rt;
         matches!(
             ends(alloc, disk, &[FAILING, ASKING], (5, "", CLOSED)),

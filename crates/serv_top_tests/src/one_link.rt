@@ -46,7 +46,7 @@ pub(crate) const DAY_SAID: &str =
 /// A disk with an empty journal and room for some calls.
 fn new_disk(alloc: Global) -> Result<MemDisk, OutOfMemory> {
     let mut disk = MemDisk::new(NEW_JOURNAL.to_vec(alloc)?, Vec::new(alloc))?;
-    disk.reserve(64, 4096)?;
+    disk.reserve(64, 70_000)?;
     Ok(disk)
 }
 

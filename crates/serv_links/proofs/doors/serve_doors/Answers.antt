@@ -1,13 +1,13 @@
 use Rattle.std.proofs.Common.{refl, ◌∙◌, arith}
 use Rattle.serv_machine.proofs.OnDiskLemmas.{disk_none}
-use Rattle.serv_links.specs.Responses.{stand}
+use Rattle.serv_machine.specs.Stands.{stand}
 use Rattle.serv_links.proofs.DoorsLemmas.{along_none, along_more, along_stops, at_most_one, calm_end, counted_more, disk_end}
 use Rattle.serv_links.proofs.doors.serve_doors.Goals as goal
 
 pub loop-init : goal.loop-init
 loop-init g c = record {
-  along = along_none g.D.Disk.images g.D.Disk.moment g.D.Disk.images_since g.G.Conn.Source.left g.G.Conn.Sink.held g.G.Conn.Sink.log g.G.Conn.Source.faults g.G.Conn.Sink.faults c.args.disk.now c.new-summary.result _ _ (stand (g.M.Machine.history c.args.machine.now) c.args.steps.now) c.new-summary.ensures
-      (disk_none g.D.Disk.images g.D.Disk.moment g.D.Disk.images_since c.args.disk.now _ _ refl (g.met.M.Machine.keeps c.args.machine.now c.args.disk.now c.requires.ready) (g.met.D.Disk.only_now c.args.disk.now));
+  along = along_none g.D.Disk.images g.D.Disk.moment g.D.Disk.images_since g.G.Conn.Source.left g.G.Conn.Sink.held g.G.Conn.Sink.log g.G.Conn.Source.faults g.G.Conn.Sink.faults c.args.disk.now c.new-summary.result _ _ (stand (g.M.Machine.kept c.args.machine.now) c.args.steps.now) c.new-summary.ensures
+      (disk_none g.D.Disk.images g.D.Disk.moment g.D.Disk.images_since c.args.disk.now _ _ refl (g.met.M.Machine.keeps_running c.args.machine.now c.args.disk.now (g.met.M.Machine.settled c.args.machine.now c.args.disk.now c.requires.ready).0) (g.met.D.Disk.only_now c.args.disk.now));
   out = c.requires.out;
   ready = c.requires.ready;
   served = c.new-summary.ensures.served;
@@ -24,9 +24,9 @@ returns-in-Disk-clause-served g c =
     let counted = counted_more c.loop.invariant.along.ends c.serve_link-end.result c.loop.summary c.count.new.self c.loop.invariant.along.counted
     c.count.ensures.served c.count.ensures.requests c.count.ensures.broken c.count.ensures.cut c.count.ensures.memory in
     along_stops g.D.Disk.images g.D.Disk.moment g.D.Disk.images_since g.G.Conn.Source.left g.G.Conn.Sink.held g.G.Conn.Sink.log g.G.Conn.Source.faults g.G.Conn.Sink.faults
-    c.args.disk.now c.loop.disk c.loop.summary c.loop.counter _ _ _ _ (stand (g.M.Machine.history c.args.machine.now) c.args.steps.now) (stand (g.M.Machine.history c.loop.machine) c.loop.steps) c.loop.invariant.along
+    c.args.disk.now c.loop.disk c.loop.summary c.loop.counter _ _ _ _ (stand (g.M.Machine.kept c.args.machine.now) c.args.steps.now) (stand (g.M.Machine.kept c.loop.machine) c.loop.steps) c.loop.invariant.along
     c.serve_link-end.new.disk c.count.new.self (g.G.Doors.coming c.next.new.self) (g.G.Doors.coming c.back.new.self) (g.G.Doors.backed c.next.new.self) (g.G.Doors.backed c.back.new.self)
-    c.serve_link-end.result c.in-Ok-Some.link c.serve_link-end.new.link (stand (g.M.Machine.history c.serve_link-end.new.machine) c.serve_link-end.new.steps)
+    c.serve_link-end.result c.in-Ok-Some.link c.serve_link-end.new.link (stand (g.M.Machine.kept c.serve_link-end.new.machine) c.serve_link-end.new.steps)
     (rw c.in-Ok-Some.field-0-is at c.in-Ok-Some.ensures.given) c.back.ensures.coming c.next.ensures.backed c.back.ensures.backed c.serve_link-end.ensures.served counted
     c.args.most c.loop-test.true (disk_end c.serve_link-end.result c.in-Disk.field-0 c.in-Disk.is)
 
@@ -38,9 +38,9 @@ loop-preserved g c =
     let one = at_most_one c.serve_link-end.result in
     record {
       along = along_more g.D.Disk.images g.D.Disk.moment g.D.Disk.images_since g.G.Conn.Source.left g.G.Conn.Sink.held g.G.Conn.Sink.log g.G.Conn.Source.faults g.G.Conn.Sink.faults
-          c.args.disk.now c.loop.disk c.loop.summary c.loop.counter _ _ _ _ (stand (g.M.Machine.history c.args.machine.now) c.args.steps.now) (stand (g.M.Machine.history c.loop.machine) c.loop.steps) c.loop.invariant.along
+          c.args.disk.now c.loop.disk c.loop.summary c.loop.counter _ _ _ _ (stand (g.M.Machine.kept c.args.machine.now) c.args.steps.now) (stand (g.M.Machine.kept c.loop.machine) c.loop.steps) c.loop.invariant.along
           c.serve_link-end.new.disk c.count.new.self (g.G.Doors.coming c.next.new.self) (g.G.Doors.coming c.back.new.self) (g.G.Doors.backed c.next.new.self) (g.G.Doors.backed c.back.new.self)
-          c.serve_link-end.result c.in-Ok-Some.link c.serve_link-end.new.link (stand (g.M.Machine.history c.serve_link-end.new.machine) c.serve_link-end.new.steps)
+          c.serve_link-end.result c.in-Ok-Some.link c.serve_link-end.new.link (stand (g.M.Machine.kept c.serve_link-end.new.machine) c.serve_link-end.new.steps)
           (rw c.in-Ok-Some.field-0-is at c.in-Ok-Some.ensures.given) c.back.ensures.coming c.next.ensures.backed c.back.ensures.backed c.serve_link-end.ensures.served counted calm;
       out = c.back.ensures.out;
       ready = c.serve_link-end.ensures.ready calm;

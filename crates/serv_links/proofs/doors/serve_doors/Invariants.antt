@@ -1,5 +1,5 @@
 use Rattle.std.proofs.Common.{◌≡◌, ◌*◌, ◌^◌, ◌≤◌}
-use Rattle.serv_links.specs.Responses.{stand}
+use Rattle.serv_machine.specs.Stands.{stand}
 use Rattle.serv_links.proofs.DoorsLemmas.{Along}
 use Rattle.serv_links.proofs.doors.serve_doors.Given as goal
 
@@ -8,7 +8,7 @@ abbrev pub invariant-loop : goal.invariant-loop
 invariant-loop g l = record {
   along : Along g.D.Disk.images g.D.Disk.moment g.D.Disk.images_since g.G.Conn.Source.left g.G.Conn.Sink.held g.G.Conn.Sink.log g.G.Conn.Source.faults g.G.Conn.Sink.faults l.fn.disk l.disk l.summary l.counter
       (g.G.Doors.coming l.fn.doors) (g.G.Doors.coming l.doors) (g.G.Doors.backed l.fn.doors) (g.G.Doors.backed l.doors)
-      (stand (g.M.Machine.history l.fn.machine) l.fn.steps) (stand (g.M.Machine.history l.machine) l.steps);
+      (stand (g.M.Machine.kept l.fn.machine) l.fn.steps) (stand (g.M.Machine.kept l.machine) l.steps);
   out : g.G.Doors.out l.doors ≡ 0;
   ready : g.M.Machine.ready l.machine l.disk;
   served : l.summary.served ≡ l.counter;

@@ -4,7 +4,8 @@ use Rattle.serv_machine.specs.Upheld.{Upholds}
 use Rattle.serv_machine.proofs.OnDiskLemmas.{disk_none}
 use Rattle.serv_machine.proofs.UpheldLemmas.{commands_kept}
 use Rattle.serv_links.specs.Links.{link_limit}
-use Rattle.serv_links.specs.Responses.{stand, response_503}
+use Rattle.serv_machine.specs.Stands.{stand}
+use Rattle.serv_links.specs.Responses.{response_503}
 use Rattle.serv_links.proofs.AnsweredLemmas.{none_taken}
 use Rattle.serv_links.proofs.GoingLemmas.{same_left, same_reads, same_held, same_writes, same_log, starved_at_once, going_none, run_ends, run_breaks, run_broken, run_disk, run_memory, run_passes, run_cut, run_over, run_goes}
 use Rattle.serv_links.proofs.RoundLemmas.{risen_last}
@@ -14,17 +15,17 @@ pub returns-in_default-clause-served : goal.returns-in_default-clause-served
 returns-in_default-clause-served g c =
     let kept : g.C.Source.left c.write_no_memory.new.link ≡ g.C.Source.left c.args.link.now =
     same_left (g.C.Sink.beside c.args.link.now) (g.C.Sink.beside c.write_no_memory.new.link) _ _ _ _ (g.met.C.Link.reading c.args.link.now) (g.met.C.Link.reading c.write_no_memory.new.link) c.write_no_memory.ensures.beside in
-    let has = g.met.M.Machine.keeps c.args.machine.now c.args.disk.now c.requires in
+    let has = g.met.M.Machine.keeps_running c.args.machine.now c.args.disk.now (g.met.M.Machine.settled c.args.machine.now c.args.disk.now c.requires).0 in
     let up =
-    none_taken g.D.Disk.images g.D.Disk.moment g.D.Disk.images_since c.args.disk.now (g.met.D.Disk.only_now c.args.disk.now) _ _ _ (g.M.Machine.history c.args.machine.now) _ [] response_503 (sym (append-nil _))
+    none_taken g.D.Disk.images g.D.Disk.moment g.D.Disk.images_since c.args.disk.now (g.met.D.Disk.only_now c.args.disk.now) _ _ _ (g.M.Machine.kept c.args.machine.now) _ [] response_503 (sym (append-nil _))
     (commands_kept (g.D.Disk.images c.args.disk.now) _ has) (inr (inr refl)) c.write_no_memory.ensures.noted in
-    starved_at_once g.D.Disk.images g.D.Disk.moment g.D.Disk.images_since c.args.disk.now _ _ _ _ _ _ _ (stand (g.M.Machine.history c.args.machine.now) c.args.steps.now) up kept c.write_no_memory.ensures.front
-    (disk_none g.D.Disk.images g.D.Disk.moment g.D.Disk.images_since c.args.disk.now _ _ refl (g.met.M.Machine.keeps c.args.machine.now c.args.disk.now c.requires) (g.met.D.Disk.only_now c.args.disk.now))
+    starved_at_once g.D.Disk.images g.D.Disk.moment g.D.Disk.images_since c.args.disk.now _ _ _ _ _ _ _ (stand (g.M.Machine.kept c.args.machine.now) c.args.steps.now) up kept c.write_no_memory.ensures.front
+    (disk_none g.D.Disk.images g.D.Disk.moment g.D.Disk.images_since c.args.disk.now _ _ refl (g.met.M.Machine.keeps_running c.args.machine.now c.args.disk.now (g.met.M.Machine.settled c.args.machine.now c.args.disk.now c.requires).0) (g.met.D.Disk.only_now c.args.disk.now))
 
 pub pieces-init : goal.pieces-init
 pieces-init g c = record {
-  run = going_none g.D.Disk.images g.D.Disk.moment g.D.Disk.images_since c.args.disk.now _ _ _ c.in-Ok.conn (stand (g.M.Machine.history c.args.machine.now) c.args.steps.now) c.in-Ok.ensures
-      (disk_none g.D.Disk.images g.D.Disk.moment g.D.Disk.images_since c.args.disk.now _ _ refl (g.met.M.Machine.keeps c.args.machine.now c.args.disk.now c.requires) (g.met.D.Disk.only_now c.args.disk.now));
+  run = going_none g.D.Disk.images g.D.Disk.moment g.D.Disk.images_since c.args.disk.now _ _ _ c.in-Ok.conn (stand (g.M.Machine.kept c.args.machine.now) c.args.steps.now) c.in-Ok.ensures
+      (disk_none g.D.Disk.images g.D.Disk.moment g.D.Disk.images_since c.args.disk.now _ _ refl (g.met.M.Machine.keeps_running c.args.machine.now c.args.disk.now (g.met.M.Machine.settled c.args.machine.now c.args.disk.now c.requires).0) (g.met.D.Disk.only_now c.args.disk.now));
   below = omega arith;
   few = omega arith;
   ready = c.requires;
@@ -41,8 +42,8 @@ returns-in-Ok-eq0-clause-served g c =
     same_log (g.C.Source.beside c.pieces.link) (g.C.Source.beside c.read_some.new.src) _ _ _ _ _ _ _ _ (g.met.C.Link.writing c.pieces.link) (g.met.C.Link.writing c.read_some.new.src) c.read_some.ensures.beside in
     let none : c.in-Ok-eq0.field-0 ≡ 0 = omega (arith, c.in-Ok-eq0.field-0-test) in
     run_ends g.D.Disk.images g.D.Disk.moment g.D.Disk.images_since c.args.disk.now c.pieces.disk
-    (λ log covers. Upholds covers (g.D.Disk.moment c.pieces.disk) (g.D.Disk.images_since c.pieces.disk) (g.M.Machine.history c.pieces.machine).commands (g.C.Sink.held c.args.link.now) (g.C.Sink.log c.args.link.now) log) _ _ unnoted _ _ _ _ c.pieces.conn c.pieces.answered c.pieces.taken
-    (stand (g.M.Machine.history c.args.machine.now) c.args.steps.now) (stand (g.M.Machine.history c.pieces.machine) c.pieces.steps) c.pieces.invariant.run _ _ kept c.pieces.invariant.below _ _
+    (λ log covers. Upholds covers (g.D.Disk.moment c.pieces.disk) (g.D.Disk.images_since c.pieces.disk) (g.M.Machine.kept c.pieces.machine).commands (g.C.Sink.held c.args.link.now) (g.C.Sink.log c.args.link.now) log) _ _ unnoted _ _ _ _ c.pieces.conn c.pieces.answered c.pieces.taken
+    (stand (g.M.Machine.kept c.args.machine.now) c.args.steps.now) (stand (g.M.Machine.kept c.pieces.machine) c.pieces.steps) c.pieces.invariant.run _ _ kept c.pieces.invariant.below _ _
     (rw none at c.in-Ok-eq0.ensures.taken) (c.in-Ok-eq0.ensures.end none)
 
 pub returns-in-Err-clause-served : goal.returns-in-Err-clause-served
@@ -52,8 +53,8 @@ returns-in-Err-clause-served g c =
     let unnoted : g.C.Sink.log c.read_some.new.src ≡ g.C.Sink.log c.pieces.link =
     same_log (g.C.Source.beside c.pieces.link) (g.C.Source.beside c.read_some.new.src) _ _ _ _ _ _ _ _ (g.met.C.Link.writing c.pieces.link) (g.met.C.Link.writing c.read_some.new.src) c.read_some.ensures.beside in
     run_breaks g.D.Disk.images g.D.Disk.moment g.D.Disk.images_since c.args.disk.now c.pieces.disk
-    (λ log covers. Upholds covers (g.D.Disk.moment c.pieces.disk) (g.D.Disk.images_since c.pieces.disk) (g.M.Machine.history c.pieces.machine).commands (g.C.Sink.held c.args.link.now) (g.C.Sink.log c.args.link.now) log) _ _ unnoted _ _ _ _ c.pieces.conn c.pieces.answered c.pieces.taken
-    (stand (g.M.Machine.history c.args.machine.now) c.args.steps.now) (stand (g.M.Machine.history c.pieces.machine) c.pieces.steps) c.pieces.invariant.run _ _ kept c.pieces.invariant.below _ _
+    (λ log covers. Upholds covers (g.D.Disk.moment c.pieces.disk) (g.D.Disk.images_since c.pieces.disk) (g.M.Machine.kept c.pieces.machine).commands (g.C.Sink.held c.args.link.now) (g.C.Sink.log c.args.link.now) log) _ _ unnoted _ _ _ _ c.pieces.conn c.pieces.answered c.pieces.taken
+    (stand (g.M.Machine.kept c.args.machine.now) c.args.steps.now) (stand (g.M.Machine.kept c.pieces.machine) c.pieces.steps) c.pieces.invariant.run _ _ kept c.pieces.invariant.below _ _
     c.in-Err.ensures.kept (risen_last _ _ _ c.pieces.invariant.read_later c.read_some.ensures.cause.later c.in-Err.ensures.cause.failed)
 
 pub returns-in-Broken-clause-served : goal.returns-in-Broken-clause-served
@@ -68,7 +69,7 @@ returns-in-Broken-clause-served g c =
     same_writes (g.C.Source.beside c.pieces.link) (g.C.Source.beside c.read_some.new.src) _ _ _ _ _ _ _ _ (g.met.C.Link.writing c.pieces.link) (g.met.C.Link.writing c.read_some.new.src) c.read_some.ensures.beside in
     let within : c.pieces.taken + c.in-Ok-read_some.count ≤ link_limit = omega (arith, c.in-Ok-read_some.ensures.bound, c.min-most.ensures, c.pieces.invariant.below) in
     run_broken g.D.Disk.images g.D.Disk.moment g.D.Disk.images_since c.args.disk.now c.pieces.disk c.serve_piece-round.new.disk _ _ _ _ _ _ _ _ c.pieces.conn c.serve_piece-round.new.conn c.pieces.answered c.pieces.taken
-    (stand (g.M.Machine.history c.args.machine.now) c.args.steps.now) (stand (g.M.Machine.history c.pieces.machine) c.pieces.steps) (stand (g.M.Machine.history c.serve_piece-round.new.machine) c.serve_piece-round.new.steps)
+    (stand (g.M.Machine.kept c.args.machine.now) c.args.steps.now) (stand (g.M.Machine.kept c.pieces.machine) c.pieces.steps) (stand (g.M.Machine.kept c.serve_piece-round.new.machine) c.serve_piece-round.new.steps)
     (g.C.Sink.log c.args.link.now) (g.C.Sink.log c.pieces.link) (g.C.Sink.log c.read_some.new.src) (g.C.Sink.log c.serve_piece-round.new.link) unnoted c.pieces.invariant.run kept (take c.in-Ok-read_some.count c.read_some.new.room) c.in-Ok-read_some.count c.in-Ok-read_some.ensures.count (omega (arith, c.in-Ok-read_some.ensures.bound, c.min-most.ensures)) c.in-Ok-read_some.ensures.taken stays
     _ c.serve_piece-round.result.outcome c.serve_piece-round.result.answered c.serve_piece-round.ensures.piece c.serve_piece-round.ensures.upheld within _ _
     (risen_last (g.C.Sink.faults c.args.link.now) (g.C.Sink.faults c.read_some.new.src) (g.C.Sink.faults c.serve_piece-round.new.link) (omega (arith, c.pieces.invariant.write_later, same)) c.serve_piece-round.ensures.later) c.in-Broken.is
@@ -87,7 +88,7 @@ returns-in-Disk-clause-served g c =
     same_writes (g.C.Source.beside c.pieces.link) (g.C.Source.beside c.read_some.new.src) _ _ _ _ _ _ _ _ (g.met.C.Link.writing c.pieces.link) (g.met.C.Link.writing c.read_some.new.src) c.read_some.ensures.beside in
     let within : c.pieces.taken + c.in-Ok-read_some.count ≤ link_limit = omega (arith, c.in-Ok-read_some.ensures.bound, c.min-most.ensures, c.pieces.invariant.below) in
     run_disk g.D.Disk.images g.D.Disk.moment g.D.Disk.images_since c.args.disk.now c.pieces.disk c.serve_piece-round.new.disk _ _ _ _ _ _ _ _ c.pieces.conn c.serve_piece-round.new.conn c.pieces.answered c.pieces.taken
-    (stand (g.M.Machine.history c.args.machine.now) c.args.steps.now) (stand (g.M.Machine.history c.pieces.machine) c.pieces.steps) (stand (g.M.Machine.history c.serve_piece-round.new.machine) c.serve_piece-round.new.steps)
+    (stand (g.M.Machine.kept c.args.machine.now) c.args.steps.now) (stand (g.M.Machine.kept c.pieces.machine) c.pieces.steps) (stand (g.M.Machine.kept c.serve_piece-round.new.machine) c.serve_piece-round.new.steps)
     (g.C.Sink.log c.args.link.now) (g.C.Sink.log c.pieces.link) (g.C.Sink.log c.read_some.new.src) (g.C.Sink.log c.serve_piece-round.new.link) unnoted c.pieces.invariant.run kept (take c.in-Ok-read_some.count c.read_some.new.room) c.in-Ok-read_some.count c.in-Ok-read_some.ensures.count (omega (arith, c.in-Ok-read_some.ensures.bound, c.min-most.ensures)) c.in-Ok-read_some.ensures.taken stays
     _ c.serve_piece-round.result.outcome c.serve_piece-round.result.answered c.serve_piece-round.ensures.piece c.serve_piece-round.ensures.upheld within _ _
     (risen_last (g.C.Sink.faults c.args.link.now) (g.C.Sink.faults c.read_some.new.src) (g.C.Sink.faults c.serve_piece-round.new.link) (omega (arith, c.pieces.invariant.write_later, same)) c.serve_piece-round.ensures.later) c.in-Disk.is
@@ -104,7 +105,7 @@ returns-in-NoMemory-clause-served g c =
     same_writes (g.C.Source.beside c.pieces.link) (g.C.Source.beside c.read_some.new.src) _ _ _ _ _ _ _ _ (g.met.C.Link.writing c.pieces.link) (g.met.C.Link.writing c.read_some.new.src) c.read_some.ensures.beside in
     let within : c.pieces.taken + c.in-Ok-read_some.count ≤ link_limit = omega (arith, c.in-Ok-read_some.ensures.bound, c.min-most.ensures, c.pieces.invariant.below) in
     run_memory g.D.Disk.images g.D.Disk.moment g.D.Disk.images_since c.args.disk.now c.pieces.disk c.serve_piece-round.new.disk _ _ _ _ _ _ _ _ c.pieces.conn c.serve_piece-round.new.conn c.pieces.answered c.pieces.taken
-    (stand (g.M.Machine.history c.args.machine.now) c.args.steps.now) (stand (g.M.Machine.history c.pieces.machine) c.pieces.steps) (stand (g.M.Machine.history c.serve_piece-round.new.machine) c.serve_piece-round.new.steps)
+    (stand (g.M.Machine.kept c.args.machine.now) c.args.steps.now) (stand (g.M.Machine.kept c.pieces.machine) c.pieces.steps) (stand (g.M.Machine.kept c.serve_piece-round.new.machine) c.serve_piece-round.new.steps)
     (g.C.Sink.log c.args.link.now) (g.C.Sink.log c.pieces.link) (g.C.Sink.log c.read_some.new.src) (g.C.Sink.log c.serve_piece-round.new.link) unnoted c.pieces.invariant.run kept (take c.in-Ok-read_some.count c.read_some.new.room) c.in-Ok-read_some.count c.in-Ok-read_some.ensures.count (omega (arith, c.in-Ok-read_some.ensures.bound, c.min-most.ensures)) c.in-Ok-read_some.ensures.taken stays
     _ c.serve_piece-round.result.outcome c.serve_piece-round.result.answered c.serve_piece-round.ensures.piece c.serve_piece-round.ensures.upheld within _ _
     (risen_last (g.C.Sink.faults c.args.link.now) (g.C.Sink.faults c.read_some.new.src) (g.C.Sink.faults c.serve_piece-round.new.link) (omega (arith, c.pieces.invariant.write_later, same)) c.serve_piece-round.ensures.later) c.in-NoMemory.is
@@ -119,7 +120,7 @@ returns-then-taken-eq-LINK_LIMIT-clause-served g c =
     same_left (g.C.Sink.beside c.read_some.new.src) (g.C.Sink.beside c.serve_piece-round.new.link) _ _ _ _ (g.met.C.Link.reading c.read_some.new.src) (g.met.C.Link.reading c.serve_piece-round.new.link) c.serve_piece-round.ensures.beside in
     let passed =
     run_passes g.D.Disk.images g.D.Disk.moment g.D.Disk.images_since c.args.disk.now c.pieces.disk c.serve_piece-round.new.disk _ _ _ _ _ _ _ _ c.pieces.conn c.serve_piece-round.new.conn c.pieces.answered c.pieces.taken
-    (stand (g.M.Machine.history c.args.machine.now) c.args.steps.now) (stand (g.M.Machine.history c.pieces.machine) c.pieces.steps) (stand (g.M.Machine.history c.serve_piece-round.new.machine) c.serve_piece-round.new.steps)
+    (stand (g.M.Machine.kept c.args.machine.now) c.args.steps.now) (stand (g.M.Machine.kept c.pieces.machine) c.pieces.steps) (stand (g.M.Machine.kept c.serve_piece-round.new.machine) c.serve_piece-round.new.steps)
     (g.C.Sink.log c.args.link.now) (g.C.Sink.log c.pieces.link) (g.C.Sink.log c.read_some.new.src) (g.C.Sink.log c.serve_piece-round.new.link) unnoted c.pieces.invariant.run kept (take c.in-Ok-read_some.count c.read_some.new.room) c.in-Ok-read_some.count c.in-Ok-read_some.ensures.count (omega (arith, c.in-Ok-read_some.ensures.bound, c.min-most.ensures)) c.in-Ok-read_some.ensures.taken stays
     _ c.serve_piece-round.result.outcome c.serve_piece-round.result.answered c.serve_piece-round.ensures.piece c.serve_piece-round.ensures.upheld c.in-Answered.is in
     run_cut g.D.Disk.images g.D.Disk.moment g.D.Disk.images_since c.args.disk.now c.serve_piece-round.new.disk _ _ _ _ _ _ _ _ _ _ passed _ _ (omega (arith, c.if-taken-eq-LINK_LIMIT.true))
@@ -135,7 +136,7 @@ returns-then-is_over-clause-served g c =
     let within : c.pieces.taken + c.in-Ok-read_some.count ≤ link_limit = omega (arith, c.in-Ok-read_some.ensures.bound, c.min-most.ensures, c.pieces.invariant.below) in
     let passed =
     run_passes g.D.Disk.images g.D.Disk.moment g.D.Disk.images_since c.args.disk.now c.pieces.disk c.serve_piece-round.new.disk _ _ _ _ _ _ _ _ c.pieces.conn c.serve_piece-round.new.conn c.pieces.answered c.pieces.taken
-    (stand (g.M.Machine.history c.args.machine.now) c.args.steps.now) (stand (g.M.Machine.history c.pieces.machine) c.pieces.steps) (stand (g.M.Machine.history c.serve_piece-round.new.machine) c.serve_piece-round.new.steps)
+    (stand (g.M.Machine.kept c.args.machine.now) c.args.steps.now) (stand (g.M.Machine.kept c.pieces.machine) c.pieces.steps) (stand (g.M.Machine.kept c.serve_piece-round.new.machine) c.serve_piece-round.new.steps)
     (g.C.Sink.log c.args.link.now) (g.C.Sink.log c.pieces.link) (g.C.Sink.log c.read_some.new.src) (g.C.Sink.log c.serve_piece-round.new.link) unnoted c.pieces.invariant.run kept (take c.in-Ok-read_some.count c.read_some.new.room) c.in-Ok-read_some.count c.in-Ok-read_some.ensures.count (omega (arith, c.in-Ok-read_some.ensures.bound, c.min-most.ensures)) c.in-Ok-read_some.ensures.taken stays
     _ c.serve_piece-round.result.outcome c.serve_piece-round.result.answered c.serve_piece-round.ensures.piece c.serve_piece-round.ensures.upheld c.in-Answered.is in
     run_over g.D.Disk.images g.D.Disk.moment g.D.Disk.images_since c.args.disk.now c.serve_piece-round.new.disk _ _ _ _ _ _ _ _ _ _ passed _ _ (omega (arith, within, c.if-taken-eq-LINK_LIMIT.false))
@@ -156,7 +157,7 @@ pieces-preserved g c =
     let within : c.pieces.taken + c.in-Ok-read_some.count ≤ link_limit = omega (arith, c.in-Ok-read_some.ensures.bound, c.min-most.ensures, c.pieces.invariant.below) in
     let passed =
     run_passes g.D.Disk.images g.D.Disk.moment g.D.Disk.images_since c.args.disk.now c.pieces.disk c.serve_piece-round.new.disk _ _ _ _ _ _ _ _ c.pieces.conn c.serve_piece-round.new.conn c.pieces.answered c.pieces.taken
-    (stand (g.M.Machine.history c.args.machine.now) c.args.steps.now) (stand (g.M.Machine.history c.pieces.machine) c.pieces.steps) (stand (g.M.Machine.history c.serve_piece-round.new.machine) c.serve_piece-round.new.steps)
+    (stand (g.M.Machine.kept c.args.machine.now) c.args.steps.now) (stand (g.M.Machine.kept c.pieces.machine) c.pieces.steps) (stand (g.M.Machine.kept c.serve_piece-round.new.machine) c.serve_piece-round.new.steps)
     (g.C.Sink.log c.args.link.now) (g.C.Sink.log c.pieces.link) (g.C.Sink.log c.read_some.new.src) (g.C.Sink.log c.serve_piece-round.new.link) unnoted c.pieces.invariant.run kept (take c.in-Ok-read_some.count c.read_some.new.room) c.in-Ok-read_some.count c.in-Ok-read_some.ensures.count (omega (arith, c.in-Ok-read_some.ensures.bound, c.min-most.ensures)) c.in-Ok-read_some.ensures.taken stays
     _ c.serve_piece-round.result.outcome c.serve_piece-round.result.answered c.serve_piece-round.ensures.piece c.serve_piece-round.ensures.upheld c.in-Answered.is in
     record {

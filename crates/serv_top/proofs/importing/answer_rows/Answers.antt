@@ -4,7 +4,7 @@ use Rattle.serv_machine.specs.History.{History}
 use Rattle.serv_machine.proofs.OnDiskLemmas.{disk_none, disk_more}
 use Rattle.serv_machine.proofs.UpheldLemmas.{upheld_none}
 use Rattle.serv_top.specs.Imported.{said_of}
-use Rattle.serv_top.specs.Machine.{running}
+use Rattle.serv_machine.specs.Stands.{running}
 use Rattle.serv_top.specs.Upheld.{AreFirst}
 use Rattle.serv_top.proofs.AnsweredLemmas.{upheld_call}
 use Rattle.serv_top.proofs.GatheredLemmas.{gathered_none}

@@ -1,6 +1,6 @@
 use Rattle.std.proofs.Common.{◌≡◌, ◌≤◌, [], take, map}
 use Rattle.serv_machine.specs.OnDisk.{OnDisk}
-use Rattle.serv_top.specs.Machine.{stand, running}
+use Rattle.serv_machine.specs.Stands.{stand, running}
 use Rattle.serv_top.specs.Imported.{said_of}
 use Rattle.serv_top.specs.Serving.{Gathered}
 use Rattle.serv_machine.specs.Upheld.{Upholds}

@@ -1,11 +1,11 @@
-use Rattle.std.proofs.Common.{◌≡◌, List, [], ◌∷◌, ◌++◌, refl, subst}
+use Rattle.std.proofs.Common.{[], ◌∷◌, refl, subst}
 use Rattle.svc_types.specs.Keys.{IsKey}
 use Rattle.svc_world.specs.World.{accepted}
-use Rattle.svc_world.specs.Judging.{IsHistory, judged}
+use Rattle.svc_world.specs.Judging.{IsHistory}
 use Rattle.svc_core.proofs.CoreLemmas.{history_more}
 use Rattle.serv_engine.specs.Engines.{begun_of, reply_of}
 use Rattle.serv_engine.specs.declared.taken.Taken.{Taken}
-use Rattle.serv_machine.proofs.EngineLemmas.{long_enough, running_base, act_reply, act_fault_is, act_after, staged_by, fresh_by, taken_disk, kept_disk, torn_disk, err_same, disk_fault_is, fault_fresh, history_same, kept_same, some_behind}
+use Rattle.serv_machine.proofs.EngineLemmas.{long_enough, running_base, act_reply, act_fault_is, act_after, staged_by, fresh_by, taken_disk, kept_disk, torn_disk, err_same, disk_fault_is, fault_fresh, some_behind}
 use Rattle.serv_machine.proofs.over_journal.EngineCheckedMachine.begin.Goals as goal
 
 pub returns-in-Ok-clause-reply : goal.returns-in-Ok-clause-reply

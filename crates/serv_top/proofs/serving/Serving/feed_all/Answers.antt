@@ -2,7 +2,7 @@ use Rattle.std.proofs.Common.{◌≡◌, ◌++◌, [], take, refl, sym, arith, a
 use Rattle.std.proofs.lemmas.List.{take_all, take_rest}
 use Rattle.std.proofs.lemmas.Result.{on_ok_weaker, IfErr-weaker}
 use Rattle.serv_machine.proofs.OnDiskLemmas.{disk_none, disk_more}
-use Rattle.serv_top.specs.Machine.{running}
+use Rattle.serv_machine.specs.Stands.{running}
 use Rattle.serv_top.specs.Serving.{Served}
 use Rattle.serv_top.specs.Upheld.{AreFirst, AreSaidFirst}
 use Rattle.serv_top.proofs.AnsweredLemmas.{upheld_result}

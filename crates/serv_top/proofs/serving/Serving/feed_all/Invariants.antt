@@ -2,7 +2,7 @@ use Rattle.std.proofs.Common.{◌≡◌, ℕ, ◌-◌, ◌≤◌, List, [], ◌+
 use Rattle.serv_disk.specs.Stamps.{Stamp}
 use Rattle.serv_machine.specs.OnDisk.{OnDisk}
 use Rattle.serv_top.specs.Lines.{ended_lines}
-use Rattle.serv_top.specs.Machine.{Stand, running}
+use Rattle.serv_machine.specs.Stands.{Stand, running}
 use Rattle.serv_top.specs.Serving.{Served}
 use Rattle.serv_machine.specs.Upheld.{Upholds}
 use Rattle.serv_top.specs.Upheld.{AreReplies, AreSaidFirst}
