@@ -1,15 +1,11 @@
 -- Totals for which a derived `==` holds are equal.
-use Rattle.std.proofs.Common.{◌≡◌, refl, Bool, true}
-use Rattle.std.specs.Cmp.{IsPartialEquivalence}
+use Rattle.std.proofs.Common.{◌≡◌, refl, true}
 use Rattle.std.specs.Ordering.{int_eq}
 use Rattle.std.proofs.lemmas.Bool.{and_parts}
 use Rattle.std.proofs.lemmas.Bool.Decides.{Decides-int_eq}
+use Rattle.svc_base.proofs.EqualLemmas.{test_of}
 use Rattle.custodial_book.specs.contracts.row.TotalsPartialEq.TheImpl.Laws.{laws-law}
 use Rattle.custodial_book.specs.declared.row.Totals.{Totals}
-
--- what a derived `==` tests, by its law
-abbrev pub test_of : {A : Type 0} {E : A → A → Bool} → IsPartialEquivalence E → A → A → Bool
-test_of {A} {E} h = E
 
 pub same_totals : (a b : Totals) → test_of laws-law a b ≡ true → a ≡ b
 same_totals a b h0 =

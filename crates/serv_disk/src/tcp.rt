@@ -11,7 +11,7 @@ use crate::link::Link;
 use crate::sink::Sink;
 use crate::source::Source;
 use std::io::{self, Eprint, ErrorKind, Read, Write};
-use std::net::{Ipv4Addr, Net, OpenListener, SocketAddr, TcpListener};
+use std::net::{Ipv4Addr, Net, OpenListener, OpenStream, SocketAddr, TcpListener};
 
 /// A connection of the machine. It tells nothing of what comes or was written, and is closed when it is
 /// let go.
@@ -165,6 +165,9 @@ impl<R: Net + Eprint + Drop> Doors for TcpDoors<R> {
             Err(error) => Err(error),
         };
         let (stream, _) = noted(done, &mut self.faults, &mut self.cause)?;
+        // A response is one write and goes out at once, not when the one before it is acknowledged. Where the system
+        // refuses that, it goes out later.
+        let _ = stream.set_nodelay(true);
         self.out = 1;
         Ok(Some(TcpLink::new(stream)))
     }

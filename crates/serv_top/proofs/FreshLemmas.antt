@@ -1,10 +1,10 @@
 -- A command that is fresh is one more, and the next one of a history that goes on.
-use Rattle.std.proofs.Common.{◌≡◌, List, [], ◌∷◌, ◌++◌, length, drop, refl, sym, ap, ◌∙◌, arith, append_assoc, append-nil, length-append}
-use Rattle.std.proofs.lemmas.List.{drop_at}
+use Rattle.std.proofs.Common.{◌≡◌, List, [], ◌∷◌, ◌++◌, refl, sym, ap, ◌∙◌, append-nil}
 use Rattle.svc_types.specs.declared.requests.Request.TheVariants as request
 use Rattle.svc_world.specs.World.{Accepted, accepted}
 use Rattle.serv_machine.specs.History.{History, Decision, after_decision}
 use Rattle.serv_machine.specs.Replies.{history_after_request}
+use Rattle.serv_machine.proofs.NextLemmas.{next_is as it_is_next}
 use Rattle.serv_top.specs.Machine.{Said, Asks, Faulty, Unfit, history_after, commands_of, IsFresh}
 
 pub fresh_grows : (h : History) (said : Said) → IsFresh h said → (history_after h said).commands ≡ h.commands ++ commands_of said
@@ -25,20 +25,11 @@ fresh_one h (Asks (request.Ask q)) is = absurd is
 fresh_one h (Faulty place) is = absurd is
 fresh_one h (Unfit number column) is = absurd is
 
--- no list has a command more than it has
-pub no_more : (h rest : List Accepted) (next : Accepted) → h ≡ h ++ next ∷ rest → ⊥
-no_more h rest next is = omega (arith, ap length is, length-append h (next ∷ rest))
-
-same_behind : (h xs ys : List Accepted) → h ++ xs ≡ h ++ ys → xs ≡ ys
-same_behind h xs ys is = sym (drop_at h xs (length h) refl) ∙ ap (drop (length h)) is ∙ drop_at h ys (length h) refl
-
 -- where one command and others follow, it is the next
 pub next_is : (kept list more rest : List Accepted) (next : Accepted) → IsOne list → (kept ++ list) ++ more ≡ kept ++ next ∷ rest → next ∷ [] ≡ list
 next_is kept list more rest next only is =
-    let behind : list ++ more ≡ next ∷ rest = same_behind kept (list ++ more) (next ∷ rest) (sym (append_assoc kept list more) ∙ is) in
-    let first : only.one ∷ more ≡ next ∷ rest = sym (ap (λ x. x ++ more) only.is) ∙ behind in
-    let same : only.one ≡ next = cc in
-    sym (ap (λ x. x ∷ []) same) ∙ sym only.is
+    let same : next ≡ only.one = it_is_next kept more rest only.one next (ap (λ x. (kept ++ x) ++ more) (sym only.is) ∙ is) in
+    ap (λ x. x ∷ []) same ∙ sym only.is
 
 -- where nothing follows
 pub next_alone : (kept list rest : List Accepted) (next : Accepted) → IsOne list → kept ++ list ≡ kept ++ next ∷ rest → next ∷ [] ≡ list

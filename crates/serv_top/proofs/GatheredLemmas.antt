@@ -21,7 +21,8 @@ use Rattle.serv_top.specs.Replies.{IsBegun, IsCutIn, IsHeldUp, IsMaybeNext, IsSt
 use Rattle.serv_top.specs.Serving.{AppendsFront, Gathered, IsHalted, IsHeldBack, IsReplied, IsStarved, IsStuck, IsWaiting, IsWrittenBut, Stopped, Stops}
 use Rattle.serv_top.specs.Stop.{stop_of}
 use Rattle.serv_top.proofs.Cutting.{replies_to-push, history_after_all-push, bound_of_all-push}
-use Rattle.serv_top.proofs.FreshLemmas.{fresh_grows, fresh_one, no_more, next_is, next_alone}
+use Rattle.serv_machine.proofs.NextLemmas.{no_more}
+use Rattle.serv_top.proofs.FreshLemmas.{fresh_grows, fresh_one, next_is, next_alone}
 
 -- ---- of more requests these are the first too
 

@@ -5,3 +5,4 @@ pub mod CentsRules
 pub mod TextLemmas
 pub mod SumLemmas
 pub mod ByteLemmas
+pub mod EqualLemmas

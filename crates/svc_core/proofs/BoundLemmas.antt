@@ -1,6 +1,6 @@
 -- Where a call about a month costs no more than that month, and the facts of a month cost nothing, what a
 -- request costs lies within the bound on its steps.
-use Rattle.std.proofs.Common.{◌≡◌, ℕ, ◌+◌, ◌-◌, ◌≤◌, Bool, true, false, cond, List, [], ◌∷◌, length, get_or, arith, refl, sym, ap, subst, ◌∙◌}
+use Rattle.std.proofs.Common.{◌≡◌, ℕ, ◌+◌, ◌-◌, ◌≤◌, Bool, true, false, cond, List, [], ◌∷◌, length, arith, refl, sym, ap, subst, ◌∙◌}
 use Rattle.std.specs.Prelude.{Some, None, ℤ, nat_le, if◌then◌else◌}
 use Rattle.std.specs.List.{filter, sum_by, range_with_len}
 use Rattle.std.specs.Option.{option_map_or}
@@ -32,7 +32,7 @@ use Rattle.svc_world.proofs.AgreeLemmas.{posted_agrees}
 use Rattle.svc_world.proofs.LoanListLemmas.{KeepsNumber, find_changed}
 use Rattle.svc_world.proofs.CaseLemmas.{dated}
 use Rattle.svc_world.proofs.NamedLoans.{named_loan, asked}
-use Rattle.svc_world.proofs.EntryWorlds.{entered_sum}
+use Rattle.svc_world.proofs.EntryWorlds.{entered_sum, entry_posts}
 use Rattle.svc_world.proofs.HistoryLemmas.{is_world, fresh_none}
 use Rattle.svc_loan.specs.Closed.{months_cost}
 use Rattle.svc_desk.specs.Costs.{quote_cost}
@@ -74,12 +74,7 @@ posted_month : (n id d : ℕ) (w : World) (a : Act) (l : Held) → IsWorld n w �
 posted_month n id d w a l h found since until act =
     let is = (named_loan n w id l h found).held in
     let account = is.limited.account in
-    let may : MayPost l.account (entry (n + 1) d a) = record {
-      number = λ k x lt. (let le : (get_or l.account.entries k x).number ≤ n = is.numbers k x lt in omega arith);
-      since = since;
-      until = subst (λ t. d ≤ t) (sym is.today) until;
-      act = act;
-    } in
+    let may = entry_posts n w (entry (n + 1) d a) l is refl since until act in
     let keeps : KeepsNumber (with_entry (entry (n + 1) d a)) = λ k. refl in
     let there = find_changed id (with_entry (entry (n + 1) d a)) w.loans l found keeps in
     let le = posted_cost l.account (entry (n + 1) d a) (month_of d) account may refl (late_enough l.account d account since) in

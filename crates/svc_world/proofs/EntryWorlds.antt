@@ -34,7 +34,8 @@ use Rattle.svc_world.proofs.ChangedWorlds.{IsChange, own_changes, change_keeps}
 
 -- ---- one more entry
 
-entry_posts : (n : ℕ) (w : World) (e : Entry) (l : Held) → IsHeld n w.today l → e.number ≡ n + 1 → l.account.terms.boarded ≤ e.day → e.day ≤ w.today → IsAct e.act → MayPost l.account e
+-- the entry with the next number may follow on a loan
+pub entry_posts : (n : ℕ) (w : World) (e : Entry) (l : Held) → IsHeld n w.today l → e.number ≡ n + 1 → l.account.terms.boarded ≤ e.day → e.day ≤ w.today → IsAct e.act → MayPost l.account e
 entry_posts n w e l h number since until act = record {
   number = λ k x lt. (let le : (get_or l.account.entries k x).number ≤ n = h.numbers k x lt in omega (arith, number));
   since = since;

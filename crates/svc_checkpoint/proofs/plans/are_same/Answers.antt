@@ -1,15 +1,11 @@
-use Rattle.std.proofs.Common.{◌≡◌, ◌∙◌, ◌==◌, sym, refl, subst, Bool, true}
-use Rattle.std.specs.Cmp.{IsPartialEquivalence}
+use Rattle.std.proofs.Common.{◌≡◌, ◌∙◌, ◌==◌, sym, refl, subst, true}
 use Rattle.std.specs.Ordering.{int_eq}
 use Rattle.std.proofs.lemmas.Bool.{and_parts}
 use Rattle.std.proofs.lemmas.Bool.Decides.{Decides-eqb, Decides-int_eq}
+use Rattle.svc_base.proofs.EqualLemmas.{test_of}
 use Rattle.svc_types.specs.contracts.escrow.EscrowPlanPartialEq.TheImpl.Laws.{laws-law}
 use Rattle.svc_types.specs.declared.escrow.EscrowPlan.{EscrowPlan}
 use Rattle.svc_checkpoint.proofs.plans.are_same.Goals as goal
-
--- what a derived `==` tests, by its law
-abbrev test_of : {A : Type 0} {E : A → A → Bool} → IsPartialEquivalence E → A → A → Bool
-test_of {A} {E} h = E
 
 equal : (a b : EscrowPlan) → test_of laws-law a b ≡ true → a ≡ b
 equal a b h0 =

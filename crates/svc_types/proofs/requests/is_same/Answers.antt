@@ -1,5 +1,5 @@
 use Rattle.std.proofs.Common.{◌≡◌, ◌==◌, ◌∙◌, sym, Bool, ◌&&◌, refl, ap}
-use Rattle.std.specs.Cmp.{IsPartialEquivalence}
+use Rattle.svc_base.proofs.EqualLemmas.{test_of}
 use Rattle.svc_types.specs.contracts.requests.CommandPartialEq.TheImpl.Laws.{laws-law}
 use Rattle.svc_types.specs.contracts.terms.TermsPartialEq.TheImpl.Laws.{laws-law as terms-law}
 use Rattle.svc_types.specs.contracts.terms.RemitTypePartialEq.TheImpl.Laws.{laws-law as type-law}
@@ -25,10 +25,6 @@ use Rattle.svc_types.specs.declared.escrow.Plan.{Plan}
 use Rattle.svc_types.specs.Same.{is_same_designation, is_same_type, is_same_kind, is_same_surplus, is_same_part, is_same_plan, is_same_terms, is_same}
 use Rattle.svc_types.proofs.SameLemmas.{decides_same}
 use Rattle.svc_types.proofs.requests.is_same.Goals as goal
-
--- what a derived `==` tests, by its law
-abbrev test_of : {A : Type 0} {E : A → A → Bool} → IsPartialEquivalence E → A → A → Bool
-test_of {A} {E} h = E
 
 type_tested : (a b : RemitType) → test_of type-law a b ≡ is_same_type a b
 type_tested AA AA = refl
