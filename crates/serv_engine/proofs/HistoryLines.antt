@@ -84,6 +84,3 @@ history_front h a is = record { formed = (All-pop IsWell (h ++ a ∷ []) h (Some
 
 pub history_last : (h : List Accepted) (a : Accepted) → IsHistory (h ++ a ∷ []) → IsKey a.key × IsCommand a.command
 history_last h a is = (All-pop IsWell (h ++ a ∷ []) h (Some a) refl is.formed).1
-
-pub push_line : (h : List Accepted) (a : Accepted) (line : List ℕ) → line ≡ line_of_command a → lines_of_history h ++ line ∷ [] ≡ lines_of_history (h ++ a ∷ [])
-push_line h a line is = ap (λ l. lines_of_history h ++ l ∷ []) is ∙ sym (lines_push h a)

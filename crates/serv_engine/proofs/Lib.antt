@@ -3,6 +3,7 @@ pub mod UnfitLemmas
 pub mod FileLemmas
 pub mod DurableLemmas
 pub mod RunningLemmas
+pub mod EnteringLemmas
 pub mod ReplayLemmas
 pub mod FaultLemmas
 pub mod OpenLemmas

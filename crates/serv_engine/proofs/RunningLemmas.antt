@@ -1,13 +1,12 @@
 -- An engine of whose history the last command may be begun.
 use Rattle.std.proofs.Common.{◌≡◌, ℕ, ◌+◌, ◌-◌, ◌≤◌, List, [], ◌∷◌, ◌++◌, Option, None, Some, length, sym, ap, subst, ◌∙◌, arith, length-append}
 use Rattle.std.proofs.lemmas.List.{append-nil, take_at, drop_at, take-append-drop, map-append}
-use Rattle.serv_disk.specs.Disks.{Each, LeavesOnly}
 use Rattle.serv_journal.specs.Format.{Form}
 use Rattle.serv_journal.specs.States.{StandsFor}
 use Rattle.serv_journal.specs.Disks.{IsKept}
-use Rattle.serv_journal.proofs.BegunLemmas.{rest_around, idle_around, kept_reaches}
+use Rattle.serv_journal.proofs.BegunLemmas.{kept_reaches}
 use Rattle.svc_world.specs.World.{Accepted}
-use Rattle.serv_engine.specs.Histories.{line_of_command, lines_of_history, IsAroundFor}
+use Rattle.serv_engine.specs.Histories.{line_of_command, lines_of_history}
 use Rattle.serv_engine.specs.Engines.{EngineState, kept_by, begun_by, kept_of, begun_of, IsRunningIn, IsRunning, IsDurableIn, IsDurable}
 
 -- ---- its history in two parts
@@ -91,12 +90,3 @@ pub committed_durable : (form : Form) (images : List ℕ → Type 0) (old new : 
     → IsKept form images new.journal (lines_of_history (kept_of old) ++ lines_of_history (begun_of old)) [] → IsDurableIn form images new
 committed_durable form images old new same kept =
     subst (λ x. IsKept form images new.journal x []) (all_lines old ∙ sym (ap lines_of_history same)) kept
-
--- no call
-pub no_call_around : {D : Type 0} (moment : D → ℕ) (images : D → List ℕ → Type 0) (images_since : D → ℕ → List ℕ → Type 0) (disk : D) (form : Form) (e : EngineState)
-    → ((c : List ℕ) → images_since disk (moment disk) c → images disk c) → IsRunningIn form (images disk) e → LeavesOnly moment images_since disk disk (IsAroundFor form (kept_of e) (begun_of e))
-no_call_around moment images images_since disk form e only r =
-    idle_around moment images_since form (images disk) e.journal (lines_of_history (kept_of e)) (lines_of_history (begun_of e)) disk only r
-
-pub rest_around_for : (images : List ℕ → Type 0) (form : Form) (e : EngineState) → IsRunningIn form images e → Each images (IsAroundFor form (kept_of e) (begun_of e))
-rest_around_for images form e r = λ c image. rest_around form (lines_of_history (kept_of e)) (lines_of_history (begun_of e)) c (r.each c image)

@@ -6,14 +6,15 @@ use Rattle.svc_types.specs.declared.replies.Reply.{Reply}
 use Rattle.svc_world.specs.World.{Accepted, accepted}
 use Rattle.svc_world.specs.Judging.{Judgement, Kept, Fresh, history_after, next_reply}
 use Rattle.svc_core.specs.Core.{IsReplyTo}
-use Rattle.serv_disk.specs.Disks.{Each}
 use Rattle.serv_journal.specs.declared.format.Version.TheVariants.{Two}
 use Rattle.serv_journal.specs.Format.{Form}
 use Rattle.serv_journal.specs.States.{JournalState}
 use Rattle.serv_engine.specs.declared.fault.EngineFault.{EngineFault}
 use Rattle.serv_engine.specs.declared.fault.EngineFault.TheVariants as fault
-use Rattle.serv_engine.specs.Histories.{lengths_of, IsWholeFor, IsGoodFor}
-use Rattle.serv_engine.specs.Engines.{EngineState, IsRunningIn}
+use Rattle.serv_engine.specs.Histories.{lengths_of}
+use Rattle.serv_engine.specs.declared.taken.Taken.{Taken}
+use Rattle.serv_engine.specs.declared.taken.Taken.TheVariants.{Settled, Begun}
+use Rattle.serv_engine.specs.Engines.{EngineState, IsRunningIn, WasTaken}
 use Rattle.serv_engine.proofs.LengthLemmas.{size_grows}
 use Rattle.serv_engine.proofs.RunningLemmas.{running_stands}
 
@@ -40,9 +41,10 @@ next_same h mid c reply same is = is ∙ ap (λ x. next_reply x c) same
 pub not_both : (said : Judgement) (reply : Reply) → said ≡ Kept reply → said ≡ Fresh → ⊥
 not_both said reply kept fresh = let no_way : ⊥ = cc in no_way
 
--- no call of the disk: what was whole is good
-pub good_same : (images : List ℕ → Type 0) (form : Form) (h : List Accepted) (a : Accepted) → Each images (IsWholeFor form h) → Each images (IsGoodFor form h a)
-good_same images form h a each = λ c image. inl (each c image)
+-- a kept reply is taken with nothing changed
+pub taken_unchanged : (said : Judgement) (taken : Taken) (unchanged behind : Type 0) (reply : Reply) → WasTaken said taken unchanged behind → said ≡ Kept reply → unchanged
+taken_unchanged said (Settled r) unchanged behind reply was is = was.1
+taken_unchanged said (Begun r) unchanged behind reply was is = absurd (not_both said reply is was.0)
 
 -- the journal's length where it stands for both histories
 pub length_more : (form : Form) (images : List ℕ → Type 0) (later : List ℕ → Type 0) (old new : EngineState) → IsRunningIn form images old → IsRunningIn form later new
@@ -68,8 +70,8 @@ not_true : (b : Bool) → (b ≡ true → ⊥) → b ≡ false
 not_true true no_way = absurd (no_way refl)
 not_true false no_way = refl
 
-pub unspent_now : (spent : Bool) → (spent ≡ true → ◌≡◌ {A = Result (Unit {0}) EngineFault} (Ok tt) (Err fault.DiskFault)) → spent ≡ false
-unspent_now spent back = not_true spent (λ t. ok_no_err tt fault.DiskFault (back t))
+pub unspent_now : {T : Type 0} (value : T) (spent : Bool) → (spent ≡ true → ◌≡◌ {A = Result T EngineFault} (Ok value) (Err fault.DiskFault)) → spent ≡ false
+unspent_now value spent back = not_true spent (λ t. ok_no_err value fault.DiskFault (back t))
 
 err_inner : {T : Type 0} (f g : EngineFault) → ◌≡◌ {A = Result T EngineFault} (Err f) (Err g) → f ≡ g
 err_inner f g is = cc
@@ -78,8 +80,8 @@ pub err_not_spent : {T : Type 0} (f : EngineFault) (spent : Bool) → (f ≡ fau
     → (◌≡◌ {A = Result T EngineFault} (Err f) (Err fault.DiskFault) → spent ≡ true) × (spent ≡ true → ◌≡◌ {A = Result T EngineFault} (Err f) (Err fault.DiskFault))
 err_not_spent f spent other unspent = ((λ is. absurd (other (err_inner f fault.DiskFault is))), (λ t. absurd (both_no spent unspent t)))
 
-pub err_spent : {T : Type 0} (f : EngineFault) (spent : Bool)
-    → (◌≡◌ {A = Result (Unit {0}) EngineFault} (Err f) (Err fault.DiskFault) → spent ≡ true) → (spent ≡ true → ◌≡◌ {A = Result (Unit {0}) EngineFault} (Err f) (Err fault.DiskFault))
+pub err_spent : {S T : Type 0} (f : EngineFault) (spent : Bool)
+    → (◌≡◌ {A = Result S EngineFault} (Err f) (Err fault.DiskFault) → spent ≡ true) → (spent ≡ true → ◌≡◌ {A = Result S EngineFault} (Err f) (Err fault.DiskFault))
     → (◌≡◌ {A = Result T EngineFault} (Err f) (Err fault.DiskFault) → spent ≡ true) × (spent ≡ true → ◌≡◌ {A = Result T EngineFault} (Err f) (Err fault.DiskFault))
 err_spent f spent there back = ((λ is. there (ap (λ x. Err x) (err_inner f fault.DiskFault is))), (λ t. ap (λ x. Err x) (err_inner f fault.DiskFault (back t))))
 

@@ -4,8 +4,7 @@ use Rattle.svc_types.specs.declared.requests.Request.TheVariants as request
 use Rattle.svc_world.specs.World.{Accepted}
 use Rattle.serv_line.specs.Lines.{line_of}
 use Rattle.serv_journal.specs.Format.{Form}
-use Rattle.serv_journal.specs.Disks.{IsWholeIn, IsGoodIn, IsGood, IsAround}
-use Rattle.serv_journal.specs.Reading.{IsRead}
+use Rattle.serv_journal.specs.Disks.{IsGoodIn, IsGood, IsAround}
 
 -- the line of an accepted command, and the lines of a history: those of its journal's records
 abbrev pub line_of_command : Accepted → List ℕ
@@ -22,10 +21,6 @@ record_length a = 7 + length (line_of_command a)
 abbrev pub lengths_of : List Accepted → ℕ
 lengths_of h = sum_by record_length h
 
--- a content has a history, whole
-abbrev pub IsWholeFor : Form → List Accepted → List ℕ → Type 0
-IsWholeFor form h file = IsWholeIn form (lines_of_history h) file
-
 -- a content has a history, whole; or torn with one command more; or whole with it
 abbrev pub IsGoodFor : Form → List Accepted → Accepted → List ℕ → Type 0
 IsGoodFor form h a file = IsGoodIn form (lines_of_history h) (line_of_command a) file
@@ -38,10 +33,3 @@ IsAroundFor form h begun file = IsAround form (lines_of_history h) (lines_of_his
 -- a content is good for a history and a command in either version, as a disk is found before it is opened
 abbrev pub IsGoodFound : List Accepted → Accepted → List ℕ → Type 0
 IsGoodFound h a file = IsGood (lines_of_history h) (line_of_command a) file
-
--- what is read of a file are the commands of a history
-pub record IsFileOf (h : List Accepted) (file : List ℕ) : Type 0 where
-  pub form : Form
-  pub commit : ℕ
-  pub rest : List ℕ
-  pub read : IsRead form (lines_of_history h) commit rest file

@@ -1,4 +1,5 @@
 pub mod Histories
 pub mod Engines
+pub mod Entering
 pub mod Submitting
 pub mod Opening

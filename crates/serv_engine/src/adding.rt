@@ -1,18 +1,21 @@
-//! A command's line, and a command that is added to a journal, or begun in it.
+//! A command's line, and a command that is put into a journal.
 
-ghost use Rattle.std.specs.Prelude.{◌≡◌, ◌⊎◌, ◌↔◌, ◌≤◌, List, [], ◌∷◌, ◌++◌, true, false, IfOk, IfErr, OnOk, OnErr, IsErrOf};
+ghost use Rattle.std.specs.Prelude.{◌≡◌, ◌⊎◌, ◌↔◌, ◌+◌, ◌≤◌, ◌<◌, ℕ, List, ◌++◌, length, None, true, false, IfOk, IfErr, OnOk, OnErr, IsErrOf};
 ghost use Rattle.svc_types.specs.Requests.{IsCommand};
 ghost use Rattle.svc_world.specs.World.{Accepted, accepted};
 ghost use Rattle.serv_disk.specs.Disks.{LeavesOnly};
+ghost use Rattle.serv_disk.specs.Faults.{HasRisen};
 ghost use Rattle.serv_journal.specs.Format.{Form, IsLine};
-ghost use Rattle.serv_journal.specs.Disks.{IsKept};
+ghost use Rattle.serv_journal.specs.Disks.{IsAround, IsKept};
 ghost use Rattle.serv_journal.specs.Outcomes.{Reaches};
-ghost use Rattle.serv_engine.specs.Histories.{line_of_command, lines_of_history, IsGoodFor, IsAroundFor};
+ghost use Rattle.serv_engine.specs.Histories.{line_of_command, lines_of_history, IsAroundFor};
+ghost use Rattle.serv_engine.specs.Entering.{risked, kept_after, begun_after};
 ghost use Rattle.serv_engine.specs.Submitting.{HasRoom, IsAppendFault};
 
 use crate::fault::{EngineFault, of_journal};
+use crate::until::Until;
 use serv_disk::Disk;
-use serv_journal::{Journal, Version};
+use serv_journal::{Journal, JournalFault, Version};
 use serv_line::write_line;
 use std::alloc::Global;
 use svc_base::OutOfMemory;
@@ -29,66 +32,68 @@ fn line_for(alloc: Global, key: &Key, command: &Command) -> Result<Vec<u8>, OutO
     Ok(line)
 }
 
-/// Adds a command to a journal of version 2. All memory is taken before the first write.
-pub(crate) fn append_command<D: Disk>(
-    alloc: Global,
+/// Puts a line into a journal of version 2, so far. It takes no memory.
+fn put_line<D: Disk>(
     journal: &mut Journal,
     disk: &mut D,
-    key: &Key,
-    command: &Command,
-) -> Result<(), EngineFault>
-    requires command { IsCommand command.now }
+    line: &[u8],
+    until: Until,
+) -> Result<(), JournalFault>
+    requires line { IsLine line.now }
     requires version { journal.old.version ≡ Version.Two }
     requires unspent { journal.old.spent ≡ false }
     requires reaches { Reaches (D.seen disk.old) journal.old.size }
-    // A crash at any moment leaves the history, with the command or without, or torn with it.
-    ensures moments { (form : Form) (h : List Accepted)
-        → IsKept form (D.images disk.old) journal.old (lines_of_history h) []
-        → LeavesOnly D.moment D.images_since disk.old disk.new
-        (IsGoodFor form h (accepted key.now command.now)) }
-    ensures added { (form : Form) (h : List Accepted)
-        → IsKept form (D.images disk.old) journal.old (lines_of_history h) []
-        → OnOk result (IsKept form (D.images disk.new) journal.new
-        (lines_of_history (h ++ accepted key.now command.now ∷ [])) []) }
-    ensures room { OnOk result (HasRoom journal.old (accepted key.now command.now)) }
-    ensures fault { IfErr result (IsAppendFault journal.old (accepted key.now command.now)
-        (D.faults disk.old) (D.faults disk.new)) }
-    // Another fault than the disk's leaves both as they were.
-    ensures kept { IfErr result (λ f. (f ≡ EngineFault.DiskFault)
-        ⊎ ((journal.new ≡ journal.old) × (disk.new ≡ disk.old))) }
-    ensures spent { IsErrOf result EngineFault.DiskFault ↔ (journal.new.spent ≡ true) }
+    requires alone { until ≡ Until.Kept → journal.old.begun ≡ None }
+    ensures moments { (form : Form) (lines begun : List (List ℕ))
+        → IsKept form (D.images disk.old) journal.old lines begun
+        → LeavesOnly D.moment D.images_since disk.old disk.new (IsAround form lines (risked until begun line.now)) }
+    ensures put { (form : Form) (lines begun : List (List ℕ))
+        → IsKept form (D.images disk.old) journal.old lines begun
+        → OnOk result (IsKept form (D.images disk.new) journal.new (kept_after until (lines ++ begun) line.now)
+        (begun_after until line.now)) }
+    ensures full { IsErrOf result (JournalFault.Full journal.old.size) ↔
+        (journal.old.limit < journal.old.size + 7 + length line.now) }
+    ensures kept { journal.old.limit < journal.old.size + 7 + length line.now
+        → (journal.new ≡ journal.old) × (disk.new ≡ disk.old) }
+    ensures fault { IfErr result (λ fault. (fault ≡ JournalFault.Full journal.old.size)
+        ⊎ ((fault ≡ JournalFault.DiskFault) × HasRisen (D.faults disk.old) (D.faults disk.new))) }
+    ensures spent { IsErrOf result JournalFault.DiskFault ↔ (journal.new.spent ≡ true) }
     ensures faults { D.faults disk.old ≤ D.faults disk.new }
     ensures size { OnErr result (journal.new.size ≡ journal.old.size) }
+    ensures same_begun { OnErr result (until ≡ Until.Begun → journal.new.begun ≡ journal.old.begun) }
     ensures limit { journal.new.limit ≡ journal.old.limit }
     ensures same_version { journal.new.version ≡ journal.old.version }
 {
-    let line = line_for(alloc, key, command)?;
-    match journal.append(disk, &line) {
-        Ok(()) => Ok(()),
-        Err(fault) => Err(of_journal(fault)),
+    match until {
+        Until::Begun => journal.begin(disk, line),
+        Until::Kept => journal.append(disk, line),
     }
 }
 
-/// Begins a command in a journal of version 2. All memory is taken before the first write.
-pub(crate) fn begin_command<D: Disk>(
+/// Puts a command into a journal of version 2, so far. All memory is taken before the first write.
+pub(crate) fn put_command<D: Disk>(
     alloc: Global,
     journal: &mut Journal,
     disk: &mut D,
     key: &Key,
     command: &Command,
+    until: Until,
 ) -> Result<(), EngineFault>
     requires command { IsCommand command.now }
     requires version { journal.old.version ≡ Version.Two }
     requires unspent { journal.old.spent ≡ false }
     requires reaches { Reaches (D.seen disk.old) journal.old.size }
-    // A crash at any moment leaves the history, with the command that was begun before or without, or torn with it.
+    requires alone { until ≡ Until.Kept → journal.old.begun ≡ None }
+    // A crash at any moment leaves the history, with the command that is at risk or without, or torn with it.
     ensures moments { (form : Form) (h begun : List Accepted)
         → IsKept form (D.images disk.old) journal.old (lines_of_history h) (lines_of_history begun)
-        → LeavesOnly D.moment D.images_since disk.old disk.new (IsAroundFor form h begun) }
-    ensures begun { (form : Form) (h begun : List Accepted)
+        → LeavesOnly D.moment D.images_since disk.old disk.new
+        (IsAroundFor form h (risked until begun (accepted key.now command.now))) }
+    ensures put { (form : Form) (h begun : List Accepted)
         → IsKept form (D.images disk.old) journal.old (lines_of_history h) (lines_of_history begun)
-        → OnOk result (IsKept form (D.images disk.new) journal.new (lines_of_history (h ++ begun))
-        (lines_of_history (accepted key.now command.now ∷ []))) }
+        → OnOk result (IsKept form (D.images disk.new) journal.new
+        (lines_of_history (kept_after until (h ++ begun) (accepted key.now command.now)))
+        (lines_of_history (begun_after until (accepted key.now command.now)))) }
     ensures room { OnOk result (HasRoom journal.old (accepted key.now command.now)) }
     ensures fault { IfErr result (IsAppendFault journal.old (accepted key.now command.now)
         (D.faults disk.old) (D.faults disk.new)) }
@@ -98,12 +103,12 @@ pub(crate) fn begin_command<D: Disk>(
     ensures spent { IsErrOf result EngineFault.DiskFault ↔ (journal.new.spent ≡ true) }
     ensures faults { D.faults disk.old ≤ D.faults disk.new }
     ensures size { OnErr result (journal.new.size ≡ journal.old.size) }
-    ensures same_begun { OnErr result (journal.new.begun ≡ journal.old.begun) }
+    ensures same_begun { OnErr result (until ≡ Until.Begun → journal.new.begun ≡ journal.old.begun) }
     ensures limit { journal.new.limit ≡ journal.old.limit }
     ensures same_version { journal.new.version ≡ journal.old.version }
 {
     let line = line_for(alloc, key, command)?;
-    match journal.begin(disk, &line) {
+    match put_line(journal, disk, &line, until) {
         Ok(()) => Ok(()),
         Err(fault) => Err(of_journal(fault)),
     }

@@ -18,12 +18,14 @@ ghost use Rattle.serv_journal.specs.Reading.{IsNoJournal};
 ghost use Rattle.serv_engine.specs.Histories.{lengths_of, IsGoodFor, IsAroundFor, IsGoodFound};
 ghost use Rattle.serv_engine.specs.Engines.{IsDurableIn, IsDurable, IsRunningIn, IsRunning, kept_of, begun_of, reply_of, WasTaken};
 ghost use Rattle.serv_engine.specs.Submitting.{HasRoom, IsSubmitFault, IsAskFault};
+ghost use Rattle.serv_engine.specs.Entering.{risked, kept_after, begun_after};
 ghost use Rattle.serv_engine.specs.Opening.{IsDamagedAt, IsTooLong, IsFound, IsClosed, IsOnlyFault, IsOpenFault, IsOpenCause, IsFoundWithin, history_bound};
 
-use crate::adding::{append_command, begin_command};
+use crate::adding::put_command;
 use crate::fault::{EngineFault, of_core, of_journal};
 use crate::opening::take_over;
 use crate::taken::Taken;
+use crate::until::Until;
 use serv_disk::{Disk, Failed};
 use serv_journal::{Journal, Version};
 use std::alloc::Global;
@@ -173,18 +175,9 @@ impl<B: LoanBooks> Engine<B> {
             → ((a : Account) (m : ℕ) → B.month_cost a m ≡ 0)
             → steps.new ≤ steps.old + step_bound self.old.history key.now command.now }
     {
-        self.core.history_holds();
-        match self.core.judge(key, command, steps) {
-            Ok(verdict) => match verdict {
-                Verdict::Repeat(reply) => Ok(reply),
-                Verdict::Fresh => {
-                    match append_command(self.alloc, &mut self.journal, disk, key, command) {
-                        Ok(()) => Ok(self.core.accept(key, command, steps)),
-                        Err(fault) => Err(fault),
-                    }
-                }
-            },
-            Err(fault) => Err(of_core(fault)),
+        match self.enter(disk, key, command, Until::Kept, steps) {
+            Ok(taken) => Ok(taken.reply()),
+            Err(fault) => Err(fault),
         }
     }
 
@@ -241,12 +234,73 @@ impl<B: LoanBooks> Engine<B> {
             → ((a : Account) (m : ℕ) → B.month_cost a m ≡ 0)
             → steps.new ≤ steps.old + step_bound self.old.history key.now command.now }
     {
+        self.enter(disk, key, command, Until::Begun, steps)
+    }
+
+    /// Takes a command so far: what `submit` and `begin` have in common.
+    fn enter<D: Disk, L: Ledger>(
+        &mut self,
+        disk: &mut D,
+        key: &Key,
+        command: &Command,
+        until: Until,
+        steps: &mut Steps<L>,
+    ) -> Result<Taken, EngineFault>
+        requires command { IsCommand command.now }
+        requires unspent { self.old.journal.spent ≡ false }
+        requires running { IsRunning (D.images disk.old) self.old }
+        requires alone { until ≡ Until.Kept → self.old.journal.begun ≡ None }
+        ensures reply { IfOk result (λ taken. IsReplyTo self.old.history command.now
+            (judged self.old.history key.now command.now) (reply_of taken)) }
+        ensures history { OnOk result (self.new.history ≡ history_after self.old.history key.now command.now
+            (judged self.old.history key.now command.now)) }
+        // A kept reply changes nothing; after another one the disk keeps all commands before this one, or this one too.
+        ensures taken { IfOk result (λ taken. WasTaken (judged self.old.history key.now command.now) taken
+            ((self.new ≡ self.old) × (disk.new ≡ disk.old))
+            ((kept_of self.new ≡ kept_after until self.old.history (accepted key.now command.now))
+            × (begun_of self.new ≡ begun_after until (accepted key.now command.now)))) }
+        ensures none { OnOk result (until ≡ Until.Kept → self.new.journal.begun ≡ None) }
+        ensures running { OnOk result (IsRunning (D.images disk.new) self.new) }
+        ensures running_in { (form : Form) → IsRunningIn form (D.images disk.old) self.old
+            → OnOk result (IsRunningIn form (D.images disk.new) self.new) }
+        // A crash at any moment leaves what was kept, with the command that is at risk or without, or torn with it.
+        ensures moments { (form : Form) → IsRunningIn form (D.images disk.old) self.old
+            → LeavesOnly D.moment D.images_since disk.old disk.new
+            (IsAroundFor form (kept_of self.old)
+            (risked until (begun_of self.old) (accepted key.now command.now))) }
+        ensures good { (form : Form) → IsRunningIn form (D.images disk.old) self.old
+            → Each (D.images disk.new) (IsAroundFor form (kept_of self.old)
+            (risked until (begun_of self.old) (accepted key.now command.now))) }
+        // `Refused` comes exactly where a rule refuses, `JournalFull` where a fresh command has no room;
+        // only a fresh one can want memory.
+        ensures fault { IfErr result (IsSubmitFault (judged self.old.history key.now command.now)
+            self.old.journal (accepted key.now command.now) (D.faults disk.old) (D.faults disk.new)) }
+        ensures room { OnOk result (judged self.old.history key.now command.now ≡ Judgement.Fresh
+            → HasRoom self.old.journal (accepted key.now command.now)) }
+        // Another fault than the disk's changes nothing; after the disk's the history is as it was.
+        ensures kept { IfErr result (λ f. (f ≡ EngineFault.DiskFault)
+            ⊎ ((self.new ≡ self.old) × (disk.new ≡ disk.old))) }
+        ensures err { OnErr result (self.new.history ≡ self.old.history) }
+        ensures same_kept { OnErr result (until ≡ Until.Begun
+            → (kept_of self.new ≡ kept_of self.old) × (begun_of self.new ≡ begun_of self.old)) }
+        ensures spent { IsErrOf result EngineFault.DiskFault ↔ (self.new.journal.spent ≡ true) }
+        ensures faults { D.faults disk.old ≤ D.faults disk.new }
+        ensures size { OnErr result (self.new.journal.size ≡ self.old.journal.size) }
+        ensures limit { self.new.journal.limit ≡ self.old.journal.limit }
+        ensures version { self.new.journal.version ≡ Version.Two }
+        // A command more takes its line's bytes and seven.
+        ensures length { (base : ℕ) → self.old.journal.size ≡ base + lengths_of self.old.history
+            → OnOk result (self.new.journal.size ≡ base + lengths_of self.new.history) }
+        ensures bound { ((a : Account) (m : ℕ) → B.cost a m ≤ cost_of_month a m)
+            → ((a : Account) (m : ℕ) → B.month_cost a m ≡ 0)
+            → steps.new ≤ steps.old + step_bound self.old.history key.now command.now }
+    {
         self.core.history_holds();
         match self.core.judge(key, command, steps) {
             Ok(verdict) => match verdict {
                 Verdict::Repeat(reply) => Ok(Taken::Settled(reply)),
                 Verdict::Fresh => {
-                    match begin_command(self.alloc, &mut self.journal, disk, key, command) {
+                    match put_command(self.alloc, &mut self.journal, disk, key, command, until) {
                         Ok(()) => Ok(Taken::Begun(self.core.accept(key, command, steps))),
                         Err(fault) => Err(fault),
                     }

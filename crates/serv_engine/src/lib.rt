@@ -8,6 +8,7 @@ mod old_version;
 mod opening;
 mod replaying;
 mod taken;
+mod until;
 
 pub use engine::Engine;
 pub use fault::EngineFault;

@@ -1,5 +1,8 @@
 //! What became of a command that an engine has begun.
 
+ghost use Rattle.std.specs.Prelude.{◌≡◌};
+ghost use Rattle.serv_engine.specs.Engines.{reply_of};
+
 use svc_types::Reply;
 
 /// What became of a command.
@@ -9,4 +12,15 @@ pub enum Taken {
     Settled(Reply),
     /// It is begun: the disk has it after the next `begin` or `commit`.
     Begun(Reply),
+}
+
+impl Taken {
+    /// The reply to the command.
+    pub(crate) fn reply(self) -> Reply
+        ensures { result ≡ reply_of self }
+    {
+        match self {
+            Taken::Settled(reply) | Taken::Begun(reply) => reply,
+        }
+    }
 }

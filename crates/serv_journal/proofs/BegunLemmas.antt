@@ -174,12 +174,3 @@ pub commit_kept : (form : Form) (images images' : List ℕ → Type 0) (old new 
 commit_kept form images images' old new lines begun gate at version count size none durable kept =
     kept_whole form images' new (lines ++ begun) (same_stands form (lines ++ begun) old new version count size kept.stands) none
     (set_whole form lines begun gate images images' kept.at_most_one (sym at ∙ kept.gate) kept.each durable)
-
-none_kept : (form : Form) (images : List ℕ → Type 0) (journal : JournalState) (lines begun : List (List ℕ)) → None ≡ gate_of form lines begun → IsKept form images journal lines begun
-    → IsKept form images journal (lines ++ begun) []
-none_kept form images journal lines [] at kept = subst (λ x. IsKept form images journal x []) (sym (append-nil lines)) kept
-none_kept form images journal lines (b ∷ more) at kept = absurd (let e : ⊥ = cc in e)
-
-pub idle_kept : (form : Form) (images : List ℕ → Type 0) (journal : JournalState) (lines begun : List (List ℕ)) → journal.begun ≡ None → IsKept form images journal lines begun
-    → IsKept form images journal (lines ++ begun) []
-idle_kept form images journal lines begun none kept = none_kept form images journal lines begun (sym none ∙ kept.gate) kept

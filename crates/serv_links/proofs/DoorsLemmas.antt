@@ -18,7 +18,7 @@ use Rattle.serv_disk.specs.Faults.{HasRisen}
 use Rattle.serv_links.specs.Outcomes.{Writes}
 use Rattle.serv_links.specs.Answered.{AreAnswersOf}
 use Rattle.serv_links.specs.Links.{IsDiskEnd, Serves, number_in}
-use Rattle.serv_links.specs.Doors.{ServedLink, AreServed, AreTaken, AreBack, AreNone, HasServed, NoDisk, IsSummary, ServesDoors, as_broken, as_cut, as_memory}
+use Rattle.serv_links.specs.Doors.{ServedLink, AreServed, AreTaken, AreBack, HasServed, NoDisk, IsSummary, ServesDoors, as_broken, as_cut, as_memory}
 
 -- ---- links that come and go
 
@@ -41,14 +41,6 @@ back_more None b1 b2 links y first back = subst (λ b. IsBack b b2 y) first back
 back_more (Some old) None b2 links y first back = absurd first
 back_more (Some old) (Some mid) None links y first back = absurd back
 back_more (Some old) (Some mid) (Some new) links y first back = back ∙ (ap (λ l. l ++ y ∷ []) first ∙ append_assoc old links (y ∷ []))
-
-taken_end : {C : Type 0} (c0 c1 c2 : Option (List C)) (links : List C) → AreTaken c0 c1 links → IsNext c1 c2 None → AreTaken c0 c2 links × AreNone c2
-taken_end None c1 c2 links first next =
-    let none : c2 ≡ None = subst (λ c. IsNext c c2 None) first next in
-    (none, subst AreNone (sym none) tt)
-taken_end (Some old) None c2 links first next = absurd first
-taken_end (Some old) (Some mid) None links first next = absurd next
-taken_end (Some old) (Some mid) (Some new) links first next = (first ∙ ap (λ l. links ++ l) (next.0 ∙ sym next.1), next.1)
 
 -- ---- one link more
 
@@ -202,44 +194,3 @@ module _ {D C : Type 0} (images : D → List ℕ → Type 0) (moment : D → ℕ
         counted = counted;
         disk = disk_on;
       }
-
-    -- no link comes
-    pub along_over : (c2 b2 : Option (List C)) (most : ℕ) → n < most → IsNext c1 c2 None → b2 ≡ b1 → ServesDoors images moment images_since old mid (P mid) doors_end.Done summary most c0 c2 b0 b2 s t
-    along_over c2 b2 most below next kept =
-        let end = taken_end c0 c1 c2 along.has.came along.has.taken next in
-        record {
-          ends = along.ends;
-          pending = [];
-          has = record { came = along.has.came; back = along.has.back; taken = end.0; handed = subst (λ b. AreBack b0 b along.has.back) (sym kept) along.has.handed; served = along.has.served };
-          ended = (along.calm, inr ((let is = along.count in omega arith), end.1));
-          counted = along.counted;
-          disk = along.disk;
-        }
-
-    -- the doors fail
-    pub along_fails : (c2 b2 : Option (List C)) (most : ℕ) → n < most → c2 ≡ c1 → b2 ≡ b1 → ServesDoors images moment images_since old mid (P mid) doors_end.NetFault summary most c0 c2 b0 b2 s t
-    along_fails c2 b2 most below same kept = record {
-      ends = along.ends;
-      pending = [];
-      has = record {
-        came = along.has.came;
-        back = along.has.back;
-        taken = subst (λ c. AreTaken c0 c along.has.came) (sym same) along.has.taken;
-        handed = subst (λ b. AreBack b0 b along.has.back) (sym kept) along.has.handed;
-        served = along.has.served;
-      };
-      ended = (along.calm, (let is = along.count in omega arith));
-      counted = along.counted;
-      disk = along.disk;
-    }
-
-    -- as many as were asked for
-    pub along_done : (most : ℕ) → n ≡ most → ServesDoors images moment images_since old mid (P mid) doors_end.Done summary most c0 c1 b0 b1 s t
-    along_done most all = record {
-      ends = along.ends;
-      pending = [];
-      has = along.has;
-      ended = (along.calm, inl (along.count ∙ all));
-      counted = along.counted;
-      disk = along.disk;
-    }

@@ -2,10 +2,6 @@
 use Rattle.std.proofs.Common.{◌≡◌, ◌≢◌, ℕ, Bool, false, List, [], OnOk, sym, subst}
 use Rattle.std.specs.Prelude.{Result, Ok, Err}
 
-pub both_ok : {T E A B C : Type 0} (r : Result T E) → (A → B → C) → OnOk r A → OnOk r B → OnOk r C
-both_ok (Ok x) f a b = f a b
-both_ok (Err e) f a b = tt
-
 -- what holds of each result but one fault
 pub ok_unless : {T E A : Type 0} (r : Result T E) (fault : E) → (r ≢ Err fault → A) → OnOk r A
 ok_unless (Ok x) fault then = then (λ same. cc)

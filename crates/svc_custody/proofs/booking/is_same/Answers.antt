@@ -3,7 +3,8 @@ use Rattle.std.specs.Ordering.{int_eq}
 use Rattle.std.proofs.lemmas.Bool.{and_parts}
 use Rattle.std.proofs.lemmas.Bool.Decides.{Decides-int_eq}
 use Rattle.custodial_book.specs.contracts.row.TotalsPartialEq.TheImpl.Laws.{laws-law as totals-law}
-use Rattle.custodial_book.proofs.SameLemmas.{test_of, same_totals}
+use Rattle.svc_base.proofs.EqualLemmas.{test_of}
+use Rattle.custodial_book.proofs.SameLemmas.{same_totals}
 use Rattle.svc_custody.specs.contracts.position.PositionPartialEq.TheImpl.Laws.{laws-law}
 use Rattle.svc_custody.specs.declared.position.Position.{Position}
 use Rattle.svc_custody.proofs.booking.is_same.Goals as goal
