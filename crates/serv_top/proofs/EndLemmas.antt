@@ -5,7 +5,6 @@ use Rattle.svc_world.specs.World.{Accepted}
 use Rattle.serv_disk.specs.Faults.{HasRisen}
 use Rattle.serv_top.specs.declared.status.Status.{Status}
 use Rattle.serv_top.specs.declared.status.Status.TheVariants as status
-use Rattle.serv_top.specs.Drilled.{IsDrilledAs}
 use Rattle.serv_top.specs.Ends.{Finishes}
 use Rattle.serv_top.specs.Journal.{IsInit}
 use Rattle.serv_machine.specs.Stands.{Stand}
@@ -17,12 +16,6 @@ init_ends status.Done told told' images faults faults' calm is = inl refl
 init_ends status.AlreadyThere told told' images faults faults' calm is = inr refl
 init_ends status.DiskFault told told' images faults faults' calm is = absurd (calm is)
 init_ends other told told' images faults faults' calm is = absurd is
-
-pub drill_ends : (st : Status) (loans number : ℕ) (written : List ℕ) → (st ≡ status.WriteFault → ⊥) → IsDrilledAs st loans number written → Finishes st
-drill_ends status.Done loans number written writes is = inl refl
-drill_ends status.WriteFault loans number written writes is = absurd (writes refl)
-drill_ends status.OutOfMemory loans number written writes is = inr refl
-drill_ends other loans number written writes is = absurd is
 
 pub session_ends : (waiting : ℕ) (st : Status) (s s' : Stand) (pending : List Accepted) (left left' held held' : Option (List ℕ)) (input : List ℕ) → left ≡ Some input → length input < input_limit
     → (st ≡ status.ReadFault → ⊥) → (st ≡ status.WriteFault → ⊥) → (st ≡ status.DiskFault → ⊥) → Ended waiting st s s' pending left left' held held' → Finishes st

@@ -1,11 +1,10 @@
 -- Links that are served over a journal.
-use Rattle.std.proofs.Common.{◌≡◌, ◌⊎◌, ℕ, ◌-◌, ◌<◌, List, [], ◌∷◌, ◌++◌, length, refl, sym, ap, subst, ◌∙◌, inl, inr, ⊎_elim, arith}
+use Rattle.std.proofs.Common.{◌≡◌, ◌⊎◌, ℕ, ◌-◌, ◌<◌, List, [], ◌∷◌, ◌++◌, length, refl, ap, subst, ◌∙◌, inl, inr, ⊎_elim, arith}
 use Rattle.std.specs.Prelude.{Option, Some}
 use Rattle.std.specs.Io.KnownBytes.{Appends}
-use Rattle.std.proofs.KnownBytes.{Appends-nil}
 use Rattle.svc_world.specs.World.{Accepted}
 use Rattle.svc_world.specs.Judging.{IsHistory}
-use Rattle.serv_disk.specs.Faults.{AppendsPart, HasRisen}
+use Rattle.serv_disk.specs.Faults.{HasRisen}
 use Rattle.serv_disk.specs.Stamps.{Stamp}
 use Rattle.serv_http.specs.declared.ask.Ask.{Ask}
 use Rattle.serv_engine.specs.Histories.{lengths_of, IsGoodFound}
@@ -28,8 +27,10 @@ use Rattle.serv_top.specs.declared.status.Status.{Status}
 use Rattle.serv_top.specs.declared.status.Status.TheVariants as status
 use Rattle.serv_machine.specs.Stands.{Stand, stand, Stays}
 use Rattle.serv_top.specs.Journal.{IsUnopened, IsOpened, journal_limit}
-use Rattle.serv_top.specs.Served.{IsServedAs, IsServedOver, LinksEnd, ServesLinks}
+use Rattle.serv_top.specs.Served.{IsCountOf, IsServedAs, IsServedOver, LinksEnd, ServesLinks}
+use Rattle.serv_top.specs.Written.{IsWrittenAs, Writes}
 use Rattle.serv_top.proofs.Applied.{few_taken, run_over, store_of, store_request, unopened_ends}
+use Rattle.serv_top.proofs.WrittenLemmas.{written_of}
 use Rattle.serv_top.specs.Ends.{Completes}
 
 -- ---- where commands are kept stays the same
@@ -140,19 +141,17 @@ module _ {C : Type 0} (left held : C → Option (List ℕ)) (log : C → Option 
         (store_links (stand h steps') all.served.ends all.served.served.came all.served.served.back (stand (history_of e) begun) (stand h steps') all.pending all.served.served.served) all.served all.disk
 
 -- the summary was written, or a part of it, or no memory was there for it
-pub counts_written : {C : Type 0} (st : Status) (most : ℕ) (coming : Option (List C)) (held held' : Option (List ℕ)) (summary : Summary)
-    → (st ≡ status.Done) ⊎ ((st ≡ status.WriteFault) ⊎ (st ≡ status.OutOfMemory))
-    → (st ≡ status.Done → Appends held held' (text_of_summary summary)) → (st ≡ status.WriteFault → AppendsPart held held' (text_of_summary summary)) → (st ≡ status.OutOfMemory → held' ≡ held)
+served_as : {C : Type 0} (st : Status) (most : ℕ) (coming : Option (List C)) (ends : List LinkEnd) (written : List ℕ)
+    → IsDoorsEnd doors_end.Done most coming ends → IsWrittenAs st (IsCountOf ends) written → IsServedAs st most coming ends written
+served_as status.DiskFault most coming ends written end says = absurd says
+served_as status.NetFault most coming ends written end says = absurd says
+served_as other most coming ends written end says = (end, says)
+
+pub counts_written : {C : Type 0} (st : Status) (most : ℕ) (coming : Option (List C)) (held held' : Option (List ℕ)) (summary : Summary) → Writes st (λ text. text ≡ text_of_summary summary) held held'
     → (ends : List LinkEnd) → IsDoorsEnd doors_end.Done most coming ends → IsSummary ends summary → (written : List ℕ) × Appends held held' written × IsServedAs st most coming ends written
-counts_written {C} st most coming held held' summary which whole part none ends end counts =
-    ⊎_elim
-    (λ is. (text_of_summary summary, whole is, subst (λ z. IsServedAs z most coming ends (text_of_summary summary)) (sym is) (end, record { summary = summary; counts = counts; spelled = refl })))
-    (λ other. ⊎_elim
-    (λ is. let cut = part is in
-    (cut.part, cut.wrote, subst (λ z. IsServedAs z most coming ends cut.part) (sym is) (end, record { text = text_of_summary summary; whole = record { summary = summary; counts = counts; spelled = refl }; cut = cut.partial })))
-    (λ is. ([], subst (λ z. Appends held z []) (sym (none is)) (Appends-nil held), subst (λ z. IsServedAs z most coming ends []) (sym is) (end, refl)))
-    other)
-    which
+counts_written {C} st most coming held held' summary w ends end counts =
+    let count : IsCountOf ends (text_of_summary summary) = record { summary = summary; counts = counts; spelled = refl } in
+    (w.written, w.wrote, served_as st most coming ends w.written end (written_of st (IsCountOf ends) (text_of_summary summary) w.written count w.says))
 
 -- ---- completeness
 
@@ -163,7 +162,7 @@ served_ends status.WriteFault most coming ends written writes disks nets is = ab
 served_ends status.DiskFault most coming ends written writes disks nets is = absurd (disks refl)
 served_ends status.NetFault most coming ends written writes disks nets is = absurd (nets refl)
 served_ends status.OutOfMemory most coming ends written writes disks nets is = inr (inl refl)
-served_ends other most coming ends written writes disks nets is = absurd is
+served_ends other most coming ends written writes disks nets is = absurd is.1
 
 pub complete_served : {D C A B : Type 0} (seen : D → Option (List ℕ)) (images : D → List ℕ → Type 0) (moment : D → ℕ) (images_since : D → ℕ → List ℕ → Type 0) (faults : D → ℕ) (old new : D) (Q : Stand → OneServed C)
     (st : Status) (most steps steps' : ℕ) (coming coming' backed backed' : Option (List C)) (held held' : Option (List ℕ)) (s : List ℕ) (h : List Accepted) (a : Accepted)

@@ -6,22 +6,19 @@ use Rattle.std.proofs.lemmas.List.Folds.{flat_map-map}
 use Rattle.std.specs.Prelude.{Option, Some}
 use Rattle.std.proofs.KnownBytes.{Appends-nil}
 use Rattle.svc_types.specs.declared.requests.Command.{Command}
-use Rattle.svc_types.specs.declared.requests.Query.{Query}
 use Rattle.svc_world.specs.World.{Accepted, accepted}
 use Rattle.svc_world.specs.Judging.{IsHistory}
 use Rattle.svc_core.specs.Posted.{history_of}
 use Rattle.serv_disk.specs.Faults.{HasRisen, IsProperPrefix}
 use Rattle.serv_line.specs.Replies.{ended}
 use Rattle.serv_engine.specs.Histories.{IsGoodFound, line_of_command}
-use Rattle.serv_top.specs.declared.extracts.Extract.{Extract}
 use Rattle.serv_top.specs.declared.status.Status.{Status}
 use Rattle.serv_top.specs.declared.status.Status.TheVariants as status
 use Rattle.serv_top.specs.Journal.{IsUnopened}
-use Rattle.serv_top.specs.Written.{IsWrittenAs, Writes}
-use Rattle.serv_top.specs.Asked.{IsAsked}
-use Rattle.serv_top.specs.Extracts.{IsExtracted, lines_of_commands}
+use Rattle.serv_top.specs.Written.{IsTextOver, IsWrittenAs, Writes}
+use Rattle.serv_top.specs.Extracts.{lines_of_commands}
 use Rattle.serv_top.proofs.Applied.{unopened_ends}
-use Rattle.serv_top.specs.Ends.{Completes}
+use Rattle.serv_top.specs.Ends.{Completes, Finishes}
 
 -- all lines of a list of commands
 pub all_lines_of : (i : ℕ) (ps : List (List ℕ × Command)) → length ps ≤ i → flat_map (λ (p : List ℕ × Command). ended (line_of_command (accepted p.0 p.1))) (take i ps) ≡ lines_of_commands (history_of ps)
@@ -30,7 +27,7 @@ all_lines_of i ps all =
     ∙ sym (flat_map-map (λ (a : Accepted). ended (line_of_command a)) (λ (p : List ℕ × Command). accepted p.0 p.1) ps)
 
 -- a text that is one of those that are wanted
-written_of : (st : Status) (T : List ℕ → Type 0) (text written : List ℕ) → T text → IsWrittenAs st (λ t. t ≡ text) written → IsWrittenAs st T written
+pub written_of : (st : Status) (T : List ℕ → Type 0) (text written : List ℕ) → T text → IsWrittenAs st (λ t. t ≡ text) written → IsWrittenAs st T written
 written_of status.Done T text written is says = subst T (sym says) is
 written_of status.WriteFault T text written is says = record { text = text; whole = is; cut = subst (IsProperPrefix written) says.whole says.cut }
 written_of status.OutOfMemory T text written is says = says
@@ -45,28 +42,21 @@ writes_nothing T held = record { written = []; wrote = Appends-nil held; says = 
 
 -- ---- completeness
 
+pub written_finishes : (st : Status) (T : List ℕ → Type 0) (written : List ℕ) → (st ≡ status.WriteFault → ⊥) → IsWrittenAs st T written → Finishes st
+written_finishes status.Done T written calm says = inl refl
+written_finishes status.WriteFault T written calm says = absurd (calm refl)
+written_finishes status.OutOfMemory T written calm says = inr refl
+written_finishes other T written calm says = absurd says
+
 pub written_ends : (st : Status) (T : List ℕ → Type 0) (written : List ℕ) → (st ≡ status.WriteFault → ⊥) → IsWrittenAs st T written → Completes st
-written_ends status.Done T written calm says = inl refl
-written_ends status.WriteFault T written calm says = absurd (calm refl)
-written_ends status.OutOfMemory T written calm says = inr (inl refl)
-written_ends other T written calm says = absurd says
+written_ends st T written calm says = ⊎_elim (λ done. inl done) (λ short. inr (inl short)) (written_finishes st T written calm says)
 
-pub complete_extract : {D A : Type 0} (seen : D → Option (List ℕ)) (images : D → List ℕ → Type 0) (moment : D → ℕ) (images_since : D → ℕ → List ℕ → Type 0) (faults : D → ℕ) (old new : D) (st : Status) (x : Extract)
-    (steps steps' : ℕ) (held held' : Option (List ℕ)) (s : List ℕ) (h : List Accepted) (a : Accepted) → seen old ≡ Some s → IsHistory (h ++ a ∷ []) → IsGoodFound h a s
-    → (st ≡ status.WriteFault → ⊥) → (HasRisen (faults old) (faults new) → ⊥)
-    → (IsUnopened seen images moment images_since faults old new st steps steps' × A) ⊎ IsExtracted seen images moment images_since old new st x steps steps' held held' → Completes st
-complete_extract {D} seen images moment images_since faults old new st x steps steps' held held' s h a told is_history good writes calm which =
+pub complete_text : {D A : Type 0} (seen : D → Option (List ℕ)) (images : D → List ℕ → Type 0) (moment : D → ℕ) (images_since : D → ℕ → List ℕ → Type 0) (faults : D → ℕ) (old new : D) (st : Status)
+    (bound : List Accepted → ℕ) (T : List Accepted → ℕ → List ℕ → Type 0) (steps steps' : ℕ) (held held' : Option (List ℕ)) (s : List ℕ) (h : List Accepted) (a : Accepted)
+    → seen old ≡ Some s → IsHistory (h ++ a ∷ []) → IsGoodFound h a s → (st ≡ status.WriteFault → ⊥) → (HasRisen (faults old) (faults new) → ⊥)
+    → (IsUnopened seen images moment images_since faults old new st steps steps' × A) ⊎ IsTextOver seen images moment images_since old new bound (λ c base. Writes st (T c base) held held') steps steps' → Completes st
+complete_text {D} seen images moment images_since faults old new st bound T steps steps' held held' s h a told is_history good writes calm which =
     ⊎_elim
     (λ closed. unopened_ends st s h a (faults old) (faults new) (seen old) told is_history good closed.0.cause calm)
-    (λ over. written_ends st _ over.wrote.written writes over.wrote.says)
-    which
-
-pub complete_asked : {D A : Type 0} (seen : D → Option (List ℕ)) (images : D → List ℕ → Type 0) (moment : D → ℕ) (images_since : D → ℕ → List ℕ → Type 0) (faults : D → ℕ) (old new : D) (st : Status) (q : Query)
-    (steps steps' : ℕ) (held held' : Option (List ℕ)) (s : List ℕ) (h : List Accepted) (a : Accepted) → seen old ≡ Some s → IsHistory (h ++ a ∷ []) → IsGoodFound h a s
-    → (st ≡ status.WriteFault → ⊥) → (HasRisen (faults old) (faults new) → ⊥)
-    → (IsUnopened seen images moment images_since faults old new st steps steps' × A) ⊎ IsAsked seen images moment images_since old new st q steps steps' held held' → Completes st
-complete_asked {D} seen images moment images_since faults old new st q steps steps' held held' s h a told is_history good writes calm which =
-    ⊎_elim
-    (λ closed. unopened_ends st s h a (faults old) (faults new) (seen old) told is_history good closed.0.cause calm)
-    (λ over. written_ends st _ over.wrote.written writes over.wrote.says)
+    (λ over. written_ends st (T over.commands over.base) over.wrote.written writes over.wrote.says)
     which

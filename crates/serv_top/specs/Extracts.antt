@@ -11,9 +11,8 @@ use Rattle.servicing_transfer.specs.StatementTexts.{text_of_statement}
 use Rattle.serv_top.specs.declared.extracts.Extract.{Extract}
 use Rattle.serv_top.specs.declared.extracts.Extract.TheVariants.{Transfer, Remain, Statement}
 use Rattle.serv_top.specs.declared.status.Status.{Status}
-use Rattle.serv_top.specs.Journal.{IsOpened}
 use Rattle.serv_machine.specs.Stands.{Stand}
-use Rattle.serv_top.specs.Written.{Writes}
+use Rattle.serv_top.specs.Written.{IsTextOver, Writes}
 
 -- the lines of commands, each with a line feed: what `apply` is given to accept them again
 abbrev pub lines_of_commands : List Accepted → List ℕ
@@ -42,24 +41,14 @@ IsExtract (Transfer from to) commands text = text ≡ lines_of_commands (part_of
 IsExtract (Remain from to) commands text = text ≡ lines_of_commands (part_of (out_of_range from to) commands)
 IsExtract Statement commands text = text ≡ text_of_statement (world commands)
 
--- the steps that it may take
-abbrev pub extract_bound : Extract → List Accepted → ℕ
-extract_bound (Transfer from to) commands = 0
-extract_bound (Remain from to) commands = 0
-extract_bound Statement commands = 0
-
 -- a range goes up
 abbrev pub IsAskedExtract : Extract → Type 0
 IsAskedExtract (Transfer from to) = from ≤ to
 IsAskedExtract (Remain from to) = from ≤ to
 IsAskedExtract Statement = Unit {0}
 
--- a journal was opened, and the text over its commands is written. The disk is left as the opening left it
-pub record IsExtracted {D : Type 0} (seen : D → Option (List ℕ)) (images : D → List ℕ → Type 0) (moment : D → ℕ) (images_since : D → ℕ → List ℕ → Type 0)
-    (old new : D) (status : Status) (extract : Extract) (steps steps' : ℕ) (held held' : Option (List ℕ)) : Type 0 where
-  pub commands : List Accepted
-  pub base : ℕ
-  pub begun : ℕ
-  pub opening : IsOpened seen images moment images_since old new steps begun base commands
-  pub cost : steps' ≤ begun + extract_bound extract commands
-  pub wrote : Writes status (IsExtract extract commands) held held'
+-- a journal was opened, and the text over its commands is written, which takes no step
+abbrev pub IsExtracted : {D : Type 0} → (D → Option (List ℕ)) → (D → List ℕ → Type 0) → (D → ℕ) → (D → ℕ → List ℕ → Type 0) → D → D → Status → Extract → ℕ → ℕ
+    → Option (List ℕ) → Option (List ℕ) → Type 0
+IsExtracted seen images moment images_since old new status extract steps steps' held held' =
+    IsTextOver seen images moment images_since old new (λ h. 0) (λ h base. Writes status (IsExtract extract h) held held') steps steps'

@@ -15,7 +15,6 @@ pub mod Written
 pub mod Extracts
 pub mod Reviews
 pub mod Imported
-pub mod Drilled
 pub mod Served
 pub mod Upheld
 pub mod Ends

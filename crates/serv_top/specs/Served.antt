@@ -2,16 +2,16 @@
 use Rattle.std.specs.Prelude.{◌≡◌, ℕ, List, [], Option}
 use Rattle.std.specs.Io.KnownBytes.{Appends}
 use Rattle.svc_world.specs.World.{Accepted}
-use Rattle.serv_disk.specs.Faults.{IsProperPrefix}
 use Rattle.serv_machine.specs.OnDisk.{OnDisk}
 use Rattle.serv_links.specs.declared.doors.DoorsEnd.TheVariants as doors_end
 use Rattle.serv_links.specs.declared.link_end.LinkEnd.{LinkEnd}
 use Rattle.serv_links.specs.declared.summary.Summary.{Summary}
 use Rattle.serv_links.specs.Doors.{OneServed, HasServed, IsDoorsEnd, IsSummary, text_of_summary}
 use Rattle.serv_top.specs.declared.status.Status.{Status}
-use Rattle.serv_top.specs.declared.status.Status.TheVariants.{Done, WriteFault, DiskFault, NetFault, OutOfMemory}
+use Rattle.serv_top.specs.declared.status.Status.TheVariants.{DiskFault, NetFault}
 use Rattle.serv_machine.specs.Stands.{Stand}
 use Rattle.serv_top.specs.Journal.{IsRunOver}
+use Rattle.serv_top.specs.Written.{IsWrittenAs}
 
 -- the line that counts these ends
 pub record IsCountOf (ends : List LinkEnd) (text : List ℕ) : Type 0 where
@@ -19,21 +19,12 @@ pub record IsCountOf (ends : List LinkEnd) (text : List ℕ) : Type 0 where
   pub counts : IsSummary ends summary
   pub spelled : text ≡ text_of_summary summary
 
--- a part of it that does not reach its end
-pub record IsCutCount (ends : List LinkEnd) (part : List ℕ) : Type 0 where
-  pub text : List ℕ
-  pub whole : IsCountOf ends text
-  pub cut : IsProperPrefix part text
-
 -- why no further link was served, and what is written, by the status, where so many links were asked for, these are to
--- come, and those that came ended so. Other statuses do not come where links are served
+-- come, and those that came ended so: after the last one their count, as any text
 abbrev pub IsServedAs : {C : Type 0} → Status → ℕ → Option (List C) → List LinkEnd → List ℕ → Type 0
-IsServedAs Done most coming ends written = IsDoorsEnd doors_end.Done most coming ends × IsCountOf ends written
-IsServedAs WriteFault most coming ends written = IsDoorsEnd doors_end.Done most coming ends × IsCutCount ends written
-IsServedAs OutOfMemory most coming ends written = IsDoorsEnd doors_end.Done most coming ends × (written ≡ [])
 IsServedAs DiskFault most coming ends written = IsDoorsEnd doors_end.DiskFault most coming ends × (written ≡ [])
 IsServedAs NetFault most coming ends written = IsDoorsEnd doors_end.NetFault most coming ends × (written ≡ [])
-IsServedAs other most coming ends written = ⊥
+IsServedAs other most coming ends written = IsDoorsEnd doors_end.Done most coming ends × IsWrittenAs other (IsCountOf ends) written
 
 -- links came, each was served over the history that the one before it left, and they were handed back; and then their
 -- summary was written

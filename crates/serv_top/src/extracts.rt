@@ -1,13 +1,13 @@
 //! Texts that are made of a journal's commands.
 
-ghost use Rattle.std.specs.Prelude.{◌≡◌, ◌≤◌, ◌+◌, ◌⊎◌, ◌++◌, IfOk, OnOk};
+ghost use Rattle.std.specs.Prelude.{◌≡◌, ◌≤◌, ◌⊎◌, ◌++◌, IfOk, OnOk};
 ghost use Rattle.svc_world.specs.World.{accepted};
 ghost use Rattle.svc_core.specs.Posted.{history_of};
 ghost use Rattle.serv_disk.specs.Faults.{HasRisen};
 ghost use Rattle.serv_line.specs.Replies.{ended};
 ghost use Rattle.serv_engine.specs.Histories.{line_of_command};
 ghost use Rattle.serv_top.specs.Journal.{HasFileFaults, IsUnopened};
-ghost use Rattle.serv_top.specs.Extracts.{IsAskedExtract, IsExtract, IsExtracted, extract_bound, lines_of_commands};
+ghost use Rattle.serv_top.specs.Extracts.{IsAskedExtract, IsExtract, IsExtracted, lines_of_commands};
 
 use crate::over_journal::open_journal;
 use crate::status::Status;
@@ -70,7 +70,7 @@ fn text_of<L: Ledger>(
 ) -> Result<Vec<u8>, OutOfMemory>
     requires { IsAskedExtract extract }
     ensures text { IfOk result (λ text. IsExtract extract core.now.history text.items) }
-    ensures steps { steps.new ≤ steps.old + extract_bound extract core.now.history }
+    ensures steps { steps.new ≤ steps.old }
 {
     match extract {
         Extract::Transfer(from, to) => {

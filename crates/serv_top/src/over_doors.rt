@@ -1,16 +1,17 @@
 //! Links that are served over a journal.
 
 ghost use Rattle.std.specs.Prelude.{◌≡◌, ◌≤◌, ◌⊎◌};
-ghost use Rattle.std.specs.Io.KnownBytes.{Appends};
-ghost use Rattle.serv_disk.specs.Faults.{AppendsPart, HasRisen};
+ghost use Rattle.serv_disk.specs.Faults.{HasRisen};
 ghost use Rattle.serv_links.specs.Doors.{ServedLink, text_of_summary};
 ghost use Rattle.serv_top.specs.Journal.{HasFileFaults, IsUnopened};
 ghost use Rattle.serv_machine.specs.Stands.{stand};
 ghost use Rattle.serv_top.specs.Served.{IsServedOver, LinksEnd};
+ghost use Rattle.serv_top.specs.Written.{Writes};
 
 use crate::over_journal::open_journal;
 use crate::status::Status;
-use serv_disk::{Disk, Doors, Sink, write_whole};
+use crate::writing::write_text;
+use serv_disk::{Disk, Doors, Sink};
 use serv_links::{DoorsEnd, MOST_LINKS, Summary, serve_doors, write_summary};
 use serv_machine::Machine;
 use std::alloc::Global;
@@ -88,19 +89,12 @@ fn serve_by<D: Disk, M: Machine<D>, K: Sink, G: Doors, L: Ledger>(
 
 /// Writes the summary.
 fn write_counts<K: Sink>(alloc: Global, summary: &Summary, snk: &mut K) -> Status
-    ensures status { (result ≡ Status.Done) ⊎ ((result ≡ Status.WriteFault) ⊎ (result ≡ Status.OutOfMemory)) }
-    ensures whole { result ≡ Status.Done → Appends (K.held snk.old) (K.held snk.new) (text_of_summary summary.now) }
-    ensures part { result ≡ Status.WriteFault
-        → AppendsPart (K.held snk.old) (K.held snk.new) (text_of_summary summary.now) }
-    ensures idle { result ≡ Status.OutOfMemory → snk.new ≡ snk.old }
+    ensures writes { Writes result (λ text. text ≡ text_of_summary summary.now) (K.held snk.old) (K.held snk.new) }
     ensures write { result ≡ Status.WriteFault → HasRisen (K.faults snk.old) (K.faults snk.new) }
     ensures write_later { K.faults snk.old ≤ K.faults snk.new }
 {
     match write_summary(alloc, summary) {
-        Ok(text) => match write_whole(snk, &text) {
-            Ok(()) => Status::Done,
-            Err(_) => Status::WriteFault,
-        },
+        Ok(text) => write_text(snk, &text),
         Err(_) => Status::OutOfMemory,
     }
 }

@@ -1,21 +1,21 @@
 //! The answer to a query, written over a journal.
 
-ghost use Rattle.std.specs.Prelude.{◌≡◌, ◌≤◌, ◌+◌, ◌⊎◌, ℕ, List, Option, Some, None};
-ghost use Rattle.svc_world.specs.World.{Accepted, world};
-ghost use Rattle.svc_world.specs.Answers.{answer_to};
+ghost use Rattle.std.specs.Prelude.{◌≡◌, ◌≤◌, ◌+◌, ◌⊎◌, ℕ, Option};
+ghost use Rattle.svc_world.specs.World.{world};
 ghost use Rattle.svc_world.specs.Custody.{rows_in};
-ghost use Rattle.svc_types.specs.declared.requests.Query.{Query};
 ghost use Rattle.svc_core.specs.Bound.{query_bound};
 ghost use Rattle.serv_disk.specs.Faults.{HasRisen};
-ghost use Rattle.serv_report.specs.AnswerTexts.{IsSpellable};
+ghost use Rattle.serv_report.specs.AnswerTexts.{IsSpellable, text_of_answer};
 ghost use Rattle.serv_top.specs.Stop.{status_of_asking};
 ghost use Rattle.serv_top.specs.Journal.{HasFileFaults, IsUnopened};
-ghost use Rattle.serv_top.specs.Shown.{IsShown, Shows, refusal_over};
+ghost use Rattle.serv_top.specs.Shown.{IsShown, Shows};
 ghost use Rattle.serv_top.specs.Words.{IsShowing};
+ghost use Rattle.serv_top.specs.Written.{Writes};
 
 use crate::over_journal::open_journal;
 use crate::status::Status;
-use serv_disk::{Disk, Sink, write_whole};
+use crate::writing::write_text;
+use serv_disk::{Disk, Sink};
 use serv_engine::Engine;
 use serv_machine::Machine;
 use serv_report::write_answer;
@@ -74,26 +74,20 @@ fn show_by<D: Disk, M: Machine<D>, K: Sink, L: Ledger>(
     ensures steps { steps.new ≤ steps.old + query_bound (world (M.history machine.now).commands) query.now }
 {
     match machine.answer(query, steps) {
-        Ok(answer) => write_text(alloc, &answer, snk),
+        Ok(answer) => show_answer(alloc, &answer, snk),
         Err(fault) => unanswered(fault),
     }
 }
 
 /// Writes the text of an answer.
-fn write_text<K: Sink>(alloc: Global, answer: &Answer, snk: &mut K) -> Status
+fn show_answer<K: Sink>(alloc: Global, answer: &Answer, snk: &mut K) -> Status
     requires { IsSpellable answer.now }
-    ensures shows { (h : List Accepted) (q : Query) → refusal_over h q ≡ None
-        → answer_to h q ≡ Some answer.now
-        → Shows result h q (K.held snk.old) (K.held snk.new) }
-    ensures idle { (last : Option ℕ) → result ≡ Status.NoReport last → snk.new ≡ snk.old }
+    ensures writes { Writes result (λ text. text ≡ text_of_answer answer.now) (K.held snk.old) (K.held snk.new) }
     ensures write { result ≡ Status.WriteFault → HasRisen (K.faults snk.old) (K.faults snk.new) }
     ensures write_later { K.faults snk.old ≤ K.faults snk.new }
 {
     match write_answer(alloc, answer) {
-        Ok(text) => match write_whole(snk, &text) {
-            Ok(()) => Status::Done,
-            Err(_) => Status::WriteFault,
-        },
+        Ok(text) => write_text(snk, &text),
         Err(_) => Status::OutOfMemory,
     }
 }

@@ -8,8 +8,8 @@ ghost use Rattle.serv_top.specs.declared.words.Task.TheVariants as task;
 ghost use Rattle.serv_top.specs.Journal.{IsInit, HasFileFaults, IsUnopened, IsApplied};
 ghost use Rattle.serv_top.specs.Imported.{IsImported};
 ghost use Rattle.serv_drill.specs.Machine.{cost_of_works, first_tally};
+ghost use Rattle.serv_drill.specs.Summary.{summary};
 ghost use Rattle.serv_drill.specs.Works.{year_works};
-ghost use Rattle.serv_top.specs.Drilled.{Drills};
 ghost use Rattle.serv_links.specs.Doors.{ServedLink};
 ghost use Rattle.serv_top.specs.Asked.{IsAsked};
 ghost use Rattle.serv_top.specs.Shown.{IsShown};
@@ -19,6 +19,7 @@ ghost use Rattle.serv_top.specs.declared.reviews.Review.{Review};
 ghost use Rattle.serv_top.specs.Reviews.{IsReviewed};
 ghost use Rattle.serv_top.specs.Served.{IsServedOver};
 ghost use Rattle.serv_top.specs.Outcome.{Ran};
+ghost use Rattle.serv_top.specs.Written.{Writes};
 ghost use Rattle.serv_top.specs.Words.{IsAsking, IsUnknown, task_in};
 ghost use Rattle.serv_top.specs.Ends.{Order, IsGiven, IsOverJournal, ReadsInput, IsUndisturbed, MayEnd};
 
@@ -158,7 +159,7 @@ pub fn run<S: Source, K: Sink, D: Disk, G: Doors, L: Ledger>(
 
     // The summary of a generated year is written, which is made in memory.
     ensures drill { (loans number : ℕ) → task_in (map (λ w. w.now) words.now) ≡ Some (task.Drill loans number)
-        → Drills result loans number (K.held snk.old) (K.held snk.new)
+        → Writes result (λ text. text ≡ summary loans number) (K.held snk.old) (K.held snk.new)
         × (steps.new ≤ steps.old + cost_of_works first_tally (year_works loans number))
         × (disk.new ≡ disk.old) }
 

@@ -1,6 +1,6 @@
-use Rattle.std.proofs.Common.{◌-◌, ◌+◌, ◌≤◌, inr, sym, subst}
+use Rattle.std.proofs.Common.{◌-◌, arith, inr, sym, subst}
 use Rattle.serv_engine.specs.Histories.{lengths_of}
-use Rattle.serv_top.specs.Extracts.{IsExtract, extract_bound}
+use Rattle.serv_top.specs.Extracts.{IsExtract}
 use Rattle.serv_top.proofs.WrittenLemmas.{writes_of, writes_nothing}
 use Rattle.serv_top.proofs.extracts.write_extract.Goals as goal
 
@@ -14,7 +14,7 @@ returns-in-Ok-text_of-clause-extracted g c =
       base = e.journal.size - lengths_of e.history;
       begun = c.open_journal.new.steps;
       opening = c.in-Ok.ensures.opened;
-      cost = subst (λ h. c.text_of.new.steps ≤ c.open_journal.new.steps + extract_bound x h) c.core.ensures c.text_of.ensures.steps;
+      cost = omega (arith, c.text_of.ensures.steps);
       wrote = writes_of c.write_text.result (IsExtract x e.history) c.deref.result.now _ _
           (subst (IsExtract x e.history) (sym c.deref.ensures.value) (subst (λ h. IsExtract x h text) c.core.ensures c.in-Ok-text_of.ensures.text))
           c.write_text.ensures.writes;
@@ -29,6 +29,6 @@ returns-in-Ok-clause-extracted g c =
       base = e.journal.size - lengths_of e.history;
       begun = c.open_journal.new.steps;
       opening = c.in-Ok.ensures.opened;
-      cost = subst (λ h. c.text_of.new.steps ≤ c.open_journal.new.steps + extract_bound x h) c.core.ensures c.text_of.ensures.steps;
+      cost = omega (arith, c.text_of.ensures.steps);
       wrote = writes_nothing (IsExtract x e.history) _;
     })

@@ -1,4 +1,4 @@
-use Rattle.serv_engine.specs.Engines.{IsDurable, kept_of}
+use Rattle.serv_engine.specs.Engines.{kept_of}
 use Rattle.serv_disk.specs.Faults.{HasRisen}
 use Rattle.serv_machine.specs.History.{History}
 use Rattle.serv_machine.specs.Engines.{kept_history}

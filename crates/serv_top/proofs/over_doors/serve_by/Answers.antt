@@ -1,4 +1,4 @@
-use Rattle.std.proofs.Common.{[], refl, ap}
+use Rattle.std.proofs.Common.{[], refl}
 use Rattle.std.proofs.KnownBytes.{Appends-nil}
 use Rattle.serv_machine.specs.Stands.{stand}
 use Rattle.serv_top.proofs.LinksLemmas.{ended, counts_written}
@@ -9,8 +9,7 @@ returns-in-Done-clause-ends g c =
     ended g.G.Conn.Source.left g.G.Conn.Sink.held g.G.Conn.Sink.log g.G.Conn.Source.faults g.G.Conn.Sink.faults (g.D.Disk.moment c.serve_doors-service.new.disk) (g.D.Disk.images_since c.serve_doors-service.new.disk) c.write_counts.result c.args.most _ _ _ _ _ _
     (stand (g.M.Machine.history c.args.machine.now) c.args.steps.now) (stand (g.M.Machine.kept c.serve_doors-service.new.machine) c.serve_doors-service.new.steps)
     g.D.Disk.images g.D.Disk.moment g.D.Disk.images_since c.args.disk.now c.serve_doors-service.new.disk _ c.serve_doors-service.result.summary (rw (g.met.M.Machine.settled c.args.machine.now c.args.disk.now c.requires.ready).1 at c.serve_doors-service.ensures.served)
-    (rw c.in-Done.is (counts_written c.write_counts.result c.args.most _ _ _ c.serve_doors-service.result.summary c.write_counts.ensures.status c.write_counts.ensures.whole c.write_counts.ensures.part
-    (λ is. ap g.K.Sink.held (c.write_counts.ensures.idle is))))
+    (rw c.in-Done.is (counts_written c.write_counts.result c.args.most _ _ _ c.serve_doors-service.result.summary c.write_counts.ensures.writes))
 
 pub returns-in-DiskFault-clause-ends : goal.returns-in-DiskFault-clause-ends
 returns-in-DiskFault-clause-ends g c =

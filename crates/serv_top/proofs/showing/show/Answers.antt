@@ -11,7 +11,7 @@ returns-in-Ok-clause-shown g c =
       begun = c.open_journal.new.steps;
       opening = c.in-Ok.ensures.opened;
       cost = c.show_by-status.ensures.steps;
-      shown = c.show_by-status.ensures.shows;
+      wrote = c.show_by-status.ensures.shows;
     })
 
 pub returns-in-Ok-clause-file : goal.returns-in-Ok-clause-file

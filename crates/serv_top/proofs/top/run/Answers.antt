@@ -1,12 +1,14 @@
 use Rattle.std.proofs.Common.{refl, sym, ap, ◌∙◌}
 use Rattle.std.specs.Prelude.{Some}
+use Rattle.serv_top.specs.Asked.{IsReplyOver}
+use Rattle.serv_top.specs.Extracts.{IsExtract}
 use Rattle.serv_top.proofs.AskLemmas.{asks_none, one_asked}
-use Rattle.serv_top.proofs.EndLemmas.{drill_ends, init_ends, session_ends}
+use Rattle.serv_top.proofs.EndLemmas.{init_ends, session_ends}
 use Rattle.serv_top.proofs.ImportLemmas.{complete_import}
 use Rattle.serv_top.proofs.LinksLemmas.{complete_served}
 use Rattle.serv_top.proofs.OrderLemmas.{of_none, of_query, of_task}
 use Rattle.serv_top.proofs.ShownLemmas.{complete_shown}
-use Rattle.serv_top.proofs.WrittenLemmas.{complete_asked, complete_extract}
+use Rattle.serv_top.proofs.WrittenLemmas.{complete_text, written_finishes}
 use Rattle.serv_top.proofs.ReviewLemmas.{complete_review}
 use Rattle.serv_top.proofs.Applied.{complete_run}
 use Rattle.serv_top.proofs.top.run.Goals as goal
@@ -43,7 +45,7 @@ returns-in-Some-Show-clause-complete g c = of_task _ _ _ (ap Some (sym c.in-Some
 pub returns-in-Some-Extract-clause-complete : goal.returns-in-Some-Extract-clause-complete
 returns-in-Some-Extract-clause-complete g c = of_task _ _ _ (ap Some (sym c.in-Some-Extract.field-0-is) ∙ c.in-Some-Extract.ensures.task) c.in-Some-Extract.ensures.other
     (λ calm. let disk = calm.0 in
-    complete_extract g.D.Disk.seen g.D.Disk.images g.D.Disk.moment g.D.Disk.images_since g.D.Disk.faults c.args.disk.now c.write_extract.new.disk c.write_extract.result c.in-Some-Extract.extract c.args.steps.now c.write_extract.new.steps
+    complete_text g.D.Disk.seen g.D.Disk.images g.D.Disk.moment g.D.Disk.images_since g.D.Disk.faults c.args.disk.now c.write_extract.new.disk c.write_extract.result _ (λ h base. IsExtract c.in-Some-Extract.extract h) c.args.steps.now c.write_extract.new.steps
     _ _ disk.content disk.commands disk.next disk.told disk.history (disk.good disk.content (g.met.D.Disk.reads_image c.args.disk.now disk.content disk.told)) (λ is. calm.1 (c.write_extract.ensures.write is)) calm.2 c.write_extract.ensures.extracted)
 
 pub returns-in-Some-Serve-clause-complete : goal.returns-in-Some-Serve-clause-complete
@@ -56,7 +58,7 @@ returns-in-Some-Serve-clause-complete g c = of_task _ _ _ (ap Some (sym c.in-Som
 pub returns-in-Some-clause-complete : goal.returns-in-Some-clause-complete
 returns-in-Some-clause-complete g c = of_query _ _ _ c.in-None.ensures.task c.in-Some.ensures.only
     (λ calm. let disk = calm.0 in
-    complete_asked g.D.Disk.seen g.D.Disk.images g.D.Disk.moment g.D.Disk.images_since g.D.Disk.faults c.args.disk.now c.ask.new.disk c.ask.result c.in-Some.query c.args.steps.now c.ask.new.steps
+    complete_text g.D.Disk.seen g.D.Disk.images g.D.Disk.moment g.D.Disk.images_since g.D.Disk.faults c.args.disk.now c.ask.new.disk c.ask.result _ (IsReplyOver c.in-Some.query) c.args.steps.now c.ask.new.steps
     _ _ disk.content disk.commands disk.next disk.told disk.history (disk.good disk.content (g.met.D.Disk.reads_image c.args.disk.now disk.content disk.told)) (λ is. calm.1 (c.ask.ensures.write is)) calm.2 c.ask.ensures.asked)
 
 pub returns-in-None-read_asking-clause-complete : goal.returns-in-None-read_asking-clause-complete
@@ -72,7 +74,7 @@ returns-in-Some-Session-clause-complete g c = of_task _ _ _ (ap Some (sym c.in-S
 
 pub returns-in-Some-Drill-clause-complete : goal.returns-in-Some-Drill-clause-complete
 returns-in-Some-Drill-clause-complete g c = of_task _ _ _ (ap Some (sym c.in-Some-Drill.field-0-is) ∙ c.in-Some-Drill.ensures.task) c.in-Some-Drill.ensures.other
-    (λ calm. drill_ends c.write_year.result _ _ _ (λ is. calm (c.write_year.ensures.write is)) c.write_year.ensures.drills.says)
+    (λ calm. written_finishes c.write_year.result _ _ (λ is. calm (c.write_year.ensures.write is)) c.write_year.ensures.writes.says)
 
 -- ---- the file
 
