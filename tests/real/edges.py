@@ -186,7 +186,7 @@ def under_strace(path, *more):
     """The words that run the program over a journal and trace its calls."""
     if not shutil.which("strace"):
         raise Skipped("strace is not installed")
-    return ["strace", "-y", "-e", "trace=openat,read,write,sendto,fdatasync,ftruncate", *more, program.find(), path]
+    return ["strace", "-y", "-e", "trace=openat,read,write,sendto,setsockopt,fdatasync,ftruncate", *more, program.find(), path]
 
 
 def calls_on(path, log):
@@ -257,6 +257,7 @@ def syncs_of_serve(room):
     order = re.findall(r"^(?:fdatasync|(?:write|sendto)\(\d+<(?:socket|TCP))", log, re.MULTILINE)
     order = "".join("s" if it == "fdatasync" else "r" for it in order)
     same("ss" + 3 * "sr", order, "syncs and responses")
+    same(1, len(re.findall(r"^setsockopt\(.*, TCP_NODELAY, \[1\], 4\) += 0$", log, re.MULTILINE)), "responses leave at once")
 
 
 @case("syncs: one that fails ends with 5; what was answered is there, and at most the command that was being appended")
