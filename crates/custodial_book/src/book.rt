@@ -1,6 +1,7 @@
 //! The book of custodial rows.
 
-ghost use Rattle.std.specs.Prelude.{IsTrue, ◌≡◌, ◌+◌, ◌/◌, ◌<◌, ◌≤◌, max, ◌+ℤ◌, ◌-ℤ◌, ◌≤ℤ◌, pos, neg_ℤ, map, [], ◌∷◌, ◌++◌, length, vec_len, vec_capacity, OnOk, OnErr, IsOk, IfSome};
+ghost use Rattle.std.specs.Prelude.{◌≡◌, ◌+◌, ◌/◌, ◌<◌, ◌≤◌, max, ◌+ℤ◌, ◌-ℤ◌, ◌≤ℤ◌, pos, neg_ℤ, map, [], ◌∷◌, ◌++◌, length, vec_len, vec_capacity, OnOk, OnErr, IsOk, IfSome};
+ghost use Rattle.std.specs.Bool.{Decides};
 ghost use Rattle.std.specs.List.Sorted.{IsNonDecreasingBy};
 ghost use Rattle.custodial_book.specs.declared.part.Account.{Account as AnyAccount};
 ghost use Rattle.custodial_book.specs.declared.row.Totals.{Totals as AnyTotals};
@@ -166,7 +167,7 @@ fn add_changes(entries: &mut Vec<Row>, number: u32, loan: u32, before: &Totals, 
 
 /// Whether no total changed.
 fn are_same(before: &Totals, after: &Totals) -> bool
-    ensures { IsTrue result → before.now ≡ after.now }
+    ensures { Decides result (before.now ≡ after.now) }
 {
     before == after
 }

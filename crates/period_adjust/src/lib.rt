@@ -5,7 +5,6 @@ mod adjustment;
 mod changes;
 mod faults;
 mod law;
-mod lists;
 mod loan_sums;
 mod pending;
 mod report;

@@ -3,7 +3,6 @@
 ghost use Rattle.std.specs.Prelude.{◌≡◌, IfOk};
 
 use crate::adjustment::Adjustment;
-use crate::lists::{Adjustments, ReportLines};
 use crate::report_line::ReportLine;
 use std::marker::Model;
 use svc_base::{Month, OutOfMemory};
@@ -13,8 +12,8 @@ use svc_base::{Month, OutOfMemory};
 #[derive(Drop)]
 pub struct Report {
     month: Month,
-    lines: ReportLines,
-    adjustments: Adjustments,
+    lines: Vec<ReportLine>,
+    adjustments: Vec<Adjustment>,
 }
 
 impl Model for Report {
@@ -22,7 +21,7 @@ impl Model for Report {
 
     ghost Value = { Sealed };
 
-    ghost view = { λ r. record { month = r.month; lines = r.lines; adjustments = r.adjustments } };
+    ghost view = { λ r. record { month = r.month; lines = r.lines.items; adjustments = r.adjustments.items } };
 }
 
 impl Report {
@@ -34,8 +33,8 @@ impl Report {
     {
         Report {
             month,
-            lines: ReportLines::from_vec(lines),
-            adjustments: Adjustments::from_vec(adjustments),
+            lines,
+            adjustments,
         }
     }
 
@@ -50,22 +49,22 @@ impl Report {
     pub fn lines(&self) -> &[ReportLine]
         ensures { result.now ≡ self.now.lines }
     {
-        self.lines.slice()
+        self.lines.as_slice()
     }
 
     /// The adjustments that it sends.
     pub fn adjustments(&self) -> &[Adjustment]
         ensures { result.now ≡ self.now.adjustments }
     {
-        self.adjustments.slice()
+        self.adjustments.as_slice()
     }
 
     /// An equal report; fails for want of memory alone.
     pub fn copy(&self) -> Result<Report, OutOfMemory>
         ensures { IfOk result (λ copy. copy ≡ self.now) }
     {
-        let lines = self.lines.copy()?;
-        let adjustments = self.adjustments.copy()?;
+        let lines = self.lines.clone()?;
+        let adjustments = self.adjustments.clone()?;
         Ok(Report {
             month: self.month,
             lines,

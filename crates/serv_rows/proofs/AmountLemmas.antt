@@ -4,38 +4,15 @@ use Rattle.std.specs.Int.{w128}
 use Rattle.std.specs.Fmt.{decimal}
 use Rattle.std.specs.Prelude.{neg_ℤ, ◌-ℤ◌, ◌<ℤ◌, FitsSigned, get_or}
 use Rattle.std.proofs.lemmas.Int.{ints, to_z_pos, to_z-of_z}
-use Rattle.std.proofs.lemmas.Fmt.{decimal_injective, decimal_digit, first_decimal}
+use Rattle.std.proofs.lemmas.Fmt.{decimal_digit, first_decimal}
 use Rattle.svc_base.specs.Text.{text_of_signed, two_digits, text_of_cents}
-use Rattle.svc_base.proofs.TextLemmas.{front_and_pair}
+use Rattle.svc_base.proofs.TextLemmas.{cents_injective}
 use Rattle.serv_rows.specs.Amounts.{IsBelow}
 
 -- ---- cents
 
-pub no_point : (text : List ℕ) (limit : ℕ) → ((whole : List ℕ) (n : ℕ) → n < 100 → text ≢ whole ++ (46 ∷ two_digits n)) → (n : ℕ) → n < 100 * limit → text ≢ text_of_cents n
-unfolding text_of_cents
-no_point text limit h n below e = h (decimal (n / 100)) (n % 100) (omega arith) e
-
-pub no_units : (text whole : List ℕ) (c limit : ℕ) → c < 100 → text ≡ whole ++ (46 ∷ two_digits c) → limit < 2 ^ 64 → ((m : ℕ) → m < 2 ^ 64 → whole ≢ decimal m) → (n : ℕ) → n < 100 * limit → text ≢ text_of_cents n
-unfolding text_of_cents
-no_units text whole c limit small p fits h n below e = h (n / 100) (omega arith) (front_and_pair whole (decimal (n / 100)) 46 c (n % 100) small (omega arith) (sym p ∙ e)).0
-
-pub large_units : (text whole : List ℕ) (c u limit : ℕ) → c < 100 → text ≡ whole ++ (46 ∷ two_digits c) → whole ≡ decimal u → u < 2 ^ 64 → limit ≤ u → (n : ℕ) → n < 100 * limit → text ≢ text_of_cents n
-unfolding text_of_cents
-large_units text whole c u limit small p q wide large n below e =
-    let same : whole ≡ decimal (n / 100) = (front_and_pair whole (decimal (n / 100)) 46 c (n % 100) small (omega arith) (sym p ∙ e)).0 in
-    let equal : u ≡ n / 100 = decimal_injective u (n / 100) wide (omega arith) (sym q ∙ same) in
-    omega arith
-
-cents_injective : (limit m n : ℕ) → limit < 2 ^ 64 → m < 100 * limit → n < 100 * limit → text_of_cents m ≡ text_of_cents n → m ≡ n
-unfolding text_of_cents
-cents_injective limit m n fits p q e =
-    let parts = front_and_pair (decimal (m / 100)) (decimal (n / 100)) 46 (m % 100) (n % 100) (omega arith) (omega arith) e in
-    let units : m / 100 ≡ n / 100 = decimal_injective (m / 100) (n / 100) (omega arith) (omega arith) parts.0 in
-    let cents : m % 100 ≡ n % 100 = parts.1 in
-    omega arith
-
 pub zero_none : (limit : ℕ) (text : List ℕ) → limit < 2 ^ 64 → text ≡ text_of_cents 0 → (n : ℕ) → 0 < n → n < 100 * limit → text ≢ text_of_cents n
-zero_none limit text fits p n some small e = let zero_is : 0 ≡ n = cents_injective limit 0 n fits (omega arith) small (sym p ∙ e) in omega arith
+zero_none limit text fits p n some small e = let zero_is : 0 ≡ n = cents_injective 0 n (omega arith) (omega arith) (sym p ∙ e) in omega arith
 
 -- ---- amounts
 
@@ -103,11 +80,13 @@ above_none limit text other h (negsuc n) is e = other (text_of_cents (n + 1)) e
 pub signed_injective : (limit : ℕ) (y z : ℤ) → limit < 2 ^ 64 → IsBelow (100 * limit) y → IsBelow (100 * limit) z → text_of_signed y ≡ text_of_signed z → y ≡ z
 unfolding text_of_signed
 signed_injective limit (pos m) (pos n) fits p q e =
-    ap pos (cents_injective limit m n fits (let h : pos m <ℤ pos (100 * limit) = p.high in omega (arith, ints)) (let h : pos n <ℤ pos (100 * limit) = q.high in omega (arith, ints)) e)
+    let low : m < 100 * limit = (let h : pos m <ℤ pos (100 * limit) = p.high in omega (arith, ints)) in
+    let high : n < 100 * limit = (let h : pos n <ℤ pos (100 * limit) = q.high in omega (arith, ints)) in
+    ap pos (cents_injective m n (omega arith) (omega arith) e)
 signed_injective limit (pos m) (negsuc n) fits p q e = absurd (no_minus limit m (text_of_cents (n + 1)) fits (let h : pos m <ℤ pos (100 * limit) = p.high in omega (arith, ints)) e)
 signed_injective limit (negsuc m) (pos n) fits p q e = absurd (no_minus limit n (text_of_cents (m + 1)) fits (let h : pos n <ℤ pos (100 * limit) = q.high in omega (arith, ints)) (sym e))
 signed_injective limit (negsuc m) (negsuc n) fits p q e =
     let low : m + 1 < 100 * limit = (let l : neg_ℤ (pos (100 * limit)) <ℤ negsuc m = p.low in omega (arith, ints)) in
     let high : n + 1 < 100 * limit = (let l : neg_ℤ (pos (100 * limit)) <ℤ negsuc n = q.low in omega (arith, ints)) in
-    let same : m + 1 ≡ n + 1 = cents_injective limit (m + 1) (n + 1) fits low high (tail e) in
+    let same : m + 1 ≡ n + 1 = cents_injective (m + 1) (n + 1) (omega arith) (omega arith) (tail e) in
     ap negsuc (omega arith)

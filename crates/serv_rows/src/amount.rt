@@ -4,21 +4,7 @@ ghost use Rattle.std.specs.Prelude.{◌≡◌, ◌≢◌, ℕ, ℤ, ◌*◌, ◌
 ghost use Rattle.svc_base.specs.Text.{text_of_cents, text_of_signed};
 ghost use Rattle.serv_rows.specs.Amounts.{IsBelow};
 
-use svc_base::{read_digits, split_pair};
-
-/// The cents that a text spells, of fewer units than a limit.
-#[tactic(auto, using(svc_base::proofs::TextLemmas::cents_joined))]
-fn read_cents(text: &[u8], limit: u64) -> Option<u128>
-    ensures read { IfSome result (λ n. (n < 100 * limit) × (text.now ≡ text_of_cents n)) }
-    ensures none { IfNone result ((n : ℕ) → n < 100 * limit → text.now ≢ text_of_cents n) }
-{
-    let (whole, cents) = split_pair(text, b'.')?;
-    let units = read_digits(whole)?;
-    if units >= limit {
-        return None;
-    }
-    Some(100 * u128::from(units) + u128::from(cents))
-}
+use svc_base::read_cents;
 
 /// The cents above 0 that a text spells, of fewer units than a limit.
 fn read_some(text: &[u8], limit: u64) -> Option<u128>

@@ -1,14 +1,12 @@
 -- Spellings: what they look like, and that no two values share one.
-use Rattle.std.proofs.Common.{◌≡◌, ◌≢◌, ℕ, ◌+◌, ◌^◌, ◌<◌, ◌≤◌, List, [], ◌∷◌, ◌++◌, length, get_or, arith, sym, subst, ap, ◌∙◌, refl, Option, Some, None, zero, suc, lit<, ◌⊎◌, inl, inr, SomeIff, IfSome, IfNone, IsTrue, true, false, take, drop, length-append, ℤ, pos, negsuc, ◌≤ℤ◌, ◌<ℤ◌, ◌==◌, ◌-◌, ◌/◌, ◌%◌, ◌*◌}
-use Rattle.std.proofs.lemmas.Fmt.{decimal_is_IsNumeral, first_decimal, decimal-digits_value, decimal_injective, decimal_digit, decimal_by_steps}
+use Rattle.std.proofs.Common.{◌≡◌, ◌≢◌, ℕ, ◌+◌, ◌^◌, ◌<◌, ◌≤◌, List, ◌∷◌, ◌++◌, length, get_or, arith, sym, subst, ap, ◌∙◌, refl, Option, Some, None, zero, suc, lit<, ◌⊎◌, inl, inr, SomeIff, IfSome, IfNone, IsTrue, true, false, take, drop, length-append, ℤ, pos, negsuc, ◌≤ℤ◌, ◌<ℤ◌, ◌-◌, ◌/◌, ◌%◌, ◌*◌}
+use Rattle.std.proofs.lemmas.Fmt.{decimal_is_IsNumeral, first_decimal, decimal-digits_value, decimal_injective, decimal_digit}
 use Rattle.std.proofs.lemmas.Int.{ints}
-use Rattle.std.proofs.lemmas.List.Elements.{All-cons, All-nil, All-append}
-use Rattle.std.specs.List.{All}
 use Rattle.std.proofs.lemmas.Str.Parse.{numerals_by_value, tells_digits, digit_at}
 use Rattle.std.specs.Str.Parse.{IsNumeral, digits_value, AllDigits}
 use Rattle.std.specs.Fmt.{decimal}
 use Rattle.std.proofs.Math.Seq.{take-append_seam, drop-append_seam}
-use Rattle.svc_base.specs.Text.{text_of_number, text_of_signed, two_digits, four_digits, text_of_cents, text_of_amount, text_of_month, text_of_day, IsReadAmount, IsReadMonth, IsCivilMonth, IsCivilDay, IsOtherYear}
+use Rattle.svc_base.specs.Text.{text_of_number, two_digits, four_digits, text_of_cents, text_of_amount, text_of_month, text_of_day, IsReadAmount, IsReadMonth, IsCivilMonth, IsCivilDay, IsOtherYear}
 use Rattle.svc_base.specs.Calendar.{month_length, IsReadDay}
 use Rattle.svc_base.specs.DayLemmas.{month_length_most}
 
@@ -81,17 +79,17 @@ cents_joined whole u c n p small e =
     let cents : n % 100 ≡ c = omega arith in
     cc
 
-pub no_point : (text : List ℕ) → ((whole : List ℕ) (n : ℕ) → n < 100 → text ≢ whole ++ (46 ∷ two_digits n)) → (n : ℕ) → n < 10 ^ 13 → text ≢ text_of_cents n
+pub no_point : (text : List ℕ) (limit : ℕ) → ((whole : List ℕ) (n : ℕ) → n < 100 → text ≢ whole ++ (46 ∷ two_digits n)) → (n : ℕ) → n < 100 * limit → text ≢ text_of_cents n
 unfolding text_of_cents
-no_point text h n small e = h (decimal (n / 100)) (n % 100) (omega arith) e
+no_point text limit h n below e = h (decimal (n / 100)) (n % 100) (omega arith) e
 
-pub no_units : (text whole : List ℕ) (c : ℕ) → c < 100 → text ≡ whole ++ (46 ∷ two_digits c) → ((m : ℕ) → m < 2 ^ 64 → whole ≢ decimal m) → (n : ℕ) → n < 10 ^ 13 → text ≢ text_of_cents n
+pub no_units : (text whole : List ℕ) (c limit : ℕ) → c < 100 → text ≡ whole ++ (46 ∷ two_digits c) → limit < 2 ^ 64 → ((m : ℕ) → m < 2 ^ 64 → whole ≢ decimal m) → (n : ℕ) → n < 100 * limit → text ≢ text_of_cents n
 unfolding text_of_cents
-no_units text whole c small p h n fits e = h (n / 100) (omega arith) (front_and_pair whole (decimal (n / 100)) 46 c (n % 100) small (omega arith) (sym p ∙ e)).0
+no_units text whole c limit small p fits h n below e = h (n / 100) (omega arith) (front_and_pair whole (decimal (n / 100)) 46 c (n % 100) small (omega arith) (sym p ∙ e)).0
 
-pub large_units : (text whole : List ℕ) (c u : ℕ) → c < 100 → text ≡ whole ++ (46 ∷ two_digits c) → whole ≡ decimal u → u < 2 ^ 64 → 10 ^ 11 ≤ u → (n : ℕ) → n < 10 ^ 13 → text ≢ text_of_cents n
+pub large_units : (text whole : List ℕ) (c u limit : ℕ) → c < 100 → text ≡ whole ++ (46 ∷ two_digits c) → whole ≡ decimal u → u < 2 ^ 64 → limit ≤ u → (n : ℕ) → n < 100 * limit → text ≢ text_of_cents n
 unfolding text_of_cents
-large_units text whole c u small p q wide large n fits e =
+large_units text whole c u limit small p q wide large n below e =
     let same : whole ≡ decimal (n / 100) = (front_and_pair whole (decimal (n / 100)) 46 c (n % 100) small (omega arith) (sym p ∙ e)).0 in
     let equal : u ≡ n / 100 = decimal_injective u (n / 100) wide (omega arith) (sym q ∙ same) in
     omega arith
@@ -175,7 +173,7 @@ no_such_day text whole m k civil small p q h d is e =
     let absent : false ≡ true = h (omega arith, omega arith) in
     cc
 
-pub cents_injective : (m n : ℕ) → m < 2 ^ 64 → n < 2 ^ 64 → text_of_cents m ≡ text_of_cents n → m ≡ n
+pub cents_injective : (m n : ℕ) → m < 100 * 2 ^ 64 → n < 100 * 2 ^ 64 → text_of_cents m ≡ text_of_cents n → m ≡ n
 unfolding text_of_cents
 cents_injective m n p q e =
     let parts = front_and_pair (decimal (m / 100)) (decimal (n / 100)) 46 (m % 100) (n % 100) (omega arith) (omega arith) e in
@@ -207,14 +205,8 @@ number_injective m n p q e = decimal_injective m n p q e
 
 pub amount_injective : (y z : ℤ) → IsReadAmount y → IsReadAmount z → text_of_amount y ≡ text_of_amount z → y ≡ z
 amount_injective (pos m) (pos n) p q e =
-    let low : m < 2 ^ 64 = (let h : pos m <ℤ pos (10 ^ 13) = p.high in grind (arith, ints)) in
-    let high : n < 2 ^ 64 = (let h : pos n <ℤ pos (10 ^ 13) = q.high in grind (arith, ints)) in
+    let low : m < 100 * 2 ^ 64 = (let h : pos m <ℤ pos (10 ^ 13) = p.high in omega (arith, ints)) in
+    let high : n < 100 * 2 ^ 64 = (let h : pos n <ℤ pos (10 ^ 13) = q.high in omega (arith, ints)) in
     ap pos (cents_injective m n low high e)
 amount_injective (pos m) (negsuc n) p q e = absurd (let h : pos 0 ≤ℤ negsuc n = q.low in grind (arith, ints))
 amount_injective (negsuc m) z p q e = absurd (let h : pos 0 ≤ℤ negsuc m = p.low in grind (arith, ints))
-
--- an amount that is not below zero has no sign
-pub signed_is_amount : (z : ℤ) → pos 0 ≤ℤ z → text_of_signed z ≡ text_of_amount z
-unfolding text_of_signed
-signed_is_amount (pos n) h = refl
-signed_is_amount (negsuc n) h = absurd (grind (arith, ints))

@@ -19,9 +19,7 @@ pub use day_fault::DayFault;
 pub use money::{Cents, Rate, day_interest, month_interest, share_bp};
 pub use month::Month;
 pub use out_of_memory::OutOfMemory;
-pub use reading::{
-    read_amount, read_civil_month, read_day, read_digits, read_month, read_number, split_pair,
-};
+pub use reading::{read_amount, read_cents, read_civil_month, read_day, read_month, read_number};
 pub use room::make_room;
 pub use steps::Steps;
 pub use writing::{push_signed, write_day, write_month};

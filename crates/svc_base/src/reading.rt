@@ -56,7 +56,7 @@ fn parse_digits(text: &[u8]) -> Option<u64>
 
 /// The number below 2^64 that a text spells in decimal digits without a leading zero.
 #[tactic(auto, using(crate::proofs::TextLemmas::reading))]
-pub fn read_digits(text: &[u8]) -> Option<u64>
+fn read_digits(text: &[u8]) -> Option<u64>
     ensures read { IfSome result (λ n. text.now ≡ text_of_number n) }
     ensures none { IfNone result ((n : ℕ) → n < 2 ^ 64 → text.now ≢ text_of_number n) }
 {
@@ -87,7 +87,7 @@ fn read_pair(tens: u8, ones: u8) -> Option<u32>
 }
 
 /// What stands before a mark and two digits at a text's end, and the number that they spell.
-pub fn split_pair(text: &[u8], mark: u8) -> Option<(&[u8], u32)>
+fn split_pair(text: &[u8], mark: u8) -> Option<(&[u8], u32)>
     ensures read { IfSome result (λ p. (p.1 < 100) × (text.now ≡ p.0.now ++ (mark ∷ two_digits p.1))) }
     ensures none { IfNone result ((whole : List ℕ) (n : ℕ) → n < 100 →
         text.now ≢ whole ++ (mark ∷ two_digits n)) }
@@ -100,18 +100,18 @@ pub fn split_pair(text: &[u8], mark: u8) -> Option<(&[u8], u32)>
     Some((whole, number))
 }
 
-/// The cents below 10^13 that a text spells.
+/// The cents that a text spells with two decimals, of fewer whole units than a limit.
 #[tactic(auto, using(crate::proofs::TextLemmas::cents_joined))]
-fn read_cents(text: &[u8]) -> Option<u64>
-    ensures read { IfSome result (λ n. (n < 10 ^ 13) × (text.now ≡ text_of_cents n)) }
-    ensures none { IfNone result ((n : ℕ) → n < 10 ^ 13 → text.now ≢ text_of_cents n) }
+pub fn read_cents(text: &[u8], limit: u64) -> Option<u128>
+    ensures read { IfSome result (λ n. (n < 100 * limit) × (text.now ≡ text_of_cents n)) }
+    ensures none { IfNone result ((n : ℕ) → n < 100 * limit → text.now ≢ text_of_cents n) }
 {
     let (whole, cents) = split_pair(text, b'.')?;
     let units = read_digits(whole)?;
-    if units >= 100_000_000_000 {
+    if units >= limit {
         return None;
     }
-    Some(100 * units + u64::from(cents))
+    Some(100 * u128::from(units) + u128::from(cents))
 }
 
 /// The amount that a text spells: 1 to 11 digits, a point and two digits, as `1199.10`.
@@ -120,7 +120,7 @@ pub fn read_amount(text: &[u8]) -> Option<Cents>
     ensures range { IfSome result IsReadAmount }
     ensures none { IfNone result ((z : ℤ) → IsReadAmount z → text.now ≢ text_of_amount z) }
 {
-    let cents = read_cents(text)?;
+    let cents = read_cents(text, 100_000_000_000)?;
     Some(cents as Cents)
 }
 

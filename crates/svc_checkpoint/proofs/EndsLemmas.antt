@@ -13,7 +13,6 @@ use Rattle.svc_base.specs.DayLemmas.{month_length_most, month_length_least}
 use Rattle.svc_types.specs.declared.terms.Terms.{Terms}
 use Rattle.svc_types.specs.declared.books.Books.{Books}
 use Rattle.svc_types.specs.declared.account.Entry.{Entry}
-use Rattle.svc_types.specs.Terms.{IsSound}
 use Rattle.svc_spec.specs.Books.{AreBooks, boarding_plan}
 use Rattle.svc_spec.specs.Entries.{AreEntries}
 use Rattle.svc_spec.specs.Events.{books_at}
@@ -29,10 +28,11 @@ use Rattle.svc_spec.proofs.StepsLemmas.{counted_from_end, counted_on, day_within
 use Rattle.svc_replay.specs.declared.cursor.Lates.{Lates}
 use Rattle.svc_replay.specs.declared.cursor.Cursor.{Cursor}
 use Rattle.svc_replay.specs.Left.{AreLates, IsPlace}
-use Rattle.svc_checkpoint.specs.declared.collected.Collected.{Collected}
+use Rattle.svc_replay.specs.declared.collected.Collected.{Collected}
 use Rattle.svc_checkpoint.specs.declared.month_end.MonthEnd.{MonthEnd}
 use Rattle.svc_checkpoint.specs.declared.plans.Plans.{Plans}
-use Rattle.svc_checkpoint.specs.Collected.{collected_of, AreWithin}
+use Rattle.svc_replay.specs.Collected.{collected_of, AreWithin}
+use Rattle.svc_replay.proofs.PlainLemmas.{within_books}
 use Rattle.svc_checkpoint.specs.Plans.{plan_by, plan_with, IsNumber, AreNamed}
 use Rattle.svc_checkpoint.specs.Ends.{kept_of, books_from, collected_by, IsEnd, AreEnds, AreChecked, counted_before, day_before}
 use Rattle.svc_checkpoint.proofs.PlanLemmas.{AreKnown, account_known}
@@ -154,21 +154,6 @@ pub end_books : (a : Account) (d : ℕ) (e : MonthEnd) → IsAccount a → IsEnd
 end_books a d e h is = subst (AreBooks a.terms) (sym is.books) (account_books a d h)
 
 -- what was collected
-pub within_books : (t : Terms) (b : Books) → IsSound t → AreBooks t b → AreWithin (collected_of b)
-within_books t b sound h =
-    let most = sound.principal_high in
-    let high = h.signs.upb_high in
-    record {
-      upb_low = h.signs.upb_low;
-      upb_high = omega (arith, ints);
-      curtailed_low = h.signs.curtailed;
-      curtailed_high = h.within.curtailed;
-      interest_low = h.signs.interest;
-      interest_high = h.within.interest;
-      fee_low = h.signs.fee;
-      fee_high = h.within.fee;
-    }
-
 pub end_collected : (a : Account) (d : ℕ) (e : MonthEnd) → IsEnd a d e → collected_by e ≡ collected_of (books_of a d)
 end_collected a d e is = ap collected_of is.books
 

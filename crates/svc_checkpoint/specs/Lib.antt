@@ -1,4 +1,3 @@
-pub mod Collected
 pub mod Ends
 pub mod Plans
 pub mod WorkedLoans

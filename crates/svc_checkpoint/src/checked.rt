@@ -4,14 +4,15 @@ ghost use Rattle.std.specs.Prelude.{◌≡◌, ◌-◌, ◌<◌, MatchOption, If
 ghost use Rattle.svc_base.specs.Calendar.{month_of as month_number};
 ghost use Rattle.svc_spec.specs.Accounts.{entry_of};
 
-use crate::collected::facts_between;
 use crate::ends::{collected_before, collected_by, folded, push_on, refreshed};
 use crate::month_end::MonthEnd;
 use std::alloc::Global;
 use std::marker::Model;
 use std::sync::ledger::Ledger;
 use svc_base::{Day, Month, OutOfMemory, Steps, make_room, month_of};
-use svc_replay::{BookFault, Cursor, Lates, LoanAccount, LoanBooks, fold_last, fold_on};
+use svc_replay::{
+    BookFault, Cursor, Lates, LoanAccount, LoanBooks, facts_between, fold_last, fold_on,
+};
 use svc_types::{Books, Entry, MonthFacts, Terms};
 
 /// By how many months at least the list of their ends grows: by twice those for which room is made ahead, so that it grows

@@ -2,7 +2,6 @@
 #![tactic(auto)]
 
 mod checked;
-mod collected;
 mod ends;
 mod month_end;
 mod plans;

@@ -4,8 +4,8 @@ ghost use Rattle.std.specs.Prelude.{◌≡◌, pos, ◌-ℤ◌, ◌≤ℤ◌};
 ghost use Rattle.svc_types.specs.Terms.{IsSound};
 ghost use Rattle.svc_checkpoint.specs.Ends as rule;
 
-use crate::collected::Collected;
 use svc_base::{Cents, Day};
+use svc_replay::Collected;
 use svc_types::{Books, EscrowPlan, Terms};
 
 /// The books at a month's end, in half of their size: without what the loan's account says. The day is that of the end's

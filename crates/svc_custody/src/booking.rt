@@ -1,6 +1,7 @@
 //! The cash side of a command: its rows, the custodial line after it, and what custody holds for each loan.
 
-ghost use Rattle.std.specs.Prelude.{◌≡◌, ◌+◌, ◌*◌, ◌≤◌, ◌<◌, ◌++◌, length, set, slice_index_or, IsTrue};
+ghost use Rattle.std.specs.Prelude.{◌≡◌, ◌+◌, ◌*◌, ◌≤◌, ◌<◌, ◌++◌, length, set, slice_index_or};
+ghost use Rattle.std.specs.Bool.{Decides};
 ghost use Rattle.std.specs.List.{All};
 ghost use Rattle.custodial_book.specs.Rows.{rows_of};
 ghost use Rattle.svc_world.specs.Custody.{custody_of};
@@ -113,7 +114,7 @@ fn move_to(cash: &mut Cash, number: u32, loan: u32, place: usize, later: &Positi
 /// Whether custody holds the same.
 #[inline(always)]
 fn is_same(before: &Position, later: &Position) -> bool
-    ensures { IsTrue result → before.now ≡ later.now }
+    ensures { Decides result (before.now ≡ later.now) }
 {
     before == later
 }

@@ -2,8 +2,13 @@
 use Rattle.std.proofs.Common.{◌≡◌, ℕ, FitsSigned, w64, to_z, of_z, arith, refl}
 use Rattle.std.proofs.lemmas.Int.{ints, to_z-of_z}
 use Rattle.std.specs.Prelude.{ℤ, pos, ◌-ℤ◌, ◌≤ℤ◌, Option, Some, None, MatchOption, Bool}
+use Rattle.svc_types.specs.Terms.{IsSound}
+use Rattle.svc_types.specs.declared.terms.Terms.{Terms}
+use Rattle.svc_types.specs.declared.books.Books.{Books}
 use Rattle.svc_types.specs.declared.books.MonthFacts.{MonthFacts}
 use Rattle.svc_types.specs.declared.account.Entry.{Entry}
+use Rattle.svc_spec.specs.Books.{AreBooks}
+use Rattle.svc_replay.specs.Collected.{collected_of, AreWithin}
 
 -- a fact of the entry that is found, where one is
 pub of_found : (o : Option Entry) (P : Type 0) (Q : Entry → Type 0) → (o ≡ None → ⊥) → ((e : Entry) → Q e) → MatchOption o P Q
@@ -22,3 +27,19 @@ pub cast_less : (x y : ℤ) → pos 0 ≤ℤ x → x ≤ℤ pos 1_000_000_000_00
 cast_less x y low high low' high' =
     let fits : FitsSigned w64 (x -ℤ y) = omega (arith, ints) in
     rw (cast_same x low high, cast_same y low' high') (simp to_z-of_z)
+
+-- what books say of what was collected lies within limits
+pub within_books : (t : Terms) (b : Books) → IsSound t → AreBooks t b → AreWithin (collected_of b)
+within_books t b sound h =
+    let most = sound.principal_high in
+    let high = h.signs.upb_high in
+    record {
+      upb_low = h.signs.upb_low;
+      upb_high = omega (arith, ints);
+      curtailed_low = h.signs.curtailed;
+      curtailed_high = h.within.curtailed;
+      interest_low = h.signs.interest;
+      interest_high = h.within.interest;
+      fee_low = h.signs.fee;
+      fee_high = h.within.fee;
+    }

@@ -1,10 +1,8 @@
 -- What an implementation of a loan's books keeps: its account, and for how much more it has room.
 use Rattle.std.specs.Prelude.{◌≡◌, ◌≢◌, ℕ, ◌+◌, ◌≤◌, ◌<◌, ◌==◌, Option, None, Some, List, length, get_or, map}
 use Rattle.std.specs.List.{All, find}
-use Rattle.svc_types.specs.declared.terms.Terms.{Terms}
 use Rattle.svc_types.specs.declared.books.Books.{Books}
 use Rattle.svc_types.specs.declared.account.Entry.{Entry}
-use Rattle.svc_types.specs.Terms.{IsSound}
 use Rattle.svc_spec.specs.Books.{AreBooks}
 use Rattle.svc_spec.specs.Events.{events_to}
 use Rattle.svc_spec.specs.Accounts.{Account, IsAccount, live_of, books_of, reverser_of}
@@ -64,12 +62,6 @@ pub record AreNow (a : Account) (b : Books) : Type 0 where
   pub account : IsAccount a
   pub now : b ≡ books_of a a.today
   pub sound : AreBooks a.terms b
-
--- the books of some loan
-pub record AreOfLoan (b : Books) : Type 0 where
-  pub terms : Terms
-  pub sound : IsSound terms
-  pub books : AreBooks terms b
 
 -- nothing happens to a loan after a day, up to the business day
 abbrev pub IsQuietAfter : Account → ℕ → Type 0

@@ -4,6 +4,7 @@
 mod account;
 mod arrears;
 mod brief;
+mod collected;
 mod cursor;
 mod entries;
 mod fault;
@@ -17,6 +18,7 @@ mod rows;
 
 pub use account::LoanAccount;
 pub use arrears::arrears_are_least;
+pub use collected::{Collected, facts_between};
 pub use cursor::{Cursor, Lates};
 pub use entries::Live;
 pub use fault::BookFault;
@@ -24,5 +26,5 @@ pub use folding::{fold_along, fold_last, fold_on, refold};
 pub use history_lines::history;
 pub use laws::{agree, events_stand_in_order, histories_add_up};
 pub use loan_books::LoanBooks;
-pub use plain::{Plain, facts_between};
+pub use plain::Plain;
 pub use rows::{worked_accounts, worked_costs, worked_totals};

@@ -5,9 +5,9 @@ ghost use Rattle.svc_base.specs.Calendar.{month_of as month_number};
 ghost use Rattle.svc_spec.specs.Accounts.{IsAccount};
 ghost use Rattle.svc_spec.specs.Books.{AreBooks};
 ghost use Rattle.svc_spec.specs.Months as months;
-ghost use Rattle.svc_replay.specs.Kept.{AreOfLoan};
 
 use crate::account::LoanAccount;
+use crate::collected::{Collected, facts_between};
 use crate::fault::BookFault;
 use crate::loan_books::LoanBooks;
 use std::alloc::Global;
@@ -124,7 +124,9 @@ impl LoanBooks for Plain {
     fn month<L: Ledger>(&self, month: Month, steps: &mut Steps<L>) -> MonthFacts {
         let before = books_before(&self.kept, month, steps);
         let after = self.kept.refolded(end_day(&self.kept, month), steps);
-        facts_between(month, &before, &after)
+        let first = Collected::of(&before);
+        let last = Collected::of(&after);
+        facts_between(month, &first, &last)
     }
 }
 
@@ -156,20 +158,4 @@ fn books_before<L: Ledger>(kept: &LoanAccount, month: Month, steps: &mut Steps<L
         return start(kept.terms());
     }
     kept.refolded(last_day(month.previous()), steps)
-}
-
-/// What a month did, by the books before it and at its end.
-pub fn facts_between(month: Month, before: &Books, after: &Books) -> MonthFacts
-    requires before { AreOfLoan before.now }
-    requires after { AreOfLoan after.now }
-    ensures { result ≡ months.facts_between month before.now after.now }
-{
-    MonthFacts {
-        month,
-        upb: after.upb,
-        curtailed: after.curtailed - before.curtailed,
-        interest: after.interest - before.interest,
-        fee: after.fee - before.fee,
-        satisfied: after.upb <= 0,
-    }
 }

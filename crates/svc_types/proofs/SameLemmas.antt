@@ -3,6 +3,7 @@ use Rattle.std.proofs.Common.{◌≡◌, ℕ, ℤ, refl, ap}
 use Rattle.std.specs.Prelude.{◌==◌}
 use Rattle.std.specs.Bool.{Decides}
 use Rattle.std.proofs.lemmas.Bool.Decides.{Decides-eqb, Decides-int_eq, Decides-and, Decides-like}
+use Rattle.svc_base.proofs.EqualLemmas.{Decides-pair, Decides-fields}
 use Rattle.svc_types.specs.declared.account.Designation.{Designation}
 use Rattle.svc_types.specs.declared.account.Designation.TheVariants as over
 use Rattle.svc_types.specs.declared.terms.RemitType.{RemitType}
@@ -52,33 +53,44 @@ decides_part part.Within30 part.Within30 = (λ h. refl, λ h. refl)
 decides_part (part.Spread m) (part.Spread n) = Decides-like (m == n) (λ h. ap part.Spread h) (λ h. cc) (Decides-eqb m n)
 decides_part a b = (λ h. cc, λ h. cc)
 
-same_plan : (s s' : SurplusPlan) (h h' d d' : PartPlan) → s ≡ s' → h ≡ h' → d ≡ d' → (let x : Plan = record { surplus = s; short = h; deficient = d } in let y : Plan = record { surplus = s'; short = h'; deficient = d' } in x ≡ y)
-same_plan s s' h h' d d' p q r = cc
+plan_of : SurplusPlan × (PartPlan × PartPlan) → Plan
+plan_of (surplus, (short, deficient)) = record { surplus = surplus; short = short; deficient = deficient }
 
 decides_plan : (a b : Plan) → Decides (is_same_plan a b) (a ≡ b)
-unfolding is_same_plan
+unfolding is_same_plan plan_of
 decides_plan a b =
-    Decides-like (is_same_plan a b)
-    (λ h. same_plan a.surplus b.surplus a.short b.short a.deficient b.deficient h.0 h.1.0 h.1.1)
-    (λ e. (ap (λ (p : Plan). p.surplus) e, (ap (λ (p : Plan). p.short) e, ap (λ (p : Plan). p.deficient) e)))
-    (Decides-and _ _ (decides_surplus a.surplus b.surplus)
-    (Decides-and _ _ (decides_part a.short b.short) (decides_part a.deficient b.deficient)))
+    Decides-fields (λ (p : Plan). (p.surplus, (p.short, p.deficient))) plan_of (λ p. refl) _ a b
+    (Decides-pair _ _ (decides_surplus a.surplus b.surplus)
+    (Decides-pair _ _ (decides_part a.short b.short) (decides_part a.deficient b.deficient)))
 
-same_fields : (boarded1 boarded2 : ℕ) (principal1 principal2 : ℤ) (rate1 rate2 : ℕ) (fee1 fee2 : ℕ) (pi1 pi2 : ℤ) (term1 term2 : ℕ) (first1 first2 : ℕ) (grace1 grace2 : ℕ) (late1 late2 : ℕ) (cushion1 cushion2 : ℕ) (escrow1 escrow2 : ℤ) (kind1 kind2 : RemitType) → boarded1 ≡ boarded2 → principal1 ≡ principal2 → rate1 ≡ rate2 → fee1 ≡ fee2 → pi1 ≡ pi2 → term1 ≡ term2 → first1 ≡ first2 → grace1 ≡ grace2 → late1 ≡ late2 → cushion1 ≡ cushion2 → escrow1 ≡ escrow2 → kind1 ≡ kind2 → (let x : Terms = record { boarded = boarded1; principal = principal1; rate = rate1; fee = fee1; pi = pi1; term = term1; first = first1; grace = grace1; late = late1; cushion = cushion1; escrow = escrow1; kind = kind1 } in let y : Terms = record { boarded = boarded2; principal = principal2; rate = rate2; fee = fee2; pi = pi2; term = term2; first = first2; grace = grace2; late = late2; cushion = cushion2; escrow = escrow2; kind = kind2 } in x ≡ y)
-same_fields boarded1 boarded2 principal1 principal2 rate1 rate2 fee1 fee2 pi1 pi2 term1 term2 first1 first2 grace1 grace2 late1 late2 cushion1 cushion2 escrow1 escrow2 kind1 kind2 e1 e2 e3 e4 e5 e6 e7 e8 e9 e10 e11 e12 = cc
+terms_of : ℕ × (ℤ × (ℕ × (ℕ × (ℤ × (ℕ × (ℕ × (ℕ × (ℕ × (ℕ × (ℤ × RemitType)))))))))) → Terms
+terms_of (boarded, (principal, (rate, (fee, (pi, (term, (first, (grace, (late, (cushion, (escrow, kind))))))))))) = record {
+  boarded = boarded;
+  principal = principal;
+  rate = rate;
+  fee = fee;
+  pi = pi;
+  term = term;
+  first = first;
+  grace = grace;
+  late = late;
+  cushion = cushion;
+  escrow = escrow;
+  kind = kind;
+}
 
 decides_terms : (a b : Terms) → Decides (is_same_terms a b) (a ≡ b)
-unfolding is_same_terms
+unfolding is_same_terms terms_of
 decides_terms a b =
-    Decides-like (is_same_terms a b)
-    (λ h. same_fields _ _ _ _ _ _ _ _ _ _ _ _ _ _ _ _ _ _ _ _ _ _ _ _ h.0 h.1.0 h.1.1.0 h.1.1.1.0 h.1.1.1.1.0 h.1.1.1.1.1.0 h.1.1.1.1.1.1.0 h.1.1.1.1.1.1.1.0 h.1.1.1.1.1.1.1.1.0 h.1.1.1.1.1.1.1.1.1.0 h.1.1.1.1.1.1.1.1.1.1.0 h.1.1.1.1.1.1.1.1.1.1.1)
-    (λ e. (ap (λ (t : Terms). t.boarded) e, (ap (λ (t : Terms). t.principal) e, (ap (λ (t : Terms). t.rate) e, (ap (λ (t : Terms). t.fee) e, (ap (λ (t : Terms). t.pi) e, (ap (λ (t : Terms). t.term) e, (ap (λ (t : Terms). t.first) e, (ap (λ (t : Terms). t.grace) e, (ap (λ (t : Terms). t.late) e, (ap (λ (t : Terms). t.cushion) e, (ap (λ (t : Terms). t.escrow) e, ap (λ (t : Terms). t.kind) e))))))))))))
-    (Decides-and _ _ (Decides-eqb a.boarded b.boarded) (Decides-and _ _ (Decides-int_eq a.principal b.principal)
-    (Decides-and _ _ (Decides-eqb a.rate b.rate) (Decides-and _ _ (Decides-eqb a.fee b.fee)
-    (Decides-and _ _ (Decides-int_eq a.pi b.pi) (Decides-and _ _ (Decides-eqb a.term b.term)
-    (Decides-and _ _ (Decides-eqb a.first b.first) (Decides-and _ _ (Decides-eqb a.grace b.grace)
-    (Decides-and _ _ (Decides-eqb a.late b.late) (Decides-and _ _ (Decides-eqb a.cushion b.cushion)
-    (Decides-and _ _ (Decides-int_eq a.escrow b.escrow) (decides_type a.kind b.kind))))))))))))
+    Decides-fields
+    (λ (t : Terms). (t.boarded, (t.principal, (t.rate, (t.fee, (t.pi, (t.term, (t.first, (t.grace, (t.late, (t.cushion, (t.escrow, t.kind))))))))))))
+    terms_of (λ t. refl) _ a b
+    (Decides-pair _ _ (Decides-eqb a.boarded b.boarded) (Decides-pair _ _ (Decides-int_eq a.principal b.principal)
+    (Decides-pair _ _ (Decides-eqb a.rate b.rate) (Decides-pair _ _ (Decides-eqb a.fee b.fee)
+    (Decides-pair _ _ (Decides-int_eq a.pi b.pi) (Decides-pair _ _ (Decides-eqb a.term b.term)
+    (Decides-pair _ _ (Decides-eqb a.first b.first) (Decides-pair _ _ (Decides-eqb a.grace b.grace)
+    (Decides-pair _ _ (Decides-eqb a.late b.late) (Decides-pair _ _ (Decides-eqb a.cushion b.cushion)
+    (Decides-pair _ _ (Decides-int_eq a.escrow b.escrow) (decides_type a.kind b.kind))))))))))))
 
 pub decides_same : (a b : Command) → Decides (is_same a b) (a ≡ b)
 unfolding is_same

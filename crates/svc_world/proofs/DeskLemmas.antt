@@ -1,5 +1,5 @@
--- What is said of the commands with their replies; and quotes come true.
-use Rattle.std.proofs.Common.{◌≡◌, ℕ, ◌+◌, false, List, [], ◌∷◌, ◌++◌, map, length, arith, refl, ap, ◌∙◌}
+-- Quotes come true.
+use Rattle.std.proofs.Common.{◌≡◌, ℕ, ◌+◌, false, List, [], ◌∷◌, ◌++◌, map, length, refl, ap, ◌∙◌}
 use Rattle.std.specs.Prelude.{nat_le, Some, None, ℤ}
 use Rattle.std.specs.Option.{option_map}
 use Rattle.svc_types.specs.declared.requests.Command.TheVariants as command
@@ -8,26 +8,15 @@ use Rattle.svc_types.specs.declared.replies.Refusal.TheVariants.{DayNotLater}
 use Rattle.custodial_book.specs.declared.row.Row.{Row}
 use Rattle.svc_world.specs.declared.answer.Answer.TheVariants as answer
 use Rattle.svc_world.specs.Held.{Held, find_loan, on_day}
-use Rattle.svc_world.specs.World.{World, Accepted, accepted, after, loans_after, world, first_world}
+use Rattle.svc_world.specs.World.{World, Accepted, accepted, after, loans_after, world}
 use Rattle.svc_world.specs.Worlds.{IsHeld}
 use Rattle.svc_world.specs.Refusals.{case, refusal_of, full_of_commands, cases_by_command, payoff_due_on}
 use Rattle.svc_world.specs.Judging.{Fresh, judged, IsHistory}
-use Rattle.svc_world.specs.Desk.{Posting, postings_from, postings, books_on, quoted, per_day}
+use Rattle.svc_world.specs.Desk.{Posting, books_on, quoted, per_day}
 use Rattle.svc_world.specs.Answers.{answer_from, answer_to}
 use Rattle.svc_world.proofs.CaseLemmas.{past}
 use Rattle.svc_world.proofs.LoanListLemmas.{find_mapped, found_all}
 use Rattle.svc_world.proofs.HistoryLemmas.{fresh_none, is_world, world-push}
-
--- ---- the commands with their replies
-
-count_from : (n : ℕ) (w : World) (h : List Accepted) → length (postings_from n w h) ≡ length h
-unfolding postings_from
-count_from n w [] = refl
-count_from n w (a ∷ more) = let rest = count_from (n + 1) (after (n + 1) w a.command) more in omega (arith, rest)
-
--- each command has one
-pub postings_count : (h : List Accepted) → length (postings h) ≡ length h
-postings_count h = count_from 0 first_world h
 
 -- ---- quotes come true
 

@@ -51,5 +51,5 @@ loop-k-preserved c =
 
 pub returns-then-are_same-clause-items : goal.returns-then-are_same-clause-items
 returns-then-are_same-clause-items c =
-    let same = c.are_same.ensures c.if-are_same.true in
+    let same = c.are_same.ensures.0 c.if-are_same.true in
     sym (append-nil c.args.entries.now.items) ∙ ap (λ rs. c.args.entries.now.items ++ rs) (sym (no_rows c.args.number c.args.loan c.args.before.now c.args.after.now same))

@@ -10,7 +10,7 @@ use Rattle.svc_custody.proofs.booking.move_to.Goals as goal
 
 -- what custody held is what it holds then
 stays : (c : goal.Then-is_same) (d : Position) → get_or c.args.cash.now.positions.items c.args.place d ≡ c.args.later.now
-stays c d = sym (c.at-before.ensures d) ∙ c.is_same.ensures c.if-is_same.true
+stays c d = sym (c.at-before.ensures d) ∙ c.is_same.ensures.0 c.if-is_same.true
 
 pub returns-then-is_same-clause-rows : goal.returns-then-is_same-clause-rows
 returns-then-is_same-clause-rows c d =

@@ -1,4 +1,4 @@
-use Rattle.std.proofs.Common.{◌≡◌, ◌==◌, ◌∙◌, sym, Bool, ◌&&◌, refl, ap}
+use Rattle.std.proofs.Common.{◌≡◌, ◌==◌, ◌∙◌, sym, ◌&&◌, refl, ap}
 use Rattle.svc_base.proofs.EqualLemmas.{test_of}
 use Rattle.svc_types.specs.contracts.requests.CommandPartialEq.TheImpl.Laws.{laws-law}
 use Rattle.svc_types.specs.contracts.terms.TermsPartialEq.TheImpl.Laws.{laws-law as terms-law}

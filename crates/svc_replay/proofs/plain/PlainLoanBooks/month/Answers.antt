@@ -3,6 +3,8 @@ use Rattle.svc_spec.specs.Accounts.{books_of}
 use Rattle.svc_spec.specs.Months.{facts_between, books_at_end, AreFacts}
 use Rattle.svc_spec.proofs.MonthLemmas.{from_boarded}
 use Rattle.svc_spec.proofs.RiseLemmas.{month_within}
+use Rattle.svc_replay.specs.Collected.{AreWithin}
+use Rattle.svc_replay.proofs.PlainLemmas.{within_books}
 use Rattle.svc_replay.proofs.plain.PlainLoanBooks.month.Goals as goal
 
 pub returns-clause-facts : goal.returns-clause-facts
@@ -12,15 +14,17 @@ returns-clause-facts g c =
     let first = rw c.self.view_is at c.books_before-before.ensures.books in
     let day = rw c.self.view_is at c.end_day.ensures.day in
     let last = rw c.self.view_is at c.refolded-after.ensures.books in
-    c.facts_between.ensures
+    c.facts_between.ensures c.books_before-before.result c.refolded-after.result c.of-first.ensures c.of-last.ensures
     ∙ ap (λ b. facts_between m b c.refolded-after.result) first
     ∙ ap (λ b. facts_between m (books_at_end a (m - 1)) b) (last ∙ ap (books_of a) day ∙ sym (from_boarded a m c.requires.after))
 
 pub facts_between-requires-clause-before : goal.facts_between-requires-clause-before
-facts_between-requires-clause-before g c = record { terms = c.self.inside.kept.account.terms; sound = c.end_day.ensures.account.terms; books = c.books_before-before.ensures.sound }
+facts_between-requires-clause-before g c =
+    subst AreWithin (sym c.of-first.ensures) (within_books _ _ c.end_day.ensures.account.terms c.books_before-before.ensures.sound)
 
 pub facts_between-requires-clause-after : goal.facts_between-requires-clause-after
-facts_between-requires-clause-after g c = record { terms = c.self.inside.kept.account.terms; sound = c.end_day.ensures.account.terms; books = c.refolded-after.ensures.sound }
+facts_between-requires-clause-after g c =
+    subst AreWithin (sym c.of-last.ensures) (within_books _ _ c.end_day.ensures.account.terms c.refolded-after.ensures.sound)
 
 pub returns-clause-within : goal.returns-clause-within
 returns-clause-within g c =

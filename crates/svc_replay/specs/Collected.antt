@@ -1,7 +1,7 @@
 -- What the facts of a month are told by.
 use Rattle.std.specs.Prelude.{pos, ◌≤ℤ◌}
 use Rattle.svc_types.specs.declared.books.Books.{Books}
-use Rattle.svc_checkpoint.specs.declared.collected.Collected.{Collected}
+use Rattle.svc_replay.specs.declared.collected.Collected.{Collected}
 
 -- the balance of books, and what they have collected since boarding
 abbrev pub collected_of : Books → Collected

@@ -3,23 +3,23 @@
 ghost use Rattle.std.specs.Prelude.{◌≡◌};
 ghost use Rattle.svc_types.specs.declared.books.Books.{Books};
 ghost use Rattle.svc_spec.specs.Months as months;
-ghost use Rattle.svc_checkpoint.specs.Collected as rule;
+ghost use Rattle.svc_replay.specs.Collected as rule;
 
 use svc_base::{Cents, Month};
 use svc_types::{Books, MonthFacts};
 
 /// The balance of a loan, and what it has collected since boarding, in cents.
 #[derive(Clone, Copy)]
-pub(crate) struct Collected {
-    pub(crate) upb: Cents,
-    pub(crate) curtailed: Cents,
-    pub(crate) interest: Cents,
-    pub(crate) fee: Cents,
+pub struct Collected {
+    pub upb: Cents,
+    pub curtailed: Cents,
+    pub interest: Cents,
+    pub fee: Cents,
 }
 
 impl Collected {
     /// What books say of it.
-    pub(crate) fn of(books: &Books) -> Collected
+    pub fn of(books: &Books) -> Collected
         ensures { result ≡ rule.collected_of books.now }
     {
         Collected {
@@ -32,7 +32,7 @@ impl Collected {
 }
 
 /// What a month did, by what stood before it and at its end.
-pub(crate) fn facts_between(month: Month, before: &Collected, after: &Collected) -> MonthFacts
+pub fn facts_between(month: Month, before: &Collected, after: &Collected) -> MonthFacts
     requires before { rule.AreWithin before.now }
     requires after { rule.AreWithin after.now }
     ensures { (first last : Books) → before.now ≡ rule.collected_of first → after.now ≡ rule.collected_of last

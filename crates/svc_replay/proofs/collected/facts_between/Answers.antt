@@ -2,9 +2,9 @@ use Rattle.std.proofs.Common.{ℕ, ap, ◌∙◌}
 use Rattle.std.specs.Prelude.{pos, int_le, ◌-ℤ◌}
 use Rattle.svc_types.specs.declared.books.MonthFacts.{MonthFacts}
 use Rattle.svc_replay.proofs.PlainLemmas.{facts_same, cast_same, cast_less}
-use Rattle.svc_checkpoint.specs.declared.collected.Collected.{Collected}
-use Rattle.svc_checkpoint.specs.Collected.{collected_of}
-use Rattle.svc_checkpoint.proofs.collected.facts_between.Goals as goal
+use Rattle.svc_replay.specs.declared.collected.Collected.{Collected}
+use Rattle.svc_replay.specs.Collected.{collected_of}
+use Rattle.svc_replay.proofs.collected.facts_between.Goals as goal
 
 abbrev facts : ℕ → Collected → Collected → MonthFacts
 facts m before after = record {
