@@ -1,5 +1,5 @@
 -- The first column of a row that does not fit.
-use Rattle.std.proofs.Common.{◌≡◌, ◌≢◌, ◌<◌, ℕ, zero, suc, List, [], ◌∷◌, length, refl, arith}
+use Rattle.std.proofs.Common.{◌≢◌, ◌<◌, ℕ, zero, suc, List, [], ◌∷◌, length, refl, arith}
 use Rattle.serv_rows.specs.Columns.{count, column}
 use Rattle.bank_recon.specs.Rows.{IsKindWord, IsAccountWord, IsNumberWord, IsAmountWord, Fits, IsBadAt}
 

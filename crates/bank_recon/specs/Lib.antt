@@ -2,7 +2,6 @@ pub mod Items
 pub mod Matching
 pub mod Reconciling
 pub mod Rows
-pub mod Fields
 pub mod Reading
 pub mod Taking
 pub mod Keys

@@ -2,7 +2,6 @@
 
 ghost use Rattle.std.specs.Prelude.{◌≡◌, ◌≤◌, ◌^◌, ◌↔◌, IsTrue, IfOk, IfErr, OnOk, length};
 ghost use Rattle.bank_recon.specs.declared.fault.ReconFault.TheVariants as faults;
-ghost use Rattle.bank_recon.specs.Fields.{fields_in};
 ghost use Rattle.bank_recon.specs.Rows as rows;
 ghost use Rattle.bank_recon.specs.Reading.{Reading, Lists, IsReading, IsAnswered, IsFault};
 ghost use Rattle.bank_recon.specs.Taking.{HasLines, TakesLine};
@@ -10,9 +9,9 @@ ghost use Rattle.bank_recon.specs.Taking.{HasLines, TakesLine};
 use crate::fault::ReconFault;
 use crate::item::BankItem;
 use crate::line::{Line, LineKind};
-use crate::row::{Fields, four_fields, read_row};
+use crate::row::read_row;
 use csv::ByteRecord;
-use serv_rows::{Row, read_rows};
+use serv_rows::{Row, four_fields, read_rows};
 use std::alloc::Global;
 
 /// What a bank's list says, each in its order.
@@ -64,7 +63,12 @@ impl Row for Line {
 
     fn is_header(record: &ByteRecord) -> bool {
         match four_fields(record) {
-            Some(fields) => names_columns(&fields),
+            Some((kind, account, number, amount)) => {
+                kind == b"kind".as_slice()
+                    && account == b"account".as_slice()
+                    && number == b"number".as_slice()
+                    && amount == b"amount".as_slice()
+            }
             None => false,
         }
     }
@@ -96,14 +100,4 @@ fn push_line(statement: &mut Statement, line: &Line) -> Result<(), ReconFault>
         LineKind::Bank => statement.bank.push(line.item)?,
     }
     Ok(())
-}
-
-/// Whether fields name the columns of a list.
-fn names_columns(fields: &Fields<'_>) -> bool
-    ensures { IsTrue result ↔ (fields_in fields.now ≡ rows.header) }
-{
-    fields.kind == b"kind".as_slice()
-        && fields.account == b"account".as_slice()
-        && fields.number == b"number".as_slice()
-        && fields.amount == b"amount".as_slice()
 }

@@ -1,6 +1,6 @@
 -- The terms of a loan over the first commands of a history, and over one more.
-use Rattle.std.proofs.Common.{◌≡◌, ℕ, zero, suc, ◌+◌, List, [], ◌∷◌, ◌++◌, take, refl, sym, ap, ◌∙◌, add-one}
-use Rattle.std.specs.Prelude.{slice_get, fold, Option, Some, None}
+use Rattle.std.proofs.Common.{◌≡◌, ℕ, ◌+◌, List, take, refl, ap, ◌∙◌}
+use Rattle.std.specs.Prelude.{fold, Option, Some, None}
 use Rattle.std.proofs.lemmas.List.Sums.{fold-append}
 use Rattle.svc_types.specs.declared.terms.Terms.{Terms}
 use Rattle.svc_world.proofs.TakenLemmas.{listed, taken}

@@ -4,6 +4,5 @@ pub mod Boardings
 pub mod Loans
 pub mod Insured
 pub mod Rows
-pub mod Fields
 pub mod Texts
 pub mod Ends

@@ -7,11 +7,11 @@ ghost use Rattle.serv_import.specs.declared.fault.ImportFault.TheVariants as fau
 ghost use Rattle.pmi_track.specs.Rows as files;
 ghost use Rattle.pmi_track.specs.Rows.{insured_in, row_of, rows_from, IsRead};
 
-use crate::fields::{four_fields, names_columns, read_row};
+use crate::fields::read_row;
 use crate::insured_loan::InsuredRow;
 use csv::ByteRecord;
 use serv_import::ImportFault;
-use serv_rows::{Row, read_rows};
+use serv_rows::{Row, four_fields, read_rows};
 use std::alloc::Global;
 use svc_base::OutOfMemory;
 
@@ -42,7 +42,12 @@ impl Row for InsuredRow {
 
     fn is_header(record: &ByteRecord) -> bool {
         match four_fields(record) {
-            Some(fields) => names_columns(&fields),
+            Some((loan, value, line, asked)) => {
+                loan == b"loan".as_slice()
+                    && value == b"value".as_slice()
+                    && line == b"line".as_slice()
+                    && asked == b"asked".as_slice()
+            }
             None => false,
         }
     }

@@ -3,7 +3,7 @@ use Rattle.std.proofs.Common.{◌≡◌, ℕ, zero, suc, ◌+◌, ◌*◌, ◌^�
 use Rattle.std.specs.Prelude.{Bool, ◌==◌, ◌||◌, if◌then◌else◌}
 use Rattle.svc_base.specs.Calendar.{first_day}
 use Rattle.serv_drill.specs.Draws.{draw}
-use Rattle.serv_drill.specs.Works.{Work, Do, TakeBack, each, payment, work_of, late_work_of, work_at, late_work_at, works, late_works, late_before, turn, month_before, month_at, month_from, month_works, all_months, boarding_at, boardings, december, first_works, year_works}
+use Rattle.serv_drill.specs.Works.{Work, Do, TakeBack, each, payment, work_of, late_work_of, works, asked_at, late_before, turn, month_before, month_at, month_from, month_works, asked_at, all_months, boarding_at, boardings, december, first_works, asked_at, year_works}
 
 length_each : (f : ℕ → List Work) (k n : ℕ) → ((i : ℕ) → length (f i) ≤ k) → length (each f n) ≤ n * k
 unfolding each
@@ -31,14 +31,14 @@ length_late : (month loan r : ℕ) → length (late_work_of month loan r) ≤ 1
 unfolding late_work_of
 length_late month loan r = one_of_two (r == 8) (r == 9) (Do (payment loan (first_day month + 9))) (TakeBack loan)
 
-length_works : (month x loans : ℕ) → length (works month x loans) ≤ loans * 1
+length_works : (asks : ℕ → ℕ → ℕ → List Work) (month x loans : ℕ) → ((loan r : ℕ) → length (asks month loan r) ≤ 1) → length (works asks month x loans) ≤ loans * 1
 unfolding works
-length_works month x loans = length_each (work_at month x) 1 loans (λ i. length_work month (i + 1) (draw x i))
+length_works asks month x loans one = length_each (asked_at asks month x) 1 loans (λ i. one (i + 1) (draw x i))
 
 length_before : (j x loans : ℕ) → length (late_before j x loans) ≤ loans * 1
-unfolding late_before late_works
+unfolding late_before
 length_before zero x loans = omega arith
-length_before (suc j) x loans = length_each (late_work_at (month_at j) x) 1 loans (λ i. length_late (month_at j) (i + 1) (draw x i))
+length_before (suc j) x loans = length_works late_work_of (month_at j) x loans (length_late (month_at j))
 
 length_turn : (month : ℕ) → length (turn month) ≡ 3
 unfolding turn
@@ -49,9 +49,9 @@ unfolding month_from
 length_month j earlier now loans =
     let first = length_turn (month_before j) in
     let late = length_before j earlier loans in
-    let this = length_works (month_at j) now loans in
-    let a = length-append (turn (month_before j)) (late_before j earlier loans ++ works (month_at j) now loans) in
-    let b = length-append (late_before j earlier loans) (works (month_at j) now loans) in
+    let this = length_works work_of (month_at j) now loans (length_work (month_at j)) in
+    let a = length-append (turn (month_before j)) (late_before j earlier loans ++ works work_of (month_at j) now loans) in
+    let b = length-append (late_before j earlier loans) (works work_of (month_at j) now loans) in
     omega (arith, first, late, this, a, b)
 
 length_first : (loans : ℕ) → length (first_works loans) ≤ 4 + loans

@@ -1,5 +1,5 @@
 -- The queries of the summary.
-use Rattle.std.proofs.Common.{◌≡◌, ℕ, ◌+◌, List, [], ◌∷◌, length, true, refl, sym, ap, add-one}
+use Rattle.std.proofs.Common.{◌≡◌, ℕ, ◌+◌, List, [], ◌∷◌, true, refl, sym, ap, add-one}
 use Rattle.std.specs.Prelude.{Option, Some, None, pos, ◌+ℤ◌}
 use Rattle.svc_types.specs.declared.replies.Refusal.{Refusal}
 use Rattle.svc_types.specs.declared.requests.Query.TheVariants as query
@@ -11,7 +11,7 @@ use Rattle.svc_world.specs.Answers.{answer_from, answer_to, books_answer, query_
 use Rattle.svc_world.specs.Refusals.{first_of, case}
 use Rattle.svc_types.specs.declared.replies.Refusal.TheVariants.{NoSuchLoan}
 use Rattle.std.specs.Option.{option_map, option_map_or}
-use Rattle.svc_world.specs.Custody.{rows_in, custody_of}
+use Rattle.svc_world.specs.Custody.{custody_of}
 use Rattle.serv_report.specs.AnswerTexts.{text_of_answer}
 use Rattle.serv_report.specs.Texts.{text_of_custody}
 use Rattle.serv_drill.specs.Summary.{late_in, late_of, late_owed}

@@ -4,7 +4,7 @@ use Rattle.std.specs.Prelude.{◌==◌, ◌||◌, if◌then◌else◌}
 use Rattle.std.proofs.lemmas.Bool.Decides.{nat_tests}
 use Rattle.std.proofs.Math.Nat.{mul-le-mul_right}
 use Rattle.svc_base.specs.Calendar.{first_day}
-use Rattle.serv_drill.specs.Works.{Work, Do, TakeBack, payment, work_of, late_work_of, each, month_at, month_before, month_from, month_works, state_at, turn, late_before, late_works, works}
+use Rattle.serv_drill.specs.Works.{Work, Do, TakeBack, payment, work_of, late_work_of, each, month_at, month_before, month_from, month_works, state_at, turn, late_before, works}
 use Rattle.serv_drill.specs.Machine.{Tally, after_work, after_works, cost_of_works}
 
 pub after_append : (t : Tally) (xs ys : List Work) → after_works t (xs ++ ys) ≡ after_works (after_works t xs) ys
@@ -70,10 +70,10 @@ unfolding late_before
 late_before-first zero x loans e = refl
 late_before-first (suc j) x loans e = absurd (omega arith)
 
-pub late_before-later : (j m x loans : ℕ) → 0 < j → m ≡ month_before j → late_works m x loans ≡ late_before j x loans
+pub late_before-later : (j m x loans : ℕ) → 0 < j → m ≡ month_before j → works late_work_of m x loans ≡ late_before j x loans
 unfolding late_before
 late_before-later zero m x loans some e = absurd (omega arith)
-late_before-later (suc j) m x loans some e = let same : m ≡ month_at j = omega arith in ap (λ k. late_works k x loans) same
+late_before-later (suc j) m x loans some e = let same : m ≡ month_at j = omega arith in ap (λ k. works late_work_of k x loans) same
 
 -- ---- what a draw asks for
 
@@ -111,9 +111,9 @@ late_free m loan r a b =
 
 -- ---- a month
 
-pub month_parts : (j m m' earlier now loans : ℕ) → m ≡ month_before j → m' ≡ month_at j → turn m ++ (late_before j earlier loans ++ works m' now loans) ≡ month_from j earlier now loans
+pub month_parts : (j m m' earlier now loans : ℕ) → m ≡ month_before j → m' ≡ month_at j → turn m ++ (late_before j earlier loans ++ works work_of m' now loans) ≡ month_from j earlier now loans
 unfolding month_from
-month_parts j m m' earlier now loans p q = ap (λ k. turn k ++ (late_before j earlier loans ++ works m' now loans)) p ∙ ap (λ k. turn (month_before j) ++ (late_before j earlier loans ++ works k now loans)) q
+month_parts j m m' earlier now loans p q = ap (λ k. turn k ++ (late_before j earlier loans ++ works work_of m' now loans)) p ∙ ap (λ k. turn (month_before j) ++ (late_before j earlier loans ++ works work_of k now loans)) q
 
 pub month_is : (loans number j earlier now : ℕ) → earlier ≡ state_at loans number (j - 1) → now ≡ state_at loans number j → month_from j earlier now loans ≡ month_works loans number j
 month_is loans number j earlier now p q = ap (λ x. month_from j x now loans) p ∙ ap (λ x. month_from j (state_at loans number (j - 1)) x loans) q

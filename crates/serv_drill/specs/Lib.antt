@@ -1,5 +1,6 @@
 pub mod Draws
 pub mod Works
+pub mod Asked
 pub mod Machine
 pub mod Payments
 pub mod Summary

@@ -6,7 +6,7 @@ use Rattle.svc_world.specs.declared.answer.Answer.{Answer}
 use Rattle.svc_world.specs.declared.answer.Answer.TheVariants as answer
 use Rattle.svc_world.specs.World.{Accepted, world}
 use Rattle.svc_world.specs.Answers.{answer_to}
-use Rattle.svc_world.specs.Custody.{rows_in, custody_of}
+use Rattle.svc_world.specs.Custody.{custody_of}
 use Rattle.serv_line.specs.Replies.{ended, number_field}
 use Rattle.serv_report.specs.Texts.{text_of_custody}
 use Rattle.serv_drill.specs.Works.{year_works}

@@ -74,19 +74,13 @@ late_work_of month loan r =
     else if r == 9 then TakeBack loan ∷ []
     else []
 
--- the work of the loan with an index, from 0, where the draws of all loans begin in a state: one draw for each in order
-abbrev pub work_at : ℕ → ℕ → ℕ → List Work
-work_at month x i = work_of month (i + 1) (draw x i)
+-- what draws ask for: the loan with an index, from 0, has the draw in that place of those that begin in a state
+abbrev pub asked_at : (ℕ → ℕ → ℕ → List Work) → ℕ → ℕ → ℕ → List Work
+asked_at asks month x i = asks month (i + 1) (draw x i)
 
-abbrev pub late_work_at : ℕ → ℕ → ℕ → List Work
-late_work_at month x i = late_work_of month (i + 1) (draw x i)
-
--- the work of all loans in the draws' month, and a month later
-unfoldable pub works : ℕ → ℕ → ℕ → List Work
-works month x loans = each (work_at month x) loans
-
-unfoldable pub late_works : ℕ → ℕ → ℕ → List Work
-late_works month x loans = each (late_work_at month x) loans
+-- what the draws of all loans ask for, of a month, one draw for each in order
+unfoldable pub works : (ℕ → ℕ → ℕ → List Work) → ℕ → ℕ → ℕ → List Work
+works asks month x loans = each (asked_at asks month x) loans
 
 -- ---- the year
 
@@ -97,7 +91,7 @@ state_at loans number j = state_after number (j * loans)
 -- what is late from the month before month j, whose draws begin in a state; before the first month there was none
 unfoldable pub late_before : ℕ → ℕ → ℕ → List Work
 late_before zero x loans = []
-late_before (suc j) x loans = late_works (month_at j) x loans
+late_before (suc j) x loans = works late_work_of (month_at j) x loans
 
 -- the first day of the month after a month, which is then closed and remitted
 unfoldable pub turn : ℕ → List Work
@@ -108,7 +102,7 @@ turn month =
 -- one before is closed and remitted; then late work, then the work of this month's draws
 unfoldable pub month_from : ℕ → ℕ → ℕ → ℕ → List Work
 month_from j earlier now loans =
-    turn (month_before j) ++ (late_before j earlier loans ++ works (month_at j) now loans)
+    turn (month_before j) ++ (late_before j earlier loans ++ works work_of (month_at j) now loans)
 
 abbrev pub month_works : ℕ → ℕ → ℕ → List Work
 month_works loans number j = month_from j (state_at loans number (j - 1)) (state_at loans number j) loans

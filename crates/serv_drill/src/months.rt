@@ -2,6 +2,7 @@
 
 ghost use Rattle.std.specs.Prelude.{◌≡◌, ◌+◌, ◌*◌, ◌≤◌, ◌<◌, OnOk};
 ghost use Rattle.svc_base.specs.Text.{IsReadMonth};
+ghost use Rattle.serv_drill.specs.Asked.{asked};
 ghost use Rattle.serv_drill.specs.Draws.{state_after};
 ghost use Rattle.serv_drill.specs.Machine.{after_works, cost_of_works};
 ghost use Rattle.serv_drill.specs.Tallies.{tally};
@@ -14,6 +15,15 @@ use std::alloc::Global;
 use std::sync::ledger::Ledger;
 use svc_base::{Day, Month, OutOfMemory, Steps, first_day};
 use svc_types::{Command, RemitType, Terms};
+
+/// When what a draw asks for is done.
+#[derive(Clone, Copy)]
+enum When {
+    /// In the draw's month.
+    InMonth,
+    /// A month later.
+    MonthLater,
+}
 
 /// The month in which all loans are taken on.
 fn december() -> Month
@@ -165,10 +175,35 @@ impl Desk {
         }
     }
 
-    /// A draw for each loan, and what it asks for in its month.
+    /// What a loan's draw of a month asks for, in that month or later.
+    fn asked<L: Ledger>(
+        &mut self,
+        alloc: Global,
+        when: When,
+        month: Month,
+        loan: u32,
+        draw: u32,
+        steps: &mut Steps<L>,
+    ) -> Result<(), OutOfMemory>
+        requires month { IsReadMonth month }
+        requires room { self.old.made + 1 ≤ MOST_COMMANDS }
+        ensures after { OnOk result
+            (tally self.new ≡ after_works (tally self.old) (asked when month loan draw)) }
+        ensures made { self.new.made ≤ self.old.made + 1 }
+        ensures steps { steps.new ≤ steps.old
+            + cost_of_works (tally self.old) (asked when month loan draw) }
+    {
+        match when {
+            When::InMonth => self.work(alloc, month, loan, draw, steps),
+            When::MonthLater => self.late_work(alloc, month, loan, draw, steps),
+        }
+    }
+
+    /// A draw of a month for each loan, and what it asks for, in that month or later.
     fn work_all<L: Ledger>(
         &mut self,
         alloc: Global,
+        when: When,
         month: Month,
         loans: u32,
         draws: &mut Draws,
@@ -176,40 +211,16 @@ impl Desk {
     ) -> Result<(), OutOfMemory>
         requires month { IsReadMonth month }
         requires room { self.old.made + loans ≤ MOST_COMMANDS }
-        ensures after { OnOk result
-            (tally self.new ≡ after_works (tally self.old) (works.works month draws.old.state loans)) }
+        ensures after { OnOk result (tally self.new
+            ≡ after_works (tally self.old) (works.works (asked when) month draws.old.state loans)) }
         ensures draws { OnOk result (draws.new.state ≡ state_after draws.old.state loans) }
         ensures made { self.new.made ≤ self.old.made + loans }
         ensures steps { steps.new ≤ steps.old
-            + cost_of_works (tally self.old) (works.works month draws.old.state loans) }
+            + cost_of_works (tally self.old) (works.works (asked when) month draws.old.state loans) }
     {
         for i in 0..loans {
             let draw = draws.next();
-            self.work(alloc, month, i + 1, draw, steps)?;
-        }
-        Ok(())
-    }
-
-    /// The draws of a month once more, and what each asks for a month later.
-    fn late_work_all<L: Ledger>(
-        &mut self,
-        alloc: Global,
-        month: Month,
-        loans: u32,
-        mut earlier: Draws,
-        steps: &mut Steps<L>,
-    ) -> Result<(), OutOfMemory>
-        requires month { IsReadMonth month }
-        requires room { self.old.made + loans ≤ MOST_COMMANDS }
-        ensures after { OnOk result
-            (tally self.new ≡ after_works (tally self.old) (works.late_works month earlier.state loans)) }
-        ensures made { self.new.made ≤ self.old.made + loans }
-        ensures steps { steps.new ≤ steps.old
-            + cost_of_works (tally self.old) (works.late_works month earlier.state loans) }
-    {
-        for i in 0..loans {
-            let draw = earlier.next();
-            self.late_work(alloc, month, i + 1, draw, steps)?;
+            self.asked(alloc, when, month, i + 1, draw, steps)?;
         }
         Ok(())
     }
@@ -220,7 +231,7 @@ impl Desk {
         alloc: Global,
         j: u32,
         loans: u32,
-        earlier: Draws,
+        mut earlier: Draws,
         steps: &mut Steps<L>,
     ) -> Result<(), OutOfMemory>
         requires month { j < 12 }
@@ -234,7 +245,8 @@ impl Desk {
         if j == 0 {
             return Ok(());
         }
-        self.late_work_all(alloc, month_before(j), loans, earlier, steps)
+        let month = month_before(j);
+        self.work_all(alloc, When::MonthLater, month, loans, &mut earlier, steps)
     }
 
     /// Month `j`. It takes a draw for each loan; the draws of the month before are given once more.
@@ -258,7 +270,8 @@ impl Desk {
     {
         self.turn(alloc, month_before(j), steps)?;
         self.late_before(alloc, j, loans, earlier, steps)?;
-        self.work_all(alloc, month_before(j).plus(1), loans, draws, steps)
+        let month = month_before(j).plus(1);
+        self.work_all(alloc, When::InMonth, month, loans, draws, steps)
     }
 
     /// The twelve months of the year, with draws that a number begins.

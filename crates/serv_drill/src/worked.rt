@@ -1,6 +1,6 @@
 //! Worked draws and months as theorems, computed from the definitions. The functions have no code.
 
-#![tactic(auto, unfolding(crate::specs::Draws::next_state, crate::specs::Draws::drawn, crate::specs::Draws::state_after, crate::specs::Works::each, crate::specs::Works::terms_of, crate::specs::Works::work_of, crate::specs::Works::late_work_of, crate::specs::Works::works, crate::specs::Works::late_works, crate::specs::Works::late_before, crate::specs::Works::turn, crate::specs::Works::month_from, crate::specs::Works::boardings, crate::specs::Works::first_works, crate::specs::Works::year_works))]
+#![tactic(auto, unfolding(crate::specs::Draws::next_state, crate::specs::Draws::drawn, crate::specs::Draws::state_after, crate::specs::Works::each, crate::specs::Works::terms_of, crate::specs::Works::work_of, crate::specs::Works::late_work_of, crate::specs::Works::works, crate::specs::Works::late_before, crate::specs::Works::turn, crate::specs::Works::month_from, crate::specs::Works::boardings, crate::specs::Works::first_works, crate::specs::Works::year_works))]
 
 ghost use Rattle.std.specs.Prelude.{◌≡◌, [], ◌∷◌, length, map};
 ghost use Rattle.svc_types.specs.WorkedLoan as worked;

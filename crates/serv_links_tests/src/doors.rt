@@ -2,7 +2,8 @@
 
 ghost use Rattle.std.specs.Prelude.{◌≡◌, ◌<◌, IfOk};
 
-use crate::serving::{DAY, DAY_SAID, link_of};
+use crate::exchange::{DAY, DAY_SAID};
+use crate::serving::link_of;
 use serv_disk::{CalmDoors, CalmLink, Disk, Doors, MemDoors, MemLink};
 use serv_links::{Service, serve_doors, write_summary};
 use serv_machine::{Machine, Nowhere};

@@ -1,6 +1,7 @@
 //! Hostile and truncated requests over books in memory, whole and in pieces of one byte.
 
-use crate::serving::{DAY, DAY_SAID, is_said, link_of, serve};
+use crate::exchange::{DAY, DAY_SAID};
+use crate::serving::{is_said, link_of, serve};
 use serv_links::LinkEnd;
 use std::alloc::{AllocError, Global};
 use svc_base::OutOfMemory;

@@ -9,6 +9,7 @@ mod counted;
 mod doors;
 #[cfg(test)]
 mod engines;
+mod exchange;
 #[cfg(test)]
 mod hostile;
 #[cfg(test)]
@@ -19,3 +20,5 @@ mod other_links;
 mod serving;
 #[cfg(test)]
 mod years;
+
+pub use exchange::{DAY, DAY_SAID, EXCHANGE, SAID};

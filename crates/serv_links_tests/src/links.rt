@@ -1,33 +1,13 @@
 //! What is said on a link, and what faults leave of it.
 
 use crate::counted::{DAYS, SAID_TO_DAYS};
+use crate::exchange::{DAY, DAY_SAID, EXCHANGE, SAID};
 use crate::other_links::Waiting;
-use crate::serving::{DAY, DAY_SAID, is_said, link_of, serve, serve_on_disk};
+use crate::serving::{is_said, link_of, serve, serve_on_disk};
 use serv_disk::MemDisk;
 use serv_links::LinkEnd;
 use std::alloc::Global;
 use svc_base::OutOfMemory;
-
-/// A day is asked for, twice; another day under its key; a path that is no route; a method that is not the
-/// route's.
-const EXCHANGE: &str = "POST /v1/commands HTTP/1.1\r\nHost: a\r\nContent-Length: 42\r\n\r\n\
-    {\"key\":\"k1\",\"do\":\"day\",\"day\":\"2024-02-01\"}\
-    POST /v1/commands HTTP/1.1\r\nHost: a\r\nContent-Length: 42\r\n\r\n\
-    {\"key\":\"k1\",\"do\":\"day\",\"day\":\"2024-02-01\"}\
-    POST /v1/commands HTTP/1.1\r\nHost: a\r\nContent-Length: 42\r\n\r\n\
-    {\"key\":\"k1\",\"do\":\"day\",\"day\":\"2024-02-02\"}\
-    GET /v1/nowhere HTTP/1.1\r\n\r\n\
-    GET /v1/commands HTTP/1.1\r\n\r\n";
-
-/// What is said to it.
-const SAID: &str = "HTTP/1.1 200 OK\r\nContent-Length: 35\r\nContent-Type: application/json\r\n\r\n\
-    {\"code\":0,\"number\":1,\"text\":\"ok 1\"}\
-    HTTP/1.1 200 OK\r\nContent-Length: 35\r\nContent-Type: application/json\r\n\r\n\
-    {\"code\":0,\"number\":1,\"text\":\"ok 1\"}\
-    HTTP/1.1 409 Conflict\r\nContent-Length: 36\r\nContent-Type: application/json\r\n\r\n\
-    {\"code\":1,\"text\":\"no 1 KeyReused 1\"}\
-    HTTP/1.1 404 Not Found\r\nContent-Length: 0\r\n\r\n\
-    HTTP/1.1 405 Method Not Allowed\r\nAllow: POST\r\nContent-Length: 0\r\n\r\n";
 
 #[test]
 fn requests_are_answered_in_order(rt: HostRuntime) {

@@ -16,14 +16,6 @@ use svc_base::{OutOfMemory, Steps};
 use svc_checkpoint::Checked;
 use svc_core::Core;
 
-/// A day is asked for, and what is said to it.
-pub(crate) const DAY: &str = "POST /v1/commands HTTP/1.1\r\nHost: a\r\nContent-Length: 42\r\n\r\n\
-    {\"key\":\"k1\",\"do\":\"day\",\"day\":\"2024-02-01\"}";
-
-pub(crate) const DAY_SAID: &str =
-    "HTTP/1.1 200 OK\r\nContent-Length: 35\r\nContent-Type: application/json\r\n\r\n\
-    {\"code\":0,\"number\":1,\"text\":\"ok 1\"}";
-
 /// Serves a link over a machine.
 fn serve_by<D: Disk, M: Machine<D>, C: Link, L: Ledger>(
     alloc: Global,

@@ -10,6 +10,6 @@ mod text;
 
 pub use amount::read_signed;
 pub use reading::read_rows;
-pub use record::field;
+pub use record::{field, four_fields};
 pub use row::Row;
 pub use text::push_bad_row;

@@ -1,13 +1,11 @@
 //! A disk that stops after each of its calls, and one of whose calls fails, each in turn.
 
 use serv_disk::{MemDisk, Torn};
-use serv_run_tests::{
-    CLOSED, CLOSED_LATER, Ending, FIRST_PAYMENT, NEW_JOURNAL, TAKEN_ON, ending_on, lines_of, over,
-    replies_to,
-};
+use serv_run_tests::{CLOSED_LATER, Ending, NEW_JOURNAL, ending_on, lines_of, over, replies_to};
 use serv_top::Status;
 use std::alloc::{AllocError, Global};
 use svc_base::OutOfMemory;
+use svc_core_tests::{BOARDED, FIRST_PAID, SCHEDULED_MONTHS};
 
 /// Fifteen commands, the replies to them, the journal that they leave, and one without a command whose file reaches as far.
 #[derive(Drop)]
@@ -19,7 +17,7 @@ struct Course {
 }
 
 fn course_of(alloc: Global) -> Result<Course, OutOfMemory> {
-    let texts = [TAKEN_ON, FIRST_PAYMENT, CLOSED, CLOSED_LATER];
+    let texts = [BOARDED, FIRST_PAID, SCHEDULED_MONTHS, CLOSED_LATER];
     let lines = lines_of(alloc, &texts)?;
     let empty = reaching(alloc)?;
     let mut disk = disk_of(alloc, &empty, &[])?;

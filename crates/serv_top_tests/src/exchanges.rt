@@ -1,12 +1,13 @@
 //! Lines and the replies to them, in memory and over a journal.
 
 use serv_run_tests::{
-    CLOSED, CREDITED, ENDS, ESCROWED, FIRST_PAYMENT, NEW_JOURNAL, NO_REQUESTS, NO_SHORTAGE,
-    ONE_BILL, SHORTAGE, SMALL_SHORTAGE, TAKEN_ON, TOO_EARLY, ending_of, lines_of, over, replies_to,
+    CREDITED, ENDS, ESCROWED, NEW_JOURNAL, NO_REQUESTS, NO_SHORTAGE, ONE_BILL, SHORTAGE,
+    SMALL_SHORTAGE, TOO_EARLY, ending_of, lines_of, over, replies_to,
 };
 use serv_top::Status;
 use std::alloc::Global;
 use svc_base::OutOfMemory;
+use svc_core_tests::{BOARDED, FIRST_PAID, SCHEDULED_MONTHS};
 
 /// Whether the lines of the texts have their replies by this word, from an empty journal.
 fn answers(alloc: Global, word: &str, texts: &[&str]) -> Result<bool, OutOfMemory> {
@@ -24,7 +25,7 @@ fn is_answered(alloc: Global, texts: &[&str]) -> bool {
 
 #[test]
 fn a_month_is_closed(rt: HostRuntime) {
-    assert!(rt; is_answered(rt.alloc(), &[TAKEN_ON, FIRST_PAYMENT, CLOSED]));
+    assert!(rt; is_answered(rt.alloc(), &[BOARDED, FIRST_PAID, SCHEDULED_MONTHS]));
 }
 
 #[test]
@@ -41,6 +42,6 @@ fn escrow_is_analysed(rt: HostRuntime) {
 fn what_a_rule_or_a_form_forbids_is_refused(rt: HostRuntime) {
     let alloc = rt.alloc();
     assert!(rt; is_answered(alloc, &[TOO_EARLY]));
-    assert!(rt; is_answered(alloc, &[NO_REQUESTS, TAKEN_ON]));
+    assert!(rt; is_answered(alloc, &[NO_REQUESTS, BOARDED]));
     assert!(rt; is_answered(alloc, &[ENDS]));
 }

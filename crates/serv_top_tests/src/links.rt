@@ -3,19 +3,11 @@
 ghost use Rattle.std.specs.Prelude.{◌≡◌, IfOk};
 
 use serv_disk::{CalmDoors, CalmLink, MemDoors, MemLink};
+use serv_links_tests::{DAY, DAY_SAID};
 use serv_run_tests::{Given, NEW_JOURNAL, ONE_LINE, ending_at, over};
 use serv_top::{Status, port_in};
 use std::alloc::Global;
 use svc_base::OutOfMemory;
-
-/// A day is asked for.
-const DAY: &str = "POST /v1/commands HTTP/1.1\r\nHost: a\r\nContent-Length: 42\r\n\r\n\
-    {\"key\":\"k1\",\"do\":\"day\",\"day\":\"2024-02-01\"}";
-
-/// What is said to it, also where it is asked for again.
-const DAY_SAID: &str =
-    "HTTP/1.1 200 OK\r\nContent-Length: 35\r\nContent-Type: application/json\r\n\r\n\
-    {\"code\":0,\"number\":1,\"text\":\"ok 1\"}";
 
 /// What is said where the disk fails.
 const FAILED: &str =

@@ -1,8 +1,8 @@
 //! From which moment of the disk on a reply counts.
 
 use crate::noting::{Noted, Noting, NotingDoors, NotingLink};
-use crate::one_link::{DAY, DAY_SAID};
 use serv_disk::{CalmDoors, Disk};
+use serv_links_tests::{DAY, DAY_SAID};
 use serv_run_tests::{NEW_JOURNAL, disk_of, over, run_in_memory, sink_of, source_of};
 use serv_top::Status;
 use std::alloc::Global;

@@ -6,6 +6,7 @@ ghost use Rattle.serv_engine.specs.Engines.{IsDurable};
 use serv_disk::{Disk, Link, MemDisk, MemLink};
 use serv_engine::{Engine, EngineFault};
 use serv_links::LinkEnd;
+use serv_links_tests::{DAY, DAY_SAID, EXCHANGE, SAID};
 use serv_run_tests::NEW_JOURNAL;
 use serv_top::serve_one;
 use std::alloc::Global;
@@ -13,35 +14,6 @@ use std::marker::Brand;
 use std::sync::ledger::{Blank, Ledger};
 use svc_base::{OutOfMemory, Steps};
 use svc_checkpoint::Checked;
-
-/// A day is asked for, twice; another day under its key; a path that is no route; a method that is not the
-/// route's.
-const EXCHANGE: &str = "POST /v1/commands HTTP/1.1\r\nHost: a\r\nContent-Length: 42\r\n\r\n\
-    {\"key\":\"k1\",\"do\":\"day\",\"day\":\"2024-02-01\"}\
-    POST /v1/commands HTTP/1.1\r\nHost: a\r\nContent-Length: 42\r\n\r\n\
-    {\"key\":\"k1\",\"do\":\"day\",\"day\":\"2024-02-01\"}\
-    POST /v1/commands HTTP/1.1\r\nHost: a\r\nContent-Length: 42\r\n\r\n\
-    {\"key\":\"k1\",\"do\":\"day\",\"day\":\"2024-02-02\"}\
-    GET /v1/nowhere HTTP/1.1\r\n\r\n\
-    GET /v1/commands HTTP/1.1\r\n\r\n";
-
-/// What is said to it.
-const SAID: &str = "HTTP/1.1 200 OK\r\nContent-Length: 35\r\nContent-Type: application/json\r\n\r\n\
-    {\"code\":0,\"number\":1,\"text\":\"ok 1\"}\
-    HTTP/1.1 200 OK\r\nContent-Length: 35\r\nContent-Type: application/json\r\n\r\n\
-    {\"code\":0,\"number\":1,\"text\":\"ok 1\"}\
-    HTTP/1.1 409 Conflict\r\nContent-Length: 36\r\nContent-Type: application/json\r\n\r\n\
-    {\"code\":1,\"text\":\"no 1 KeyReused 1\"}\
-    HTTP/1.1 404 Not Found\r\nContent-Length: 0\r\n\r\n\
-    HTTP/1.1 405 Method Not Allowed\r\nAllow: POST\r\nContent-Length: 0\r\n\r\n";
-
-/// A day is asked for, and what is said to it.
-pub(crate) const DAY: &str = "POST /v1/commands HTTP/1.1\r\nHost: a\r\nContent-Length: 42\r\n\r\n\
-    {\"key\":\"k1\",\"do\":\"day\",\"day\":\"2024-02-01\"}";
-
-pub(crate) const DAY_SAID: &str =
-    "HTTP/1.1 200 OK\r\nContent-Length: 35\r\nContent-Type: application/json\r\n\r\n\
-    {\"code\":0,\"number\":1,\"text\":\"ok 1\"}";
 
 /// A disk with an empty journal and room for some calls.
 fn new_disk(alloc: Global) -> Result<MemDisk, OutOfMemory> {

@@ -28,10 +28,11 @@ use Rattle.svc_spec.proofs.StepsLemmas.{counted_from_end, counted_on, day_within
 use Rattle.svc_replay.specs.declared.cursor.Lates.{Lates}
 use Rattle.svc_replay.specs.declared.cursor.Cursor.{Cursor}
 use Rattle.svc_replay.specs.Left.{AreLates, IsPlace}
-use Rattle.svc_replay.specs.declared.collected.Collected.{Collected}
+use Rattle.svc_types.specs.declared.books.Collected.{Collected}
 use Rattle.svc_checkpoint.specs.declared.month_end.MonthEnd.{MonthEnd}
 use Rattle.svc_checkpoint.specs.declared.plans.Plans.{Plans}
-use Rattle.svc_replay.specs.Collected.{collected_of, AreWithin}
+use Rattle.svc_types.specs.Collected.{collected_of}
+use Rattle.svc_replay.specs.Collected.{AreWithin}
 use Rattle.svc_replay.proofs.PlainLemmas.{within_books}
 use Rattle.svc_checkpoint.specs.Plans.{plan_by, plan_with, IsNumber, AreNamed}
 use Rattle.svc_checkpoint.specs.Ends.{kept_of, books_from, collected_by, IsEnd, AreEnds, AreChecked, counted_before, day_before}

@@ -10,7 +10,7 @@ use Rattle.svc_spec.specs.Accounts.{Account, IsAccount, live_of, books_of}
 use Rattle.svc_spec.specs.Months.{counted}
 use Rattle.svc_replay.specs.declared.cursor.Lates.{Lates}
 use Rattle.svc_replay.specs.Left.{AreLates}
-use Rattle.svc_replay.specs.declared.collected.Collected.{Collected}
+use Rattle.svc_types.specs.declared.books.Collected.{Collected}
 use Rattle.svc_checkpoint.specs.declared.month_end.MonthEnd.{MonthEnd}
 use Rattle.svc_checkpoint.specs.Plans.{plan_with, IsNumber}
 

@@ -6,7 +6,8 @@ ghost use Rattle.svc_spec.specs.Accounts.{IsAccount, live_of, books_of};
 ghost use Rattle.svc_spec.specs.Books.{AreBooks};
 ghost use Rattle.svc_spec.specs.Months.{counted, books_at_end};
 ghost use Rattle.svc_replay.specs.Left.{IsPlace};
-ghost use Rattle.svc_replay.specs.Collected.{collected_of, AreWithin};
+ghost use Rattle.svc_types.specs.Collected.{collected_of};
+ghost use Rattle.svc_replay.specs.Collected.{AreWithin};
 ghost use Rattle.svc_checkpoint.specs.Ends as rule;
 ghost use Rattle.svc_checkpoint.specs.Plans.{AreNamed};
 
@@ -15,8 +16,8 @@ use crate::plans::{Plans, plan_with};
 use std::sync::ledger::Ledger;
 use svc_apply::start;
 use svc_base::{Day, Month, Steps, last_day, month_of};
-use svc_replay::{Collected, Cursor, LoanAccount, fold_along, fold_on};
-use svc_types::Books;
+use svc_replay::{Cursor, LoanAccount, fold_along, fold_on};
+use svc_types::{Books, Collected};
 
 /// How many months a month is after the boarded one.
 pub(crate) fn place_of(kept: &LoanAccount, month: Month) -> usize

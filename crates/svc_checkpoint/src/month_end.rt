@@ -5,8 +5,7 @@ ghost use Rattle.svc_types.specs.Terms.{IsSound};
 ghost use Rattle.svc_checkpoint.specs.Ends as rule;
 
 use svc_base::{Cents, Day};
-use svc_replay::Collected;
-use svc_types::{Books, EscrowPlan, Terms};
+use svc_types::{Books, Collected, EscrowPlan, Terms};
 
 /// The books at a month's end, in half of their size: without what the loan's account says. The day is that of the end's
 /// place, the principal collected is what the balance fell by, and a plan stands in the account's entries.

@@ -2,7 +2,7 @@
 
 use crate::desk::Part::{self, Once};
 use crate::desk::over_both;
-use crate::openings::{BOARDED, FIRST_PAID};
+use crate::first_quarter::{BOARDED, FIRST_PAID};
 use std::test::Fail;
 
 /// A loan that falls behind, and a payment that covers one installment of two.

@@ -2,9 +2,8 @@
 
 use crate::desk::Part::{self, Once};
 use crate::desk::over_both;
-use crate::openings::{
-    ACTUAL_MONTHS, BOARDED, BOARDED_ACTUAL, FIRST_PAID, PAID_OFF, PAYOFF_REMITTED, WITH_BILLS,
-};
+use crate::first_quarter::{BOARDED, FIRST_PAID};
+use crate::openings::{ACTUAL_MONTHS, BOARDED_ACTUAL, PAID_OFF, PAYOFF_REMITTED, WITH_BILLS};
 use std::test::Fail;
 
 /// What is over is paid on the principal.

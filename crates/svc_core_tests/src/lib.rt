@@ -10,6 +10,7 @@ mod desk_asked;
 mod escrow_and_types;
 #[cfg(test)]
 mod filling;
+mod first_quarter;
 #[cfg(test)]
 mod judging;
 #[cfg(test)]
@@ -24,3 +25,5 @@ mod openings;
 mod refused;
 #[cfg(test)]
 mod rows;
+
+pub use first_quarter::{BOARDED, FIRST_PAID, SCHEDULED_MONTHS};

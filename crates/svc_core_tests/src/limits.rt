@@ -2,7 +2,7 @@
 
 use crate::desk::Part::{self, Each, Once};
 use crate::desk::{TURNS, Turns, over_both, over_checked};
-use crate::openings::BOARDED;
+use crate::first_quarter::BOARDED;
 use std::test::Fail;
 
 /// A loan takes 4,096 deposits of a cent in 64 months up to 2029-06; then an entry of any kind is refused, whatever

@@ -2,7 +2,8 @@
 
 use crate::desk::Part::{self, Each, Once};
 use crate::desk::{TURNS, Turns, over_both};
-use crate::openings::{BOARDED, FIRST_PAID, SCHEDULED_MONTHS, WITH_BILLS};
+use crate::first_quarter::{BOARDED, FIRST_PAID, SCHEDULED_MONTHS};
+use crate::openings::WITH_BILLS;
 use std::test::Fail;
 
 /// Months out of their order, before any is closed.

@@ -2,9 +2,8 @@
 
 use crate::desk::Part::{self, Once};
 use crate::desk::over_both;
-use crate::openings::{
-    ACTUAL_MONTHS, BOARDED, BOARDED_ACTUAL, FIRST_PAID, PAID_OFF, PAYOFF_REMITTED, SCHEDULED_MONTHS,
-};
+use crate::first_quarter::{BOARDED, FIRST_PAID, SCHEDULED_MONTHS};
+use crate::openings::{ACTUAL_MONTHS, BOARDED_ACTUAL, PAID_OFF, PAYOFF_REMITTED};
 use std::test::Fail;
 
 /// The first installment is paid: the books, and the rows.

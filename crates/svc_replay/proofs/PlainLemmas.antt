@@ -8,7 +8,8 @@ use Rattle.svc_types.specs.declared.books.Books.{Books}
 use Rattle.svc_types.specs.declared.books.MonthFacts.{MonthFacts}
 use Rattle.svc_types.specs.declared.account.Entry.{Entry}
 use Rattle.svc_spec.specs.Books.{AreBooks}
-use Rattle.svc_replay.specs.Collected.{collected_of, AreWithin}
+use Rattle.svc_types.specs.Collected.{collected_of}
+use Rattle.svc_replay.specs.Collected.{AreWithin}
 
 -- a fact of the entry that is found, where one is
 pub of_found : (o : Option Entry) (P : Type 0) (Q : Entry → Type 0) → (o ≡ None → ⊥) → ((e : Entry) → Q e) → MatchOption o P Q

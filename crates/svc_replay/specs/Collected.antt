@@ -1,11 +1,6 @@
 -- What the facts of a month are told by.
 use Rattle.std.specs.Prelude.{pos, ◌≤ℤ◌}
-use Rattle.svc_types.specs.declared.books.Books.{Books}
-use Rattle.svc_replay.specs.declared.collected.Collected.{Collected}
-
--- the balance of books, and what they have collected since boarding
-abbrev pub collected_of : Books → Collected
-collected_of b = record { upb = b.upb; curtailed = b.curtailed; interest = b.interest; fee = b.fee }
+use Rattle.svc_types.specs.declared.books.Collected.{Collected}
 
 -- each lies from 0 to 10^18
 pub record AreWithin (c : Collected) : Type 0 where

@@ -18,7 +18,7 @@ mod rows;
 
 pub use account::LoanAccount;
 pub use arrears::arrears_are_least;
-pub use collected::{Collected, facts_between};
+pub use collected::facts_between;
 pub use cursor::{Cursor, Lates};
 pub use entries::Live;
 pub use fault::BookFault;

@@ -7,7 +7,7 @@ ghost use Rattle.svc_spec.specs.Books.{AreBooks};
 ghost use Rattle.svc_spec.specs.Months as months;
 
 use crate::account::LoanAccount;
-use crate::collected::{Collected, facts_between};
+use crate::collected::facts_between;
 use crate::fault::BookFault;
 use crate::loan_books::LoanBooks;
 use std::alloc::Global;
@@ -15,7 +15,7 @@ use std::marker::Model;
 use std::sync::ledger::Ledger;
 use svc_apply::start;
 use svc_base::{Day, Month, OutOfMemory, Steps, last_day, month_of};
-use svc_types::{Books, Entry, MonthFacts, Terms};
+use svc_types::{Books, Collected, Entry, MonthFacts, Terms};
 
 /// Books that are kept plainly: all entries and reversals, the live entries in order, and the books
 /// of the business day. Every change folds all of them anew.

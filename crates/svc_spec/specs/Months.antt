@@ -5,8 +5,10 @@ use Rattle.std.specs.List.{filter}
 use Rattle.svc_base.specs.Calendar.{month_of, last_day}
 use Rattle.svc_types.specs.declared.terms.Terms.{Terms}
 use Rattle.svc_types.specs.declared.books.Books.{Books}
+use Rattle.svc_types.specs.declared.books.Collected.{Collected}
 use Rattle.svc_types.specs.declared.books.MonthFacts.{MonthFacts}
 use Rattle.svc_types.specs.declared.account.Entry.{Entry}
+use Rattle.svc_types.specs.Collected.{collected_of}
 use Rattle.svc_spec.specs.Installments.{due_month}
 use Rattle.svc_spec.specs.Books.{start}
 use Rattle.svc_spec.specs.Events.{events_to, books_at}
@@ -20,8 +22,8 @@ end_day a m = min (last_day m) a.today
 unfoldable pub books_at_end : Account → ℕ → Books
 books_at_end a m = if nat_lt m (month_of a.terms.boarded) then start a.terms else books_of a (end_day a m)
 
--- what a month did, by the books before it and at its end
-abbrev pub facts_between : ℕ → Books → Books → MonthFacts
+-- what a month did, by what stood before it and at its end
+abbrev pub facts_between : ℕ → Collected → Collected → MonthFacts
 facts_between m before after = record {
   month = m;
   upb = after.upb;
@@ -33,7 +35,7 @@ facts_between m before after = record {
 
 -- the facts of a month; of the business day's month those so far
 abbrev pub month_facts : Account → ℕ → MonthFacts
-month_facts a m = facts_between m (books_at_end a (m - 1)) (books_at_end a m)
+month_facts a m = facts_between m (collected_of (books_at_end a (m - 1))) (collected_of (books_at_end a m))
 
 -- the live entries of a month and of later ones
 abbrev pub entries_from : Account → ℕ → List Entry

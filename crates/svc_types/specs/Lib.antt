@@ -7,3 +7,4 @@ pub mod KeyLemmas
 pub mod Live
 pub mod Same
 pub mod Requests
+pub mod Collected

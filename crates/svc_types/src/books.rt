@@ -1,5 +1,8 @@
 //! The books of one loan.
 
+ghost use Rattle.std.specs.Prelude.{◌≡◌};
+ghost use Rattle.svc_types.specs.Collected as rule;
+
 use crate::escrow::EscrowPlan;
 use svc_base::{Cents, Day, Month};
 
@@ -45,6 +48,29 @@ pub struct Installment {
     pub fee: Cents,
     pub principal: Cents,
     pub escrow: Cents,
+}
+
+/// The balance of a loan, and what it has collected since boarding, in cents.
+#[derive(Clone, Copy)]
+pub struct Collected {
+    pub upb: Cents,
+    pub curtailed: Cents,
+    pub interest: Cents,
+    pub fee: Cents,
+}
+
+impl Collected {
+    /// What books say of it.
+    pub fn of(books: &Books) -> Collected
+        ensures { result ≡ rule.collected_of books.now }
+    {
+        Collected {
+            upb: books.upb,
+            curtailed: books.curtailed,
+            interest: books.interest,
+            fee: books.fee,
+        }
+    }
 }
 
 /// What one month did to a loan, in cents.

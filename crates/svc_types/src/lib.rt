@@ -14,7 +14,7 @@ mod terms;
 mod words;
 
 pub use account::{Act, Designation, Entry, Event, What};
-pub use books::{Books, Installment, MonthFacts};
+pub use books::{Books, Collected, Installment, MonthFacts};
 pub use desk::{Arrears, HistoryLine};
 pub use escrow::{EscrowPlan, Figures, LineKind, PartPlan, Plan, PlanPart, Settled, SurplusPlan};
 pub use faults::{LineWhy, PlanFault, TermFault};

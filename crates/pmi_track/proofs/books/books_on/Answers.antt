@@ -1,6 +1,4 @@
-use Rattle.std.proofs.Common.{◌∙◌, length, sym, subst}
-use Rattle.svc_world.specs.World.{world}
-use Rattle.svc_world.specs.Custody.{rows_in}
+use Rattle.std.proofs.Common.{◌∙◌, sym, subst}
 use Rattle.svc_core.specs.Core.{IsQueryFault}
 use Rattle.serv_rows.proofs.FaultLemmas.{fault_told}
 use Rattle.pmi_track.specs.Loans.{day_refusal}

@@ -1,7 +1,6 @@
-use Rattle.std.proofs.Common.{length, refl, subst, arith}
+use Rattle.std.proofs.Common.{subst, arith}
 use Rattle.std.proofs.Math.Nat.{le_refl}
 use Rattle.svc_types.specs.declared.requests.Query.TheVariants as query
-use Rattle.svc_world.specs.World.{world}
 use Rattle.svc_world.specs.Answers.{query_refusal}
 use Rattle.svc_core.specs.Bound.{query_bound}
 use Rattle.svc_core.specs.Core.{IsQueryFault}

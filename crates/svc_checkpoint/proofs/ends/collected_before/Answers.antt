@@ -2,7 +2,7 @@ use Rattle.std.proofs.Common.{◌-◌, refl, sym, ap, ◌∙◌, arith}
 use Rattle.svc_base.specs.Calendar.{last_day}
 use Rattle.svc_spec.specs.Books.{start}
 use Rattle.svc_spec.proofs.MonthLemmas.{boarded_some, end_before_next, before_boarded, past_month}
-use Rattle.svc_replay.specs.Collected.{collected_of}
+use Rattle.svc_types.specs.Collected.{collected_of}
 use Rattle.svc_checkpoint.proofs.EndsLemmas.{at_end, end_collected, end_within}
 use Rattle.svc_checkpoint.proofs.ends.collected_before.Goals as goal
 

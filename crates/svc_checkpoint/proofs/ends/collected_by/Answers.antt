@@ -1,7 +1,8 @@
 use Rattle.std.proofs.Common.{refl, sym, ap, subst, ◌∙◌, arith}
 use Rattle.svc_base.specs.Calendar.{last_day}
 use Rattle.svc_spec.proofs.MonthLemmas.{end_before_next, past_month}
-use Rattle.svc_replay.specs.Collected.{collected_of, AreWithin}
+use Rattle.svc_types.specs.Collected.{collected_of}
+use Rattle.svc_replay.specs.Collected.{AreWithin}
 use Rattle.svc_replay.proofs.PlainLemmas.{within_books}
 use Rattle.svc_checkpoint.proofs.EndsLemmas.{at_end, end_collected, end_within, end_now}
 use Rattle.svc_checkpoint.proofs.ends.collected_by.Goals as goal

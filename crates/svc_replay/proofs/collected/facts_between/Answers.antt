@@ -1,23 +1,10 @@
-use Rattle.std.proofs.Common.{ℕ, ap, ◌∙◌}
-use Rattle.std.specs.Prelude.{pos, int_le, ◌-ℤ◌}
-use Rattle.svc_types.specs.declared.books.MonthFacts.{MonthFacts}
+use Rattle.std.proofs.Common.{ap}
+use Rattle.std.specs.Prelude.{pos, int_le}
 use Rattle.svc_replay.proofs.PlainLemmas.{facts_same, cast_same, cast_less}
-use Rattle.svc_replay.specs.declared.collected.Collected.{Collected}
-use Rattle.svc_replay.specs.Collected.{collected_of}
 use Rattle.svc_replay.proofs.collected.facts_between.Goals as goal
 
-abbrev facts : ℕ → Collected → Collected → MonthFacts
-facts m before after = record {
-  month = m;
-  upb = after.upb;
-  curtailed = after.curtailed -ℤ before.curtailed;
-  interest = after.interest -ℤ before.interest;
-  fee = after.fee -ℤ before.fee;
-  satisfied = int_le after.upb (pos 0);
-}
-
 pub returns : goal.returns
-returns c first last before after =
+returns c =
     let a = c.args.after.now in
     let b = c.args.before.now in
     let x = c.requires.after in
@@ -28,5 +15,3 @@ returns c first last before after =
     (cast_less a.interest b.interest x.interest_low x.interest_high y.interest_low y.interest_high)
     (cast_less a.fee b.fee x.fee_low x.fee_high y.fee_low y.fee_high)
     (ap (λ z. int_le z (pos 0)) upb)
-    ∙ ap (λ z. facts c.args.month z a) before
-    ∙ ap (facts c.args.month (collected_of first)) after

@@ -11,10 +11,10 @@ returns-then-j-eq0-clause-after g c = sym (ap (after_works (tally c.args.self.no
 
 pub returns-clause-after : goal.returns-clause-after
 returns-clause-after g c =
-    let same = late_before-later c.args.j c.month_before.result c.args.earlier.state c.args.loans (omega arith) c.month_before.ensures in
-    on_ok_weaker c.late_work_all.result (λ e. e ∙ ap (after_works (tally c.args.self.now)) same) c.late_work_all.ensures.after
+    let same = late_before-later c.args.j c.month_before-month.result c.args.earlier.state c.args.loans (omega arith) c.month_before-month.ensures in
+    on_ok_weaker c.work_all.result (λ e. e ∙ ap (after_works (tally c.args.self.now)) same) c.work_all.ensures.after
 
 pub returns-clause-steps : goal.returns-clause-steps
 returns-clause-steps g c =
-    let same = ap (cost_of_works (tally c.args.self.now)) (late_before-later c.args.j c.month_before.result c.args.earlier.state c.args.loans (omega arith) c.month_before.ensures) in
-    omega (arith, same, c.late_work_all.ensures.steps)
+    let same = ap (cost_of_works (tally c.args.self.now)) (late_before-later c.args.j c.month_before-month.result c.args.earlier.state c.args.loans (omega arith) c.month_before-month.ensures) in
+    omega (arith, same, c.work_all.ensures.steps)

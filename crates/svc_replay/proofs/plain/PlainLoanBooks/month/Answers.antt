@@ -1,4 +1,5 @@
 use Rattle.std.proofs.Common.{◌-◌, sym, ap, subst, ◌∙◌}
+use Rattle.svc_types.specs.Collected.{collected_of}
 use Rattle.svc_spec.specs.Accounts.{books_of}
 use Rattle.svc_spec.specs.Months.{facts_between, books_at_end, AreFacts}
 use Rattle.svc_spec.proofs.MonthLemmas.{from_boarded}
@@ -14,9 +15,10 @@ returns-clause-facts g c =
     let first = rw c.self.view_is at c.books_before-before.ensures.books in
     let day = rw c.self.view_is at c.end_day.ensures.day in
     let last = rw c.self.view_is at c.refolded-after.ensures.books in
-    c.facts_between.ensures c.books_before-before.result c.refolded-after.result c.of-first.ensures c.of-last.ensures
-    ∙ ap (λ b. facts_between m b c.refolded-after.result) first
-    ∙ ap (λ b. facts_between m (books_at_end a (m - 1)) b) (last ∙ ap (books_of a) day ∙ sym (from_boarded a m c.requires.after))
+    let until = last ∙ ap (books_of a) day ∙ sym (from_boarded a m c.requires.after) in
+    c.facts_between.ensures
+    ∙ ap (λ x. facts_between m x c.of-last.result) (c.of-first.ensures ∙ ap collected_of first)
+    ∙ ap (facts_between m (collected_of (books_at_end a (m - 1)))) (c.of-last.ensures ∙ ap collected_of until)
 
 pub facts_between-requires-clause-before : goal.facts_between-requires-clause-before
 facts_between-requires-clause-before g c =
