@@ -210,6 +210,18 @@ def kinds_of(calls):
     return [(call, int(size or 0)) for call, size, _ in calls if call != "read"]
 
 
+def said_on(port, sent):
+    """What a connection says to bytes behind which its peer writes no more."""
+    link = replay.connect(port)
+    link.sendall(sent)
+    link.shutdown(socket.SHUT_WR)
+    said = b""
+    while piece := link.recv(65536):
+        said += piece
+    link.close()
+    return said
+
+
 @case("syncs: an opening writes the last record again before its first sync; each record goes with the gate before it")
 def order_of_syncs(room):
     path = month(room)
@@ -242,15 +254,9 @@ def syncs_of_serve(room):
     write(b"MSRVJ002".ljust(1000, b"\0"), path)
     sent = [bodies.body_of(f"z{number} day 2024-02-0{number}") for number in range(1, 4)]
     it = subprocess.Popen([*under_strace(path), "serve", str(port), "1"], stdout=subprocess.PIPE, stderr=subprocess.PIPE)
-    link = replay.connect(port)
-    link.sendall(b"".join(b"POST /v1/commands HTTP/1.1\r\nContent-Length: %d\r\n\r\n%s" % (len(it), it) for it in sent))
-    link.shutdown(socket.SHUT_WR)
+    posts = b"".join(b"POST /v1/commands HTTP/1.1\r\nContent-Length: %d\r\n\r\n%s" % (len(it), it) for it in sent)
     wanted = b"".join(bodies.response_of(*bodies.reply_of(f"ok {number}")) for number in range(1, 4))
-    got = b""
-    while piece := link.recv(65536):
-        got += piece
-    link.close()
-    same(wanted, got)
+    same(wanted, said_on(port, posts))
     log = it.communicate(timeout=60)[1].decode()
     record, gate, sync = ("write", 6 + len(b"z1 day 2024-02-01") + 1), ("write", 1), ("fdatasync", 0)
     same([record, sync, record, gate, sync, record, gate, sync, gate, sync], kinds_of(calls_on(path, log))[3:])
@@ -258,6 +264,21 @@ def syncs_of_serve(room):
     order = "".join("s" if it == "fdatasync" else "r" for it in order)
     same("ss" + 3 * "sr", order, "syncs and responses")
     same(1, len(re.findall(r"^setsockopt\(.*, TCP_NODELAY, \[1\], 4\) += 0$", log, re.MULTILINE)), "responses leave at once")
+
+
+@case("syncs: behind a response that cannot be sent no request is acted on, and the next connection finds its place free")
+def response_that_is_cut(room):
+    path, port = os.path.join(room, "new.journal"), replay.free_port()
+    write(b"MSRVJ002".ljust(1000, b"\0"), path)
+    sent = [bodies.body_of(f"z{number} day 2024-02-0{number}") for number in range(1, 4)]
+    posts = [b"POST /v1/commands HTTP/1.1\r\nContent-Length: %d\r\n\r\n%s" % (len(it), it) for it in sent]
+    words = [*under_strace(path, "-e", "inject=sendto:error=EPIPE:when=1"), "serve", str(port), "2"]
+    it = subprocess.Popen(words, stdout=subprocess.PIPE, stderr=subprocess.PIPE)
+    same(b"", said_on(port, b"".join(posts)))
+    same(bodies.response_of(*bodies.reply_of("ok 2")), said_on(port, posts[2]))
+    log = it.communicate(timeout=60)[1].decode()
+    calls_on(path, log)
+    same([b"z1 day 2024-02-01", b"z3 day 2024-02-03"], reckon.lines_of_journal(read(path)))
 
 
 @case("syncs: one that fails ends with 5; what was answered is there, and at most the command that was being appended")

@@ -1,7 +1,7 @@
-//! What became of a command that an engine has begun.
+//! What became of a command that an engine was to begin.
 
-ghost use Rattle.std.specs.Prelude.{◌≡◌};
-ghost use Rattle.serv_engine.specs.Engines.{reply_of};
+ghost use Rattle.std.specs.Prelude.{◌≡◌, ◌≢◌};
+ghost use Rattle.serv_engine.specs.Engines.{Replies};
 
 use svc_types::Reply;
 
@@ -12,15 +12,19 @@ pub enum Taken {
     Settled(Reply),
     /// It is begun: the disk has it after the next `begin` or `commit`.
     Begun(Reply),
+    /// What waited for the commands before it could not be written: it is not taken, and the disk has all of them.
+    Withdrawn,
 }
 
 impl Taken {
-    /// The reply to the command.
+    /// The reply to a command that was taken.
     pub(crate) fn reply(self) -> Reply
-        ensures { result ≡ reply_of self }
+        requires { self ≢ Taken.Withdrawn }
+        ensures { Replies self (λ reply. result ≡ reply) }
     {
         match self {
             Taken::Settled(reply) | Taken::Begun(reply) => reply,
+            Taken::Withdrawn => unreachable!(),
         }
     }
 }

@@ -5,7 +5,7 @@ use Rattle.serv_disk.specs.Disks.{Each, LeavesOnly}
 use Rattle.serv_disk.proofs.Moments.{started, weaker, joined}
 use Rattle.serv_journal.specs.declared.format.Version.TheVariants.{Two}
 use Rattle.serv_journal.specs.Bytes.{Starts, Between}
-use Rattle.serv_journal.specs.Format.{Form, IsLine, base, body}
+use Rattle.serv_journal.specs.Format.{Form, IsLine, AreLines, base, body}
 use Rattle.serv_journal.specs.States.{JournalState, StandsFor}
 use Rattle.serv_journal.specs.Disks.{IsWholeIn, IsGoodIn, IsBegunIn, IsAtRest, IsAround, IsKept, IsDurableFor, gate_of}
 use Rattle.serv_journal.specs.Puts.{IsPut, IsPutting}
@@ -174,3 +174,30 @@ pub commit_kept : (form : Form) (images images' : List ℕ → Type 0) (old new 
 commit_kept form images images' old new lines begun gate at version count size none durable kept =
     kept_whole form images' new (lines ++ begun) (same_stands form (lines ++ begun) old new version count size kept.stands) none
     (set_whole form lines begun gate images images' kept.at_most_one (sym at ∙ kept.gate) kept.each durable)
+
+-- the line that is begun is forgotten
+lines_front : (lines more : List (List ℕ)) → AreLines (lines ++ more) → AreLines lines
+lines_front [] more fit = tt
+lines_front (line ∷ lines) more fit = (fit.0, lines_front lines more fit.1)
+
+pub rest_whole : (form : Form) (lines begun : List (List ℕ)) (file : List ℕ) → IsAtRest form lines begun file → IsWholeIn form lines file
+rest_whole form lines [] file rest = rest
+rest_whole form lines (line ∷ more) file rest = closed_starts (base form lines) (body form.version (length lines + 1) line ++ 0 ∷ []) file rest
+
+pub withdrawn_kept : (form : Form) (images : List ℕ → Type 0) (old new : JournalState) (lines begun : List (List ℕ)) (gate : ℕ) → old.begun ≡ Some gate → new.version ≡ old.version
+    → new.count ≡ old.count - 1 → new.size ≡ gate + 1 → new.begun ≡ None → IsKept form images old lines begun → IsKept form images new lines []
+withdrawn_kept form images old new lines [] gate at version count size none kept = absurd (let e : ⊥ = let f = kept.gate in cc in e)
+withdrawn_kept form images old new lines (line ∷ []) gate at version count size none kept =
+    let place : Some gate ≡ Some (length (base form lines)) = sym at ∙ kept.gate in
+    let long : gate ≡ length (base form lines) = cc in
+    kept_whole form images new lines
+    (record {
+      is_form = kept.stands.is_form;
+      version = version ∙ kept.stands.version;
+      count = omega (arith, count, kept.stands.count, length-append lines (line ∷ []));
+      size = omega (arith, size, long);
+      fit = lines_front lines (line ∷ []) kept.stands.fit;
+    })
+    none
+    (λ c image. rest_whole form lines (line ∷ []) c (kept.each c image))
+withdrawn_kept form images old new lines (line ∷ other ∷ more) gate at version count size none kept = absurd (omega (arith, kept.at_most_one))

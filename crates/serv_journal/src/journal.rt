@@ -30,7 +30,7 @@ pub struct Journal {
 }
 
 impl Model for Journal {
-    ghost use Rattle.std.specs.Prelude.{ℕ, ◌+◌, ◌*◌, ◌^◌, ◌<◌, ◌≤◌, IfSome};
+    ghost use Rattle.std.specs.Prelude.{ℕ, ◌+◌, ◌-◌, ◌*◌, ◌^◌, ◌<◌, ◌≤◌, IfSome};
     ghost use Rattle.serv_journal.specs.States.{JournalState};
     ghost use Rattle.serv_journal.specs.Format.{head_size};
 
@@ -46,7 +46,8 @@ impl Model for Journal {
     } };
 
     ghost invariant = { λ j. (j.limit ≤ 2 ^ 32) × (8 + (head_size j.version + 2) * j.count < j.size)
-        × IfSome j.begun (λ gate. gate < j.size) };
+        × IfSome j.begun (λ gate. (0 < j.count)
+        × (8 + (head_size j.version + 2) * (j.count - 1) ≤ gate) × (gate < j.size)) };
 }
 
 impl Journal {
@@ -216,6 +217,23 @@ impl Journal {
                 self.spent = true;
                 Err(failed)
             }
+        }
+    }
+    /// Forgets the line that is begun, if one is: its commit byte is closed, so no crash leaves it. Nothing is called.
+    pub fn withdraw<D: Disk>(&mut self, disk: &D)
+        ensures withdrawn { (form : Form) (lines begun : List (List ℕ))
+            → IsKept form (D.images disk.now) self.old lines begun
+            → IsKept form (D.images disk.now) self.new lines [] }
+        ensures none { self.new.begun ≡ None }
+        ensures limit { self.new.limit ≡ self.old.limit }
+        ensures spent { self.new.spent ≡ self.old.spent }
+        ensures same_version { self.new.version ≡ self.old.version }
+    {
+        let _ = disk;
+        if let Some(gate) = self.begun {
+            self.size = gate + 1;
+            self.count -= 1;
+            self.begun = None;
         }
     }
 }

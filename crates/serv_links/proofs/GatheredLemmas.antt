@@ -1,5 +1,5 @@
 -- Responses that are gathered, and what is said where no further request is acted on.
-use Rattle.std.proofs.Common.{◌≡◌, ◌⊎◌, ℕ, ◌+◌, ◌≤◌, Bool, true, false, List, [], ◌∷◌, ◌++◌, length, refl, sym, ap, subst, ◌∙◌, inl, inr, ⊎_elim, arith, append-nil, append_assoc, length-append}
+use Rattle.std.proofs.Common.{◌≡◌, ℕ, ◌+◌, ◌≤◌, Bool, true, false, List, [], ◌∷◌, ◌++◌, length, refl, sym, ap, subst, ◌∙◌, inl, inr, ⊎_elim, arith, append-nil, append_assoc, length-append}
 use Rattle.std.specs.Prelude.{Option}
 use Rattle.std.specs.Io.KnownBytes.{Appends}
 use Rattle.std.proofs.KnownBytes.{Appends-nil, Appends-trans}
@@ -21,8 +21,8 @@ use Rattle.serv_links.specs.declared.outcome.Outcome.{Outcome}
 use Rattle.serv_links.specs.declared.outcome.Outcome.TheVariants.{Answered, Broken, Disk, NoMemory}
 use Rattle.serv_links.specs.Meanings.{Meaning, Asks, Faulty, Means}
 use Rattle.serv_links.specs.Responses.{bound_of, history_after, response_to, response_500, response_503}
-use Rattle.serv_links.specs.Outcomes.{AppendsFront, IsAhead, IsAnswered, IsCut, IsFront, IsNext, IsReplied, IsRound, IsStopped, IsStuck, IsTried, Writes}
-use Rattle.serv_links.specs.Verdicts.{IsAppended, IsDecided, IsTornAt}
+use Rattle.serv_links.specs.Outcomes.{AppendsFront, IsAhead, IsAnswered, IsCut, IsFront, IsReplied, IsRound, IsStopped, IsStuck, IsTried, Writes}
+use Rattle.serv_links.specs.Verdicts.{IsAppended, IsDecided, IsHalted, IsTornAt}
 use Rattle.serv_links.specs.Gathered.{as_one, text_if, Gathered, IsCommitted, IsHeldBack, IsLeft, IsWaiting}
 use Rattle.serv_links.proofs.RoundLemmas.{answered_more, answered_none, answered_one}
 
@@ -61,6 +61,9 @@ module _ {stage : Stage} (a : Ask) (t t' : Running) (text : List ℕ) (d : IsDec
   pub decided_tried : (h : History) → h ≡ t'.held → IsTried a (stand t.held t.steps) (stand h t'.steps)
   decided_tried h is = inr (record { meant = d.meant; means = d.means; near = inr (is ∙ d.after); cost = d.cost })
 
+  pub decided_ahead : IsAhead (a ∷ []) t.held t.steps t'.steps
+  decided_ahead = inr (d.meant, d.means, d.cost)
+
 -- the disk failed while its command was being appended
 begun_stuck : (a : Ask) (t t' : Running) (text : List ℕ) (h : History) (next : Accepted) (rest : List Accepted) → IsDecided a Begun t t' text → h ≡ t'.kept → t'.held.commands ≡ t'.kept.commands ++ next ∷ rest
     → IsStuck a [] (stand t.held t.steps) (stand h t'.steps) (next ∷ [])
@@ -82,11 +85,6 @@ begun_stuck a t t' text h next rest d same torn =
       cost = subst (λ m. t'.steps ≤ t.steps + bound_of t.held m) b.is d.cost;
       ahead = omega arith;
     }
-
-ahead_of : (ahead : List Ask) (u v : Stand) → IsNext ahead u v → IsAhead ahead u.history u.steps v.steps
-ahead_of [] u v is = is.1
-ahead_of (a ∷ ahead) u v (inl stays) = inl stays.1
-ahead_of (a ∷ ahead) u v (inr tried) = inr (tried.meant, tried.means, tried.cost)
 
 tried_of : (a : Ask) (h h' : History) (n m : ℕ) → h' ≡ h → IsAhead (a ∷ []) h n m → IsTried a (stand h n) (stand h' m)
 tried_of a h h' n m same (inl few) = inl (same, few)
@@ -201,12 +199,13 @@ module _ {n : ℕ} {waits : Bool} {text : List ℕ} {asks : List Ask} {s : Stand
 
   -- ---- no further request: what waits is not written whole
 
-  cut_back : (cut : Type 0) (ahead : List Ask) (s' : Stand) (held'' : Option (List ℕ)) → IsNext ahead (stand t.held t.steps) s' → (p : AppendsPart held' held'' (text_if waits text))
-      → IsStopped cut Broken n (asks ++ ahead) s s' [] (g.written ++ p.part)
-  cut_back cut ahead s' held'' next p = by_case waits g.waiting p
+  cut_back : (cut : Type 0) (ahead : List Ask) (s' : Stand) (held'' : Option (List ℕ)) → (waits ≡ true → s'.history ≡ t.held) → IsAhead ahead t.held t.steps s'.steps
+      → (p : AppendsPart held' held'' (text_if waits text)) → IsStopped cut Broken n (asks ++ ahead) s s' [] (g.written ++ p.part)
+  cut_back cut ahead s' held'' same steps p = by_case waits g.waiting same p
     where
-      by_case : (b : Bool) → IsWaiting b text g.done asks g.mid t → (p : AppendsPart held' held'' (text_if b text)) → IsStopped cut Broken n (asks ++ ahead) s s' [] (g.written ++ p.part)
-      by_case true back p = record {
+      by_case : (b : Bool) → IsWaiting b text g.done asks g.mid t → (b ≡ true → s'.history ≡ t.held) → (p : AppendsPart held' held'' (text_if b text))
+          → IsStopped cut Broken n (asks ++ ahead) s s' [] (g.written ++ p.part)
+      by_case true back same p = record {
         done = g.done;
         ask = back.last;
         rest = ahead;
@@ -216,29 +215,20 @@ module _ {n : ℕ} {waits : Bool} {text : List ℕ} {asks : List Ask} {s : Stand
         answered = g.answered;
         part = p.part;
         wrote_is = refl;
-        one = (refl, (stand t.held t.steps, cut_short back.last g.mid (stand t.held t.steps) text p.part (back_replied back) p.partial, next));
+        one = (refl, (stand t.held t.steps, cut_short back.last g.mid (stand t.held t.steps) text p.part (back_replied back) p.partial, (same refl, steps)));
       }
-      by_case false is p = absurd (no_part p.part p.partial)
+      by_case false is same p = absurd (no_part p.part p.partial)
 
-  -- a write failed, and then the disk
-  cut_stuck : (cut : Type 0) → cut → (a : Ask) (t' : Running) (own : List ℕ) (h : History) (held'' : Option (List ℕ)) (next : Accepted) (rest : List Accepted) → IsDecided a Begun t t' own → (p : AppendsPart held' held'' (text_if waits text))
-      → h ≡ t'.kept → t'.held.commands ≡ t'.kept.commands ++ next ∷ rest → IsStopped cut Disk n (asks ++ a ∷ []) s (stand h t'.steps) (next ∷ []) (g.written ++ p.part)
-  cut_stuck cut risen a t' own h held'' next rest d p same torn = by_case waits g.waiting p
+  -- where a response waits, a request of which nothing is left to be done changed nothing
+  settled_same : (t' : Running) → IsStaged Settled t.held t.kept t'.held t'.kept → waits ≡ true → t'.held ≡ t.held
+  settled_same t' staged = by_case waits g.waiting
     where
-      by_case : (b : Bool) → IsWaiting b text g.done asks g.mid t → (p : AppendsPart held' held'' (text_if b text)) → IsStopped cut Disk n (asks ++ a ∷ []) s (stand h t'.steps) (next ∷ []) (g.written ++ p.part)
-      by_case true back p = record {
-        done = g.done;
-        ask = back.last;
-        rest = a ∷ [];
-        asked = ap (λ l. l ++ a ∷ []) back.asks_are ∙ append_assoc g.done (back.last ∷ []) (a ∷ []);
-        mid = g.mid;
-        before = g.written;
-        answered = g.answered;
-        part = p.part;
-        wrote_is = refl;
-        one = inr (risen, (stand t.held t.steps, cut_short back.last g.mid (stand t.held t.steps) text p.part (back_replied back) p.partial, begun_stuck a t t' own h next rest d same torn));
-      }
-      by_case false is p = absurd (no_part p.part p.partial)
+      by_case : (b : Bool) → IsWaiting b text g.done asks g.mid t → b ≡ true → t'.held ≡ t.held
+      by_case true back is = ⊎_elim
+          (λ still. still.0)
+          (λ all. absurd (no_more g.mid.history.commands [] (accepted back.key back.command) (ap (λ (h : History). h.commands) (g.kept ∙ all.0 ∙ back.after))))
+          staged
+      by_case false waiting is = absurd (let no : ⊥ = cc in no)
 
   -- the disk failed while the command of the one that waits was being appended
   back_stuck : (cut : Type 0) (ahead : List Ask) (s' : Stand) (more : List Accepted) (next : Accepted) (rest : List Accepted) (part : List ℕ) → (back : IsHeldBack text g.done asks g.mid t) → IsAhead ahead t.held t.steps s'.steps
@@ -257,7 +247,7 @@ module _ {n : ℕ} {waits : Bool} {text : List ℕ} {asks : List Ask} {s : Stand
         answered = g.answered;
         part = part;
         wrote_is = refl;
-        one = inl (
+        one = (
           record {
             key = back.key;
             command = back.command;
@@ -303,7 +293,7 @@ module _ {n : ℕ} {waits : Bool} {text : List ℕ} {asks : List Ask} {s : Stand
     answered = all_written;
     part = part;
     wrote_is = refl;
-    one = inl (stuck, front);
+    one = (stuck, front);
   }
 
   module _ {D : Type 0} (images : D → List ℕ → Type 0) (moment : D → ℕ) (images_since : D → ℕ → List ℕ → Type 0) (old new : D) (cut : Type 0) where
@@ -316,7 +306,7 @@ module _ {n : ℕ} {waits : Bool} {text : List ℕ} {asks : List Ask} {s : Stand
     not_begun t' next rest same torn = no_more t'.kept.commands rest next (ap (λ (x : History). x.commands) same ∙ torn)
 
     -- the commit fails, or what waits cannot be written
-    module _ (ahead : List Ask) (t' : Running) (kept' : History) (held'' : Option (List ℕ)) (staged : IsStaged Settled t.held t.kept t'.held t'.kept) (next : IsNext ahead (stand t.held t.steps) (stand t'.held t'.steps)) where
+    module _ (ahead : List Ask) (t' : Running) (kept' : History) (held'' : Option (List ℕ)) (staged : IsStaged Settled t.held t.kept t'.held t'.kept) (steps : IsAhead ahead t.held t.steps t'.steps) where
       torn_back : (one : Accepted) (rest : List Accepted) (part : List ℕ) → kept' ≡ t'.kept → t'.held.commands ≡ t'.kept.commands ++ one ∷ rest → IsFront cut part response_500
           → IsStopped cut Disk n (asks ++ ahead) s (stand kept' t'.steps) (one ∷ []) (g.written ++ part)
       torn_back one rest part same torn front = ⊎_elim
@@ -326,7 +316,7 @@ module _ {n : ℕ} {waits : Bool} {text : List ℕ} {asks : List Ask} {s : Stand
         where
           by_case : (b : Bool) → IsWaiting b text g.done asks g.mid t → (t'.held ≡ t.held) × (t'.kept ≡ t.kept) → IsStopped cut Disk n (asks ++ ahead) s (stand kept' t'.steps) (one ∷ []) (g.written ++ part)
           by_case true back still =
-              back_stuck cut ahead (stand kept' t'.steps) [] one rest part back (ahead_of ahead (stand t.held t.steps) (stand t'.held t'.steps) next) (same ∙ still.1)
+              back_stuck cut ahead (stand kept' t'.steps) [] one rest part back steps (same ∙ still.1)
               (append-nil t.held.commands ∙ ap (λ (x : History). x.commands) (sym still.0) ∙ torn ∙ ap (λ (x : History). x.commands ++ one ∷ rest) still.1) front
           by_case false is still = absurd (not_begun t' one rest (still.1 ∙ sym g.kept ∙ sym is.1.0 ∙ sym still.0) torn)
 
@@ -338,7 +328,7 @@ module _ {n : ℕ} {waits : Bool} {text : List ℕ} {asks : List Ask} {s : Stand
         pending = [];
         wrote = g.written ++ left.part;
         appends = Appends-trans held held' held'' g.written left.part g.wrote left.wrote;
-        says_so = cut_back cut ahead (stand kept' t'.steps) held'' (subst (λ h. IsNext ahead (stand t.held t.steps) (stand h t'.steps)) (sym c.0) next) left;
+        says_so = cut_back cut ahead (stand kept' t'.steps) held'' (λ is. c.0 ∙ settled_same t' staged is) steps left;
         disk = c.1;
       }
       settled_stops Disk not c left = record {
@@ -361,7 +351,7 @@ module _ {n : ℕ} {waits : Bool} {text : List ℕ} {asks : List Ask} {s : Stand
         by_rest : (o : Outcome) → (o ≡ NoMemory → ⊥) → ((o ≡ NoMemory → ⊥) → m ≡ n) → IsCommitted images moment images_since old new o t'.held t'.kept kept' → IsLeft o cut held' held'' (text_if waits text)
             → Stops o m (asks ++ a ∷ []) (stand kept' t'.steps) t'.kept held''
         by_rest o not few c left =
-            subst (λ k. Stops o k (asks ++ a ∷ []) (stand kept' t'.steps) t'.kept held'') (sym (few not)) (settled_stops (a ∷ []) t' kept' held'' (inl still) tried o not c left)
+            subst (λ k. Stops o k (asks ++ a ∷ []) (stand kept' t'.steps) t'.kept held'') (sym (few not)) (settled_stops (a ∷ []) t' kept' held'' (inl still) steps o not c left)
 
         by_outcome : (o : Outcome) → (o ≡ NoMemory → m ≡ n + as_one waits) → ((o ≡ NoMemory → ⊥) → m ≡ n) → IsCommitted images moment images_since old new o t'.held t'.kept kept' → IsLeft o cut held' held'' (text_if waits text)
             → Stops o m (asks ++ a ∷ []) (stand kept' t'.steps) t'.kept held''
@@ -410,7 +400,7 @@ module _ {n : ℕ} {waits : Bool} {text : List ℕ} {asks : List Ask} {s : Stand
               answered = g.answered;
               part = left.part;
               wrote_is = refl;
-              one = inl (
+              one = (
                 record {
                   key = x.key;
                   command = x.command;
@@ -427,28 +417,16 @@ module _ {n : ℕ} {waits : Bool} {text : List ℕ} {asks : List Ask} {s : Stand
               );
             }
 
-    -- a command is begun, and what waits cannot be written
-    pub back_stops : cut → (a : Ask) (t' : Running) (own : List ℕ) (kept' : History) (held'' : Option (List ℕ)) → IsDecided a Begun t t' own → AppendsPart held' held'' (text_if waits text) → (o : Outcome)
-        → (o ≡ Broken) ⊎ (o ≡ Disk) → IsCommitted images moment images_since old new o t'.held t'.kept kept' → Stops o n (asks ++ a ∷ []) (stand kept' t'.steps) t'.kept held''
-    back_stops risen a t' own kept' held'' d p o which c = by_outcome o which c
-      where
-        by_outcome : (o : Outcome) → (o ≡ Broken) ⊎ (o ≡ Disk) → IsCommitted images moment images_since old new o t'.held t'.kept kept' → Stops o n (asks ++ a ∷ []) (stand kept' t'.steps) t'.kept held''
-        by_outcome Answered which c = absurd (elim which [ inl is ↦ (let no : ⊥ = cc in no) | inr is ↦ (let no : ⊥ = cc in no) ])
-        by_outcome NoMemory which c = absurd (elim which [ inl is ↦ (let no : ⊥ = cc in no) | inr is ↦ (let no : ⊥ = cc in no) ])
-        by_outcome Broken which c = record {
-          pending = [];
-          wrote = g.written ++ p.part;
-          appends = Appends-trans held held' held'' g.written p.part g.wrote p.wrote;
-          says_so = cut_back cut (a ∷ []) (stand kept' t'.steps) held'' (decided_tried a t t' own d kept' c.0) p;
-          disk = c.1;
-        }
-        by_outcome Disk which c = record {
-          pending = c.1.next ∷ [];
-          wrote = g.written ++ p.part;
-          appends = Appends-trans held held' held'' g.written p.part g.wrote p.wrote;
-          says_so = cut_stuck cut risen a t' own kept' held'' c.1.next c.1.rest d p c.0 c.1.all_are;
-          disk = subst (λ (h : History). OnDisk images moment images_since old new t'.kept.commands h.commands (c.1.next ∷ [])) (sym c.0) c.1.disk;
-        }
+    -- what waits cannot be written, and the next request is not taken
+    pub withdrawn_stops : (a : Ask) (t' : Running) (held'' : Option (List ℕ)) → IsHalted images moment images_since old new Broken a t t' → AppendsPart held' held'' (text_if waits text)
+        → Stops Broken n (asks ++ a ∷ []) (stand t'.kept t'.steps) t.kept held''
+    withdrawn_stops a t' held'' x p = record {
+      pending = [];
+      wrote = g.written ++ p.part;
+      appends = Appends-trans held held' held'' g.written p.part g.wrote p.wrote;
+      says_so = cut_back cut (a ∷ []) (stand t'.kept t'.steps) held'' (λ is. x.0) x.1 p;
+      disk = x.2;
+    }
 
     -- a command is begun, and no memory is there for its response
     pub begun_stops : (a : Ask) (t' : Running) (own : List ℕ) (kept' : History) (held1 held2 : Option (List ℕ)) → IsDecided a Begun t t' own → Appends held' held1 (text_if waits text) → (o : Outcome)

@@ -18,7 +18,7 @@ use Rattle.serv_links.specs.declared.outcome.Outcome.TheVariants.{Answered, Brok
 use Rattle.serv_links.specs.Meanings.{Meaning, Mean}
 use Rattle.serv_machine.specs.Stands.{Stand}
 use Rattle.serv_links.specs.Responses.{MovesAll, response_to, responses_to, response_500, response_503, after_all, bound_of_all, history_after, bound_of}
-use Rattle.serv_links.specs.Outcomes.{IsReplied, IsFront, IsAhead, IsNext, IsNextStuck, IsOne, IsStuck, IsAnswered, IsStopped, IsRound, IsCutOff, IsPiece, AppendsFront, Writes}
+use Rattle.serv_links.specs.Outcomes.{IsReplied, IsFront, IsAhead, IsOne, IsStuck, IsAnswered, IsStopped, IsRound, IsCutOff, IsPiece, AppendsFront, Writes}
 
 -- ---- lists of meanings
 
@@ -102,15 +102,6 @@ ahead_wider [] [] h n m is = is
 ahead_wider [] (a ∷ more) h n m is = inl is
 ahead_wider (a ∷ rest) more h n m is = is
 
-next_wider : (rest more : List Ask) (s s' : Stand) → IsNext rest s s' → IsNext (rest ++ more) s s'
-next_wider [] [] s s' is = is
-next_wider [] (a ∷ more) s s' is = inl is
-next_wider (a ∷ rest) more s s' is = is
-
-next_stuck_wider : (rest more : List Ask) (s s' : Stand) (pending : List Accepted) → IsNextStuck rest s s' pending → IsNextStuck (rest ++ more) s s' pending
-next_stuck_wider [] more s s' pending is = absurd is
-next_stuck_wider (a ∷ rest) more s s' pending is = is
-
 stuck_wider : (a : Ask) (rest more : List Ask) (s s' : Stand) (pending : List Accepted) → IsStuck a rest s s' pending → IsStuck a (rest ++ more) s s' pending
 stuck_wider a rest more s s' pending is = record {
   key = is.key;
@@ -128,9 +119,8 @@ stuck_wider a rest more s s' pending is = record {
 -- of more requests it is said too
 one_wider : (cut : Type 0) (o : Outcome) (a : Ask) (rest more : List Ask) (s s' : Stand) (pending : List Accepted) (w : List ℕ) → IsOne cut o a rest s s' pending w → IsOne cut o a (rest ++ more) s s' pending w
 one_wider cut Answered a rest more s s' pending w is = absurd is
-one_wider cut Broken a rest more s s' pending w (none, (t, is, next)) = (none, (t, is, next_wider rest more t s' next))
-one_wider cut Disk a rest more s s' pending w (inl (is, front)) = inl (stuck_wider a rest more s s' pending is, front)
-one_wider cut Disk a rest more s s' pending w (inr (risen, (t, is, next))) = inr (risen, (t, is, next_stuck_wider rest more t s' pending next))
+one_wider cut Broken a rest more s s' pending w (none, (t, is, next)) = (none, (t, is, (next.0, ahead_wider rest more t.history t.steps s'.steps next.1)))
+one_wider cut Disk a rest more s s' pending w (is, front) = (stuck_wider a rest more s s' pending is, front)
 one_wider cut NoMemory a rest more s s' pending w is = is
 
 stopped_wider : (cut : Type 0) (o : Outcome) (n : ℕ) (asks more : List Ask) (s s' : Stand) (pending : List Accepted) (w : List ℕ) → IsStopped cut o n asks s s' pending w → IsStopped cut o n (asks ++ more) s s' pending w
@@ -176,8 +166,7 @@ front_weaker cut later part whole then f = record { rest = f.rest; joined = f.jo
 one_weaker : (cut later : Type 0) (o : Outcome) (a : Ask) (rest : List Ask) (s s' : Stand) (pending : List Accepted) (w : List ℕ) → (cut → later) → IsOne cut o a rest s s' pending w → IsOne later o a rest s s' pending w
 one_weaker cut later Answered a rest s s' pending w then is = absurd is
 one_weaker cut later Broken a rest s s' pending w then is = is
-one_weaker cut later Disk a rest s s' pending w then (inl is) = inl (is.0, front_weaker cut later w response_500 then is.1)
-one_weaker cut later Disk a rest s s' pending w then (inr is) = inr (then is.0, is.1)
+one_weaker cut later Disk a rest s s' pending w then is = (is.0, front_weaker cut later w response_500 then is.1)
 one_weaker cut later NoMemory a rest s s' pending w then is = (is.0, is.1, front_weaker cut later w response_503 then is.2)
 
 stopped_weaker : (cut later : Type 0) (o : Outcome) (n : ℕ) (asks : List Ask) (s s' : Stand) (pending : List Accepted) (w : List ℕ) → (cut → later) → IsStopped cut o n asks s s' pending w → IsStopped later o n asks s s' pending w
@@ -256,6 +245,11 @@ module _ {D : Type 0} (images : D → List ℕ → Type 0) (moment : D → ℕ) 
       → Writes images moment images_since old new (IsStopped cut o n asks s s') h h' held held' → Writes images moment images_since old new (IsStopped later o n asks s s') h h' held held'
   stops_weaker cut later o old new n asks s s' h h' held held' then w =
       writes_as old new _ _ h h' held held' (λ pending wrote stopped. stopped_weaker cut later o n asks s s' pending wrote then stopped) w
+
+  pub stops_all : (cut later : Type 0) (old new : D) (r : Result (Unit {0}) Outcome) (n : ℕ) (asks : List Ask) (s s' : Stand) (h h' : List Accepted) (held held' : Option (List ℕ)) → (cut → later)
+      → IfErr r (λ o. Writes images moment images_since old new (IsStopped cut o n asks s s') h h' held held') → IfErr r (λ o. Writes images moment images_since old new (IsStopped later o n asks s s') h h' held held')
+  stops_all cut later old new (Ok done) n asks s s' h h' held held' then w = tt
+  stops_all cut later old new (Err o) n asks s s' h h' held held' then w = stops_weaker cut later o old new n asks s s' h h' held held' then w
 
   -- it stopped within the first of some requests
   pub round_stops : (cut later : Type 0) (o : Outcome) (old mid new : D) (n : ℕ) (asks first more : List Ask) (s s' : Stand) (h h1 : List Accepted) (held held' : Option (List ℕ)) → (cut → later) → asks ≡ first ++ more

@@ -15,14 +15,13 @@ use Rattle.serv_line.specs.Replies.{text_of_reply}
 use Rattle.serv_http.specs.declared.ask.Allow.{Allow}
 use Rattle.serv_http.specs.declared.ask.Ask.{Ask}
 use Rattle.serv_http.specs.declared.ask.Ask.TheVariants.{Post, Fault}
-use Rattle.serv_engine.specs.declared.taken.Taken.{Taken}
-use Rattle.serv_engine.specs.Engines.{reply_of}
+use Rattle.serv_machine.specs.declared.stage.Stage.{Stage}
 use Rattle.serv_machine.specs.declared.stage.Stage.TheVariants.{Begun, Settled}
 use Rattle.serv_machine.specs.History.{History, Decision, Kept, Refused, Full, Fresh, decided, after_decision}
 use Rattle.serv_machine.specs.declared.faults.ActFault.TheVariants as fault
 use Rattle.serv_machine.specs.OnDisk.{IsTorn}
 use Rattle.serv_machine.specs.Replies.{IsFaultBy, IsReplyBy, bound_of_request, history_after_request, reply_to_request, text_of_asked, text_of_decision}
-use Rattle.serv_machine.specs.Stages.{IsStaged, stage_in}
+use Rattle.serv_machine.specs.Stages.{IsStaged}
 use Rattle.serv_machine.specs.Stands.{Running}
 use Rattle.serv_links.specs.declared.verdict.Verdict.TheVariants as verdict
 use Rattle.serv_links.specs.Meanings.{Meaning, Asks, Faulty, Means, IsNoBody}
@@ -98,14 +97,13 @@ still a meant t t' text means text_is stays same cost = record {
     settled_no is = cc
 
 module _ (a : Ask) (key : List ℕ) (c : Command) (ends : Bool) (means : Means a (Asks (request.Do key c) ends)) (t t' : Running) (cost : t'.steps ≤ t.steps + step_bound t.held.commands key c) where
-  pub taken_decided : (taken : Taken) → IsReplyBy t.held c (decided t.held key c) (reply_of taken) → t'.held ≡ after_decision t.held (accepted key c) (decided t.held key c)
-      → IsStaged (stage_in taken) t.held t.kept t'.held t'.kept → (stage_in taken ≡ Begun → decided t.held key c ≡ Fresh)
-      → IsDecided a (stage_in taken) t t' (response_of (verdict.Reply (reply_of taken)) ends)
+  pub taken_decided : (stage : Stage) (reply : Reply) → IsReplyBy t.held c (decided t.held key c) reply → t'.held ≡ after_decision t.held (accepted key c) (decided t.held key c)
+      → IsStaged stage t.held t.kept t'.held t'.kept → (stage ≡ Begun → decided t.held key c ≡ Fresh) → IsDecided a stage t t' (response_of (verdict.Reply reply) ends)
   unfolding history_after_request bound_of_request
-  taken_decided taken reply after staged fresh = record {
+  taken_decided stage reply is after staged fresh = record {
     meant = Asks (request.Do key c) ends;
     means = means;
-    text_is = reply_response t.held key c ends (reply_of taken) reply;
+    text_is = reply_response t.held key c ends reply is;
     after = after;
     staged = staged;
     fresh = fresh;

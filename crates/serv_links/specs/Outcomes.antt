@@ -63,15 +63,9 @@ pub record IsTriedAs (a : Ask) (s s' : Stand) : Type 0 where
 abbrev pub IsTried : Ask → Stand → Stand → Type 0
 IsTried a s s' = Stays s s' ⊎ IsTriedAs a s s'
 
--- the first one of these was acted on or not, and no further one
-abbrev pub IsNext : List Ask → Stand → Stand → Type 0
-IsNext [] s s' = Stays s s'
-IsNext (a ∷ rest) s s' = IsTried a s s'
-
--- the disk failed while the command of the first one of these was being appended
-abbrev pub IsNextStuck : List Ask → Stand → Stand → List Accepted → Type 0
-IsNextStuck [] s s' pending = ⊥
-IsNextStuck (a ∷ rest) s s' pending = IsStuck a [] s s' pending
+-- none of these was acted on; steps may have been taken for the first one
+abbrev pub IsUntaken : List Ask → Stand → Stand → Type 0
+IsUntaken rest s s' = (s'.history ≡ s.history) × IsAhead rest s.history s.steps s'.steps
 
 -- a front part of a text, and all of it unless a write was cut
 pub record IsFront (cut : Type 0) (part whole : List ℕ) : Type 0 where
@@ -86,12 +80,10 @@ pub record AppendsFront (cut : Type 0) (held held' : Option (List ℕ)) (text : 
   pub front : IsFront cut part text
 
 -- How it went where it is not answered, or not whole, what was written, and the command that was being appended; 500 and 503 are
--- written whole unless a write was cut. One request more may have been acted on before it was answered
+-- written whole unless a write was cut. No request behind it is acted on
 abbrev pub IsOne : Type 0 → Outcome → Ask → List Ask → Stand → Stand → List Accepted → List ℕ → Type 0
-IsOne cut Broken a rest s s' pending wrote = (pending ≡ []) × ((t : Stand) × IsCut a s t wrote × IsNext rest t s')
-IsOne cut Disk a rest s s' pending wrote =
-    (IsStuck a rest s s' pending × IsFront cut wrote response_500)
-    ⊎ (cut × ((t : Stand) × IsCut a s t wrote × IsNextStuck rest t s' pending))
+IsOne cut Broken a rest s s' pending wrote = (pending ≡ []) × ((t : Stand) × IsCut a s t wrote × IsUntaken rest t s')
+IsOne cut Disk a rest s s' pending wrote = IsStuck a rest s s' pending × IsFront cut wrote response_500
 IsOne cut NoMemory a rest s s' pending wrote = (pending ≡ []) × IsTried a s s' × IsFront cut wrote response_503
 IsOne cut other a rest s s' pending wrote = ⊥
 

@@ -9,15 +9,15 @@ use Rattle.serv_report.specs.AnswerTexts.{IsSpellable, text_of_answer}
 use Rattle.serv_json.specs.Replies.{reply_text}
 use Rattle.serv_http.specs.declared.ask.Ask.{Ask}
 use Rattle.serv_http.specs.Responses.{response}
-use Rattle.serv_machine.specs.declared.faults.Halt.{Halt}
-use Rattle.serv_machine.specs.declared.faults.Halt.TheVariants as halt
 use Rattle.serv_machine.specs.declared.stage.Stage.{Stage}
-use Rattle.serv_machine.specs.declared.stage.Stage.TheVariants.{Begun}
+use Rattle.serv_machine.specs.declared.stage.Stage.TheVariants.{Begun, Settled}
 use Rattle.serv_machine.specs.History.{History, Fresh, decided}
 use Rattle.serv_machine.specs.OnDisk.{IsTorn, OnDisk}
 use Rattle.serv_machine.specs.Replies.{IsAppending}
 use Rattle.serv_machine.specs.Stages.{IsStaged}
 use Rattle.serv_machine.specs.Stands.{Running}
+use Rattle.serv_links.specs.declared.outcome.Outcome.{Outcome}
+use Rattle.serv_links.specs.declared.outcome.Outcome.TheVariants.{Answered, Broken, Disk, NoMemory}
 use Rattle.serv_links.specs.declared.verdict.Verdict.{Verdict}
 use Rattle.serv_links.specs.declared.verdict.Verdict.TheVariants.{Reply, Refused, Full, Answer, Fault}
 use Rattle.serv_links.specs.Meanings.{Meaning, Asks, Faulty, IsFault, Means}
@@ -57,6 +57,11 @@ pub record IsDecided (a : Ask) (stage : Stage) (t t' : Running) (text : List ℕ
   pub fresh : stage ≡ Begun → IsAppended t.held meant
   pub cost : t'.steps ≤ t.steps + bound_of t.held meant
 
+-- what is done of a text that waits for all commands before one that is begun: nothing, where none is
+abbrev pub LetsOutAt : Stage → Type 0 → Type 0 → Type 0
+LetsOutAt Settled nothing whole = nothing
+LetsOutAt Begun nothing whole = whole
+
 module _ {D : Type 0} (images : D → List ℕ → Type 0) (moment : D → ℕ) (images_since : D → ℕ → List ℕ → Type 0) (old new : D) where
   -- the disk failed while its command, or the one before it, was being appended
   pub record IsTornAt (a : Ask) (t t' : Running) : Type 0 where
@@ -68,8 +73,12 @@ module _ {D : Type 0} (images : D → List ℕ → Type 0) (moment : D → ℕ) 
     pub cost : t'.steps ≤ t.steps + bound_of t.held (Asks (request.Do key command) last)
     pub torn : IsTorn images moment images_since old new t.kept.commands (t.held.commands ++ accepted key command ∷ [])
 
-  -- nothing is decided about a request: no memory was there, or the disk failed
-  abbrev pub IsHalted : Halt → Ask → Running → Running → Type 0
-  IsHalted halt.OutOfMemory a t t' =
-      IsAhead (a ∷ []) t.held t.steps t'.steps × OnDisk images moment images_since old new t.kept.commands t'.kept.commands []
-  IsHalted halt.DiskFault a t t' = IsTornAt a t t'
+  -- nothing is decided about a request: no memory was there, the disk failed, or what waits for all before it could not be
+  -- written
+  abbrev pub IsHalted : Outcome → Ask → Running → Running → Type 0
+  IsHalted NoMemory a t t' =
+      (t'.kept ≡ t.kept) × IsAhead (a ∷ []) t.held t.steps t'.steps × OnDisk images moment images_since old new t.kept.commands t'.kept.commands []
+  IsHalted Disk a t t' = (t'.kept ≡ t.kept) × IsTornAt a t t'
+  IsHalted Broken a t t' =
+      (t'.kept ≡ t.held) × IsAhead (a ∷ []) t.held t.steps t'.steps × OnDisk images moment images_since old new t.kept.commands t'.kept.commands []
+  IsHalted Answered a t t' = ⊥

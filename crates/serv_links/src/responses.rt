@@ -3,7 +3,7 @@
 ghost use Rattle.std.specs.Prelude.{◌≡◌, ◌≢◌, ℕ, ◌+◌, ◌≤◌, ◌<◌, ◌^◌, ◌++◌, ◌∷◌, List, [], length, Option, Some, false, true, IfErr, OnErr, OnOk};
 ghost use Rattle.std.specs.Io.KnownBytes.{Appends};
 ghost use Rattle.serv_disk.specs.Faults.{AppendsPart, HasCause, HasRisen};
-ghost use Rattle.serv_disk.specs.Stamps.{Notes};
+ghost use Rattle.serv_disk.specs.Stamps.{Notes, Stamp};
 ghost use Rattle.serv_http.specs.declared.ask.Ask as asks;
 ghost use Rattle.serv_machine.specs.declared.stage.Stage.TheVariants as stages;
 ghost use Rattle.serv_machine.specs.OnDisk.{OnDisk};
@@ -21,7 +21,7 @@ use crate::outcome::Outcome;
 use crate::verdict::Verdict;
 use serv_disk::{Disk, Failed, Sink, write_beside};
 use serv_http::Ask;
-use serv_machine::{Halt, Machine, Stage};
+use serv_machine::{Machine, Stage};
 use std::alloc::Global;
 use std::sync::ledger::Ledger;
 use svc_base::Steps;
@@ -94,7 +94,7 @@ impl Responses {
         ensures faults { D.faults disk.old ≤ D.faults disk.new }
         ensures beside { K.beside link.new ≡ K.beside link.old }
     {
-        match decide(alloc, machine, disk, ask, steps) {
+        match decide(alloc, machine, disk, link, self.waiting(), ask, steps) {
             Ok(decided) => match decided.stage {
                 Stage::Begun => self.hold_back(
                     alloc,
@@ -113,15 +113,36 @@ impl Responses {
                     decided.ends,
                 ),
             },
-            Err(Halt::DiskFault) => {
+            Err(Outcome::Disk) => {
                 write_failed(link, disk);
                 Err(Outcome::Disk)
             }
-            Err(Halt::OutOfMemory) => Err(self.give_up(machine, disk, link)),
+            Err(Outcome::NoMemory) => Err(self.give_up(machine, disk, link)),
+            Err(Outcome::Broken) => Err(Outcome::Broken),
+            Err(Outcome::Answered) => unreachable!(),
         }
     }
 
-    /// After a command is begun: the disk has all before it, so what waits is written. Its own response waits.
+    /// The text that waits, or none.
+    fn waiting(&self) -> &[u8]
+        ensures { result.now ≡ text_if self.now.waits self.now.text.items }
+    {
+        if self.waits { &self.text } else { &[] }
+    }
+
+    /// Counts what waited as written.
+    fn let_go(&mut self)
+        requires few { self.old.answered + as_one self.old.waits < 2 ^ 32 }
+        ensures count { self.new.answered ≡ self.old.answered + as_one self.old.waits }
+        ensures none { self.new.waits ≡ false }
+    {
+        if self.waits {
+            self.waits = false;
+            self.answered += 1;
+        }
+    }
+
+    /// After a command is begun, and what waited is written, since the disk has all before it. Its own response waits.
     fn hold_back<D: Disk, M: Machine<D>, K: Sink>(
         &mut self,
         alloc: Global,
@@ -135,15 +156,17 @@ impl Responses {
         requires running { M.running machine.old disk.old }
         requires few { self.old.answered + as_one self.old.waits < 2 ^ 32 }
         ensures gathered { (done : List asks.Ask) (s : Stand) (t : Running) (ask : asks.Ask) (steps : ℕ)
-            (held : Option (List ℕ))
-            → Gathered self.old.answered self.old.waits self.old.text.items done s t held (K.held link.old)
+            (held before : Option (List ℕ))
+            → Gathered self.old.answered self.old.waits self.old.text.items done s t held before
+            → Appends before (K.held link.old) (text_if self.old.waits self.old.text.items)
             → IsDecided ask stages.Begun t (running (M.history machine.old) (M.kept machine.old) steps)
             (response_of verdict.now ends)
             → OnOk result (Gathered self.new.answered self.new.waits self.new.text.items (done ++ ask ∷ []) s
             (running (M.history machine.new) (M.kept machine.new) steps) held (K.held link.new)) }
         ensures stopped { (done : List asks.Ask) (s : Stand) (t : Running) (ask : asks.Ask) (steps : ℕ)
-            (held : Option (List ℕ))
-            → Gathered self.old.answered self.old.waits self.old.text.items done s t held (K.held link.old)
+            (held before : Option (List ℕ))
+            → Gathered self.old.answered self.old.waits self.old.text.items done s t held before
+            → Appends before (K.held link.old) (text_if self.old.waits self.old.text.items)
             → IsDecided ask stages.Begun t (running (M.history machine.old) (M.kept machine.old) steps)
             (response_of verdict.now ends)
             → IfErr result (λ why. Writes D.images D.moment D.images_since disk.old disk.new
@@ -151,12 +174,15 @@ impl Responses {
             (done ++ ask ∷ []) s (stand (M.kept machine.new) steps))
             (M.kept machine.old).commands (M.kept machine.new).commands held (K.held link.new)) }
         ensures upheld { (done : List asks.Ask) (s : Stand) (t : Running) (ask : asks.Ask) (steps : ℕ)
-            (held : Option (List ℕ))
-            → Gathered self.old.answered self.old.waits self.old.text.items done s t held (K.held link.old)
+            (held before : Option (List ℕ)) (log : Option (List Stamp))
+            → Gathered self.old.answered self.old.waits self.old.text.items done s t held before
+            → Appends before (K.held link.old) (text_if self.old.waits self.old.text.items)
             → IsDecided ask stages.Begun t (running (M.history machine.old) (M.kept machine.old) steps)
             (response_of verdict.now ends)
+            → ((x : List ℕ) → before ≡ Some x → Notes (D.moment disk.old)
+            (length x + length (text_if self.old.waits self.old.text.items)) log (K.log link.old))
             → Upholds (AreAnswers (done ++ ask ∷ []) s.history) (D.moment disk.new)
-            (D.images_since disk.new) (M.kept machine.new).commands held (K.log link.old) (K.log link.new) }
+            (D.images_since disk.new) (M.kept machine.new).commands held log (K.log link.new) }
         ensures count { OnOk result (self.new.answered + as_one self.new.waits
             ≡ self.old.answered + as_one self.old.waits + 1) }
         ensures few { OnErr result (self.new.answered ≤ self.old.answered + as_one self.old.waits) }
@@ -173,19 +199,14 @@ impl Responses {
         ensures faults { D.faults disk.old ≤ D.faults disk.new }
         ensures beside { K.beside link.new ≡ K.beside link.old }
     {
-        match self.write_waiting(disk, link) {
-            Ok(()) => match verdict.response(alloc, ends) {
-                Ok(text) => {
-                    self.text = text;
-                    self.waits = true;
-                    Ok(())
-                }
-                Err(_) => Err(self.give_up(machine, disk, link)),
-            },
-            Err(_) => match machine.commit(disk) {
-                Ok(()) => Err(Outcome::Broken),
-                Err(_) => Err(Outcome::Disk),
-            },
+        self.let_go();
+        match verdict.response(alloc, ends) {
+            Ok(text) => {
+                self.text = text;
+                self.waits = true;
+                Ok(())
+            }
+            Err(_) => Err(self.give_up(machine, disk, link)),
         }
     }
 

@@ -10,11 +10,10 @@ use Rattle.svc_world.specs.Judging as judging
 use Rattle.svc_world.specs.Judging.{Judgement, judged, IsHistory}
 use Rattle.serv_engine.specs.declared.fault.EngineFault.{EngineFault}
 use Rattle.serv_engine.specs.declared.fault.EngineFault.TheVariants as engine
-use Rattle.serv_engine.specs.Engines.{EngineState, IsRunningIn, IsRunning, WasTaken, kept_of, begun_of}
+use Rattle.serv_engine.specs.Engines.{EngineState, IsRunningIn, IsRunning, Replies, WasTaken, history_by, kept_of, begun_of}
 use Rattle.serv_engine.specs.declared.taken.Taken.{Taken}
 use Rattle.serv_engine.specs.declared.taken.Taken.TheVariants as taken
-use Rattle.serv_machine.specs.declared.stage.Stage.TheVariants as stage
-use Rattle.serv_machine.specs.Stages.{IsStaged, stage_in}
+use Rattle.serv_machine.specs.Stages.{IfBegun, IsStagedBy}
 use Rattle.serv_engine.specs.Histories.{line_of_command, record_length, lengths_of, IsAroundFor}
 use Rattle.serv_engine.proofs.LengthLemmas.{size_of}
 use Rattle.serv_engine.proofs.RunningLemmas.{running_stands, kept_and_begun}
@@ -110,7 +109,7 @@ history_told old new a judging.Fresh base reply is size h limit size' room =
 pub long_enough : (e : EngineState) (base : ℕ) → e.journal.size ≡ base + lengths_of e.history → lengths_of e.history ≤ e.journal.size
 long_enough e base is = omega (arith, is)
 
-pub act_reply : (e : EngineState) (key : List ℕ) (c : Command) (reply : Reply) → lengths_of e.history ≤ e.journal.size → IsReplyTo e.history c (judged e.history key c) reply
+act_reply : (e : EngineState) (key : List ℕ) (c : Command) (reply : Reply) → lengths_of e.history ≤ e.journal.size → IsReplyTo e.history c (judged e.history key c) reply
     → (judged e.history key c ≡ judging.Fresh → HasRoom e.journal (accepted key c)) → IsReplyBy (history_of e) c (decided (history_of e) key c) reply
 unfolding decided
 act_reply e key c reply fits is room = reply_told e (accepted key c) fits (judged e.history key c) reply is room
@@ -120,7 +119,7 @@ pub act_fault_is : (e : EngineState) (key : List ℕ) (c : Command) (old new : �
 unfolding decided
 act_fault_is e key c old new f fits is = fault_told e (accepted key c) fits (judged e.history key c) old new f is
 
-pub act_after : (old new : EngineState) (key : List ℕ) (c : Command) (base : ℕ) (reply : Reply) → IsReplyTo old.history c (judged old.history key c) reply → old.journal.size ≡ base + lengths_of old.history
+act_after : (old new : EngineState) (key : List ℕ) (c : Command) (base : ℕ) (reply : Reply) → IsReplyTo old.history c (judged old.history key c) reply → old.journal.size ≡ base + lengths_of old.history
     → new.history ≡ judging.history_after old.history key c (judged old.history key c) → new.journal.limit ≡ old.journal.limit → new.journal.size ≡ base + lengths_of new.history
     → (judged old.history key c ≡ judging.Fresh → HasRoom old.journal (accepted key c)) → history_of new ≡ after_decision (history_of old) (accepted key c) (decided (history_of old) key c)
 unfolding decided
@@ -149,6 +148,26 @@ pub kept_behind : (old new : EngineState) (base : ℕ) → kept_of new ≡ old.h
     → kept_history new ≡ history_of old
 kept_behind old new base kept size size' limit =
     same_in _ _ new.journal.limit old.journal.limit (kept_of new) old.history (base_on old.journal.size (lengths_of old.history) new.journal.size (lengths_of new.history) base size size') limit kept
+
+-- nothing is held but what was
+held_same : (old new : EngineState) (base : ℕ) → new.history ≡ old.history → old.journal.size ≡ base + lengths_of old.history → new.journal.size ≡ base + lengths_of new.history → new.journal.limit ≡ old.journal.limit
+    → history_of new ≡ history_of old
+held_same old new base same size size' limit =
+    same_in _ _ new.journal.limit old.journal.limit new.history old.history (base_on old.journal.size (lengths_of old.history) new.journal.size (lengths_of new.history) base size size') limit same
+
+-- by what became of a command
+pub acts_reply : (e : EngineState) (key : List ℕ) (c : Command) (t : Taken) → lengths_of e.history ≤ e.journal.size → Replies t (IsReplyTo e.history c (judged e.history key c))
+    → (judged e.history key c ≡ judging.Fresh → HasRoom e.journal (accepted key c)) → Replies t (IsReplyBy (history_of e) c (decided (history_of e) key c))
+acts_reply e key c (taken.Settled reply) fits is room = act_reply e key c reply fits is room
+acts_reply e key c (taken.Begun reply) fits is room = act_reply e key c reply fits is room
+acts_reply e key c taken.Withdrawn fits is room = tt
+
+pub acts_after : (old new : EngineState) (key : List ℕ) (c : Command) (base : ℕ) (t : Taken) → Replies t (IsReplyTo old.history c (judged old.history key c)) → old.journal.size ≡ base + lengths_of old.history
+    → new.history ≡ history_by t old.history (judging.history_after old.history key c (judged old.history key c)) → new.journal.limit ≡ old.journal.limit → new.journal.size ≡ base + lengths_of new.history
+    → (judged old.history key c ≡ judging.Fresh → HasRoom old.journal (accepted key c)) → history_of new ≡ history_by t (history_of old) (after_decision (history_of old) (accepted key c) (decided (history_of old) key c))
+acts_after old new key c base (taken.Settled reply) is size h limit size' room = act_after old new key c base reply is size h limit size' room
+acts_after old new key c base (taken.Begun reply) is size h limit size' room = act_after old new key c base reply is size h limit size' room
+acts_after old new key c base taken.Withdrawn is size h limit size' room = held_same old new base h size size' limit
 
 next_history : (h : List Accepted) (a : Accepted) (behind all : List Accepted) → all ≡ h ++ a ∷ behind → IsHistory all → IsHistory (h ++ a ∷ [])
 next_history h a behind all is history = history_before (h ++ a ∷ []) behind (subst IsHistory (is ∙ sym (append_assoc h (a ∷ []) behind)) history)
@@ -182,18 +201,17 @@ module _ (e e' : EngineState) (key : List ℕ) (c : Command) (base : ℕ) (size 
   unfolding decided
   act_fresh fresh room = fresh_told e (accepted key c) (long_enough e base size) said fresh room
 
-  module _ (unchanged : Type 0) (same : unchanged → e' ≡ e) (is_begun : Type 0) (behind : is_begun → kept_of e' ≡ e.history) where
-    pub staged_by : (t : Taken) → WasTaken said t unchanged is_begun → e'.journal.size ≡ base + lengths_of e'.history → e'.journal.limit ≡ e.journal.limit
-        → IsStaged (stage_in t) (history_of e) (kept_history e) (history_of e') (kept_history e')
-    staged_by (taken.Settled reply) was size' limit = inl (ap history_of (same was.1), ap kept_history (same was.1))
-    staged_by (taken.Begun reply) was size' limit = kept_behind e e' base (behind was.1) size size' limit
+  module _ (unchanged : Type 0) (same : unchanged → e' ≡ e) (is_begun : Type 0) (behind : is_begun → kept_of e' ≡ e.history) (is_alone : Type 0) (alone : is_alone → kept_of e' ≡ e.history) where
+    pub staged_by : (t : Taken) (after : List Accepted) → WasTaken said t unchanged is_begun is_alone → e'.history ≡ history_by t e.history after
+        → e'.journal.size ≡ base + lengths_of e'.history → e'.journal.limit ≡ e.journal.limit → IsStagedBy t (history_of e) (kept_history e) (history_of e') (kept_history e')
+    staged_by (taken.Settled reply) after was h size' limit = inl (ap history_of (same was.1), ap kept_history (same was.1))
+    staged_by (taken.Begun reply) after was h size' limit = kept_behind e e' base (behind was.1) size size' limit
+    staged_by taken.Withdrawn after was h size' limit = (held_same e e' base h size size' limit, kept_behind e e' base (alone was.1) size size' limit)
 
-    pub fresh_by : (t : Taken) → WasTaken said t unchanged is_begun → (said ≡ judging.Fresh → HasRoom e.journal (accepted key c)) → stage_in t ≡ stage.Begun → decided (history_of e) key c ≡ Fresh
-    fresh_by (taken.Settled reply) was room is = absurd (settled_no is)
-      where
-        settled_no : stage.Settled ≡ stage.Begun → ⊥
-        settled_no is = cc
-    fresh_by (taken.Begun reply) was room is = act_fresh was.0 (room was.0)
+    pub fresh_by : (t : Taken) → WasTaken said t unchanged is_begun is_alone → (said ≡ judging.Fresh → HasRoom e.journal (accepted key c)) → IfBegun t (decided (history_of e) key c ≡ Fresh)
+    fresh_by (taken.Settled reply) was room = tt
+    fresh_by (taken.Begun reply) was room = act_fresh was.0 (room was.0)
+    fresh_by taken.Withdrawn was room = act_fresh was.0 (room was.0)
 
 memory : ◌≡◌ {A = Result Taken ActFault} (Err fault.OutOfMemory) (Err fault.DiskFault) → ⊥
 memory is = cc
@@ -232,10 +250,11 @@ module _ {D : Type 0} (images : D → List ℕ → Type 0) (moment : D → ℕ) 
   behind_disk h is history each =
       disk_kept images moment images_since old new (kept_of e) h (begun_of e) (is ∙ sym (kept_and_begun e)) (subst IsHistory (sym is) history) each along
 
-  pub taken_disk : (Behind : Type 0) → (Behind → kept_of e' ≡ e.history) → (t : Taken) (said : Judgement) → WasTaken said t ((e' ≡ e) × (new ≡ old)) Behind → IsHistory e.history → IsRunning (images new) e'
-      → OnDisk images moment images_since old new (kept_of e) (kept_of e') []
-  taken_disk Behind behind (taken.Settled reply) j was history runs' = kept_disk was.1
-  taken_disk Behind behind (taken.Begun reply) j was history runs' = behind_disk (kept_of e') (behind was.1) history (running_whole (images new) e' runs')
+  pub taken_disk : (Behind : Type 0) → (Behind → kept_of e' ≡ e.history) → (Alone : Type 0) → (Alone → kept_of e' ≡ e.history) → (t : Taken) (said : Judgement)
+      → WasTaken said t ((e' ≡ e) × (new ≡ old)) Behind Alone → IsHistory e.history → IsRunning (images new) e' → OnDisk images moment images_since old new (kept_of e) (kept_of e') []
+  taken_disk Behind behind Alone alone (taken.Settled reply) j was history runs' = kept_disk was.1
+  taken_disk Behind behind Alone alone (taken.Begun reply) j was history runs' = behind_disk (kept_of e') (behind was.1) history (running_whole (images new) e' runs')
+  taken_disk Behind behind Alone alone taken.Withdrawn j was history runs' = behind_disk (kept_of e') (alone was.1) history (running_whole (images new) e' runs')
 
   pub torn_disk : (behind all : List Accepted) → all ≡ e.history ++ behind → (begun_of e ++ behind ≡ [] → ⊥) → IsHistory all
       → ((form : Form) → IsRunningIn form (images old) e → Each (images new) (IsAroundFor form (kept_of e) (begun_of e))) → IsTorn images moment images_since old new (kept_of e) all

@@ -1,11 +1,9 @@
 -- What a durable engine leaves on the disk, and one that has begun a command.
-use Rattle.std.proofs.Common.{◌≡◌, ℕ, ◌+◌, ◌-◌, List, [], ◌∷◌, ◌++◌, length, ap}
+use Rattle.std.proofs.Common.{◌≡◌, ℕ, ◌-◌, List, ap}
 use Rattle.serv_disk.specs.Disks.{Each}
 use Rattle.serv_engine.specs.Engines.{EngineState, IsDurable, IsRunning, kept_of, begun_of}
 use Rattle.serv_engine.proofs.RunningLemmas as running
-use Rattle.serv_journal.specs.Disks.{IsAtRest, IsWholeIn}
-use Rattle.serv_journal.specs.Format.{Form, base, body}
-use Rattle.serv_journal.proofs.FormatLemmas.{closed_starts}
+use Rattle.serv_journal.proofs.BegunLemmas.{rest_whole}
 use Rattle.serv_engine.specs.Histories.{lines_of_history, lengths_of}
 use Rattle.serv_machine.specs.Engines.{history_of, kept_history}
 use Rattle.serv_machine.specs.History.{in_journal}
@@ -13,11 +11,6 @@ use Rattle.serv_machine.specs.OnDisk.{HasHistory}
 
 pub durable_whole : (images : List ℕ → Type 0) (e : EngineState) → IsDurable images e → Each images (HasHistory e.history)
 durable_whole images e durable = λ c image. record { form = durable.form; is_form = durable.kept.stands.is_form; whole = durable.kept.each c image }
-
--- a record that is begun stands behind the journal
-rest_whole : (form : Form) (lines begun : List (List ℕ)) (file : List ℕ) → IsAtRest form lines begun file → IsWholeIn form lines file
-rest_whole form lines [] file is = is
-rest_whole form lines (line ∷ more) file is = closed_starts (base form lines) (body form.version (length lines + 1) line ++ 0 ∷ []) file is
 
 pub running_whole : (images : List ℕ → Type 0) (e : EngineState) → IsRunning images e → Each images (HasHistory (kept_of e))
 running_whole images e r = λ c image. record {

@@ -11,7 +11,7 @@ ghost use Rattle.serv_machine.specs.OnDisk.{IsTorn, OnDisk};
 use crate::faults::{ActFault, Halt};
 use crate::machine::Machine;
 use crate::stage::Stage;
-use serv_disk::Disk;
+use serv_disk::{CalmSink, Disk};
 use serv_engine::Taken;
 use serv_line::{push_full, push_refusal, push_reply};
 use serv_report::push_answer;
@@ -62,7 +62,7 @@ pub fn answer_request<D: Disk, M: Machine<D>, L: Ledger>(
 }
 
 /// Acts on a command, and appends its reply.
-#[tactic(auto, unfolding(crate::specs::Replies::reply_to_request, crate::specs::Replies::history_after_request, crate::specs::Replies::bound_of_request))]
+#[tactic(auto, using(serv_engine::proofs::EnteringLemmas::no_part), unfolding(crate::specs::Replies::reply_to_request, crate::specs::Replies::history_after_request, crate::specs::Replies::bound_of_request))]
 fn answer_command<D: Disk, M: Machine<D>, L: Ledger>(
     machine: &mut M,
     disk: &mut D,
@@ -98,7 +98,8 @@ fn answer_command<D: Disk, M: Machine<D>, L: Ledger>(
     ensures steps { steps.new ≤ steps.old
         + bound_of_request (M.history machine.old) (request.Do key.now command.now) }
 {
-    match machine.begin(disk, key, command, steps) {
+    let mut sink = CalmSink::new();
+    match machine.begin(disk, key, command, &mut sink, &[], steps) {
         Ok(Taken::Settled(reply)) => {
             push_reply(out, &reply)?;
             Ok(Stage::Settled)
@@ -107,6 +108,7 @@ fn answer_command<D: Disk, M: Machine<D>, L: Ledger>(
             push_reply(out, &reply)?;
             Ok(Stage::Begun)
         }
+        Ok(Taken::Withdrawn) => unreachable!(),
         Err(ActFault::Refused(why)) => {
             push_refusal(out, &why)?;
             Ok(Stage::Settled)

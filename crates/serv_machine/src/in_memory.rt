@@ -3,7 +3,7 @@
 use crate::faults::ActFault;
 use crate::machine::Machine;
 use crate::nowhere::Nowhere;
-use serv_disk::Failed;
+use serv_disk::{Failed, Sink};
 use serv_engine::Taken;
 use std::sync::ledger::Ledger;
 use svc_base::Steps;
@@ -26,11 +26,13 @@ impl Machine<Nowhere> for Core<Checked> {
 
     ghost failed = { λ _. ⊥ };
 
-    fn begin<L: Ledger>(
+    fn begin<K: Sink, L: Ledger>(
         &mut self,
         _: &mut Nowhere,
         key: &Key,
         command: &Command,
+        _: &mut K,
+        _: &[u8],
         steps: &mut Steps<L>,
     ) -> Result<Taken, ActFault> {
         let _ = key.bytes();

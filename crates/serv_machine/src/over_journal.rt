@@ -5,7 +5,7 @@ ghost use Rattle.serv_machine.specs.Engines.{fault_of};
 
 use crate::faults::ActFault;
 use crate::machine::Machine;
-use serv_disk::{Disk, Failed};
+use serv_disk::{Disk, Failed, Sink};
 use serv_engine::{Engine, EngineFault, Taken};
 use std::sync::ledger::Ledger;
 use svc_base::Steps;
@@ -45,16 +45,18 @@ impl<D: Disk> Machine<D> for Engine<Checked> {
 
     ghost failed = { λ e. e.journal.spent ≡ true };
 
-    fn begin<L: Ledger>(
+    fn begin<K: Sink, L: Ledger>(
         &mut self,
         disk: &mut D,
         key: &Key,
         command: &Command,
+        sink: &mut K,
+        waiting: &[u8],
         steps: &mut Steps<L>,
     ) -> Result<Taken, ActFault> {
         let _ = key.bytes();
         self.core().history_holds();
-        match Engine::<Checked>::begin(self, disk, key, command, steps) {
+        match Engine::<Checked>::begin(self, disk, key, command, sink, waiting, steps) {
             Ok(taken) => Ok(taken),
             Err(fault) => Err(act_fault(fault)),
         }

@@ -20,7 +20,7 @@ use Rattle.serv_links.specs.declared.outcome.Outcome.TheVariants as outcome
 use Rattle.serv_links.specs.declared.summary.Summary.{Summary}
 use Rattle.serv_links.specs.Meanings.{Meaning, Asks, Faulty}
 use Rattle.serv_links.specs.Responses as links
-use Rattle.serv_links.specs.Outcomes.{IsAnswered, IsCut, IsCutOff, IsNext, IsNextStuck, IsOne, IsStopped, IsTriedAs}
+use Rattle.serv_links.specs.Outcomes.{IsAnswered, IsCut, IsCutOff, IsOne, IsStopped, IsTriedAs}
 use Rattle.serv_links.specs.Links.{IsDiskEnd, IsServed, IsStarved, Serves, link_limit}
 use Rattle.serv_links.specs.Doors.{AreServed, IsDoorsEnd, IsSummary, OneServed, ServedLink, ServesDoors, text_of_summary}
 use Rattle.serv_top.specs.declared.status.Status.{Status}
@@ -51,22 +51,13 @@ store_tried a s s' is =
     ⊎_elim (λ same. ap store_of same.0)
     (λ tried. ⊎_elim (λ same. ap store_of same) (λ moved. ap store_of moved ∙ store_meant s.history tried.meant) tried.near) is
 
-store_next : (rest : List Ask) (s s' : Stand) → IsNext rest s s' → s'.history.store ≡ s.history.store
-store_next [] s s' is = ap store_of is.0
-store_next (a ∷ rest) s s' is = store_tried a s s' is
-
-store_next_stuck : (rest : List Ask) (s s' : Stand) (pending : List Accepted) → IsNextStuck rest s s' pending → s'.history.store ≡ s.history.store
-store_next_stuck [] s s' pending is = absurd is
-store_next_stuck (a ∷ rest) s s' pending is = ap store_of is.same
-
 store_cut : (a : Ask) (s s' : Stand) (wrote : List ℕ) → IsCut a s s' wrote → s'.history.store ≡ s.history.store
 store_cut a s s' wrote is = ap store_of is.moved.0 ∙ store_meant s.history is.meant
 
 store_one : (cut : Type 0) (o : Outcome) (a : Ask) (rest : List Ask) (s s' : Stand) (pending : List Accepted) (wrote : List ℕ) → IsOne cut o a rest s s' pending wrote → s'.history.store ≡ s.history.store
 store_one cut outcome.Answered a rest s s' pending wrote is = absurd is
-store_one cut outcome.Broken a rest s s' pending wrote (none, (t, is, next)) = store_next rest t s' next ∙ store_cut a s t wrote is
-store_one cut outcome.Disk a rest s s' pending wrote (inl (is, front)) = ap store_of is.same
-store_one cut outcome.Disk a rest s s' pending wrote (inr (risen, (t, is, next))) = store_next_stuck rest t s' pending next ∙ store_cut a s t wrote is
+store_one cut outcome.Broken a rest s s' pending wrote (none, (t, is, next)) = ap store_of next.0 ∙ store_cut a s t wrote is
+store_one cut outcome.Disk a rest s s' pending wrote (is, front) = ap store_of is.same
 store_one cut outcome.NoMemory a rest s s' pending wrote is = store_tried a s s' is.1
 
 store_stopped : (cut : Type 0) (o : Outcome) (n : ℕ) (asks : List Ask) (s s' : Stand) (pending : List Accepted) (wrote : List ℕ) → IsStopped cut o n asks s s' pending wrote

@@ -102,7 +102,7 @@ returns-clause-round g c =
     c.in-Err-settle.outcome c.args.disk.now c.loop-ask.disk c.settle.new.disk c.loop-ask.responses.answered asks (asks ++ []) [] (stand (g.M.Machine.kept c.args.machine.now) c.args.steps.now) (stand (g.M.Machine.kept c.settle.new.machine) c.loop-ask.steps) _ _ _ _
     (risen_last _ _ _ c.loop-ask.invariant.later c.settle.ensures.later) (sym (append-nil (asks ++ []) ∙ append-nil asks)) c.loop-ask.invariant.disk
     (settled_stops gathered g.D.Disk.images g.D.Disk.moment g.D.Disk.images_since c.loop-ask.disk c.settle.new.disk (HasRisen (g.K.Sink.faults c.loop-ask.link) (g.K.Sink.faults c.settle.new.link)) [] t
-    (g.M.Machine.kept c.settle.new.machine) (g.K.Sink.held c.settle.new.link) (inl (refl, refl)) (refl, omega arith) c.in-Err-settle.outcome c.in-Err-settle.ensures.memory c.in-Err-settle.ensures.committed c.in-Err-settle.ensures.left))
+    (g.M.Machine.kept c.settle.new.machine) (g.K.Sink.held c.settle.new.link) (inl (refl, refl)) (omega arith) c.in-Err-settle.outcome c.in-Err-settle.ensures.memory c.in-Err-settle.ensures.committed c.in-Err-settle.ensures.left))
 
 pub returns-clause-upheld : goal.returns-clause-upheld
 returns-clause-upheld g c =

@@ -17,6 +17,7 @@ returns-in-Err-NotRequest-clause-disk g c =
 
 pub returns-in-Err-OutOfMemory-clause-halted : goal.returns-in-Err-OutOfMemory-clause-halted
 returns-in-Err-OutOfMemory-clause-halted g c = (
+  refl,
   inl (omega arith),
   disk_none g.D.Disk.images g.D.Disk.moment g.D.Disk.images_since c.args.disk.now _ _ refl
       (g.met.M.Machine.keeps_running c.args.machine.now c.args.disk.now c.requires.running) (g.met.D.Disk.only_now c.args.disk.now),

@@ -31,6 +31,7 @@ returns-in-Err-Refused-clause-disk g c =
 pub returns-in-Err-OutOfMemory-clause-halted : goal.returns-in-Err-OutOfMemory-clause-halted
 unfolding bound_of_request
 returns-in-Err-OutOfMemory-clause-halted g c = λ a means. (
+  refl,
   asked_short a c.in-Ask.query c.args.ends (rw c.in-Ask.is at means) (running (g.M.Machine.history c.args.machine.now) (g.M.Machine.kept c.args.machine.now) c.args.steps.now)
       (running (g.M.Machine.history c.args.machine.now) (g.M.Machine.kept c.args.machine.now) c.answer.new.steps) (refl, refl) c.answer.ensures.steps,
   disk_none g.D.Disk.images g.D.Disk.moment g.D.Disk.images_since c.args.disk.now _ _ refl

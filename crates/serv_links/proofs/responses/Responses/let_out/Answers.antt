@@ -4,7 +4,7 @@ use Rattle.serv_machine.specs.History.{History}
 use Rattle.serv_machine.specs.Stands.{running}
 use Rattle.serv_links.specs.declared.outcome.Outcome.TheVariants as outcome
 use Rattle.serv_links.specs.Responses.{response_503}
-use Rattle.serv_links.proofs.GatheredLemmas.{decided_tried, let_out, own_cut, own_starved, settled_stops}
+use Rattle.serv_links.proofs.GatheredLemmas.{decided_ahead, let_out, own_cut, own_starved, settled_stops}
 use Rattle.serv_links.proofs.RoundLemmas.{risen_last, stops_weaker}
 use Rattle.serv_links.proofs.UpheldLemmas.{commands_in, ended_upheld, grown_to, last_after, own_upheld, waiting_upheld}
 use Rattle.serv_links.proofs.responses.Responses.let_out.Goals as goal
@@ -14,7 +14,7 @@ returns-clause-stopped g c = λ done s t ask steps held gathers decided.
     rw c.in-Err.ensures.same
     (settled_stops gathers g.D.Disk.images g.D.Disk.moment g.D.Disk.images_since c.args.disk.now c.settle.new.disk (HasRisen (g.K.Sink.faults c.args.link.now) (g.K.Sink.faults c.settle.new.link)) (ask ∷ [])
     (running (g.M.Machine.history c.args.machine.now) (g.M.Machine.kept c.args.machine.now) steps) (g.M.Machine.kept c.settle.new.machine) (g.K.Sink.held c.settle.new.link) decided.staged
-    (decided_tried ask t (running (g.M.Machine.history c.args.machine.now) (g.M.Machine.kept c.args.machine.now) steps) _ decided (g.M.Machine.history c.args.machine.now) refl)
+    (decided_ahead ask t (running (g.M.Machine.history c.args.machine.now) (g.M.Machine.kept c.args.machine.now) steps) _ decided)
     c.in-Err.why c.in-Err.ensures.memory c.in-Err.ensures.committed c.in-Err.ensures.left)
 
 pub returns-clause-upheld : goal.returns-clause-upheld
