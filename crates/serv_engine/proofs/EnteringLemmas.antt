@@ -1,9 +1,8 @@
 -- A command that is taken so far: begun, or until the disk has it.
-use Rattle.std.proofs.Common.{◌≡◌, ℕ, List, [], ◌∷◌, ◌++◌, Option, None, length, inl, refl, sym, ap, subst, ◌∙◌, arith, length-append}
+use Rattle.std.proofs.Common.{◌≡◌, ℕ, List, [], ◌∷◌, ◌++◌, None, inl, refl, sym, ap, subst, ◌∙◌}
 use Rattle.std.proofs.lemmas.List.{map-append}
 use Rattle.svc_world.specs.World.{Accepted}
 use Rattle.serv_disk.specs.Disks.{Each, LeavesOnly}
-use Rattle.serv_disk.specs.Faults.{AppendsPart}
 use Rattle.serv_disk.proofs.Moments.{started}
 use Rattle.serv_journal.specs.Format.{Form}
 use Rattle.serv_journal.specs.States.{JournalState}
@@ -109,22 +108,3 @@ pub running_durable : (form : Form) (images : List ℕ → Type 0) (e : EngineSt
 running_durable form images e none r =
     subst (λ x. IsKept form images e.journal (lines_of_history x) []) (none_kept_of e none)
     (subst (λ x. IsKept form images e.journal (lines_of_history (kept_of e)) (lines_of_history x)) (none_begun_of e none) r)
-
--- ---- a command that is withdrawn
-
--- of nothing no part is written that does not reach its end
-pub no_part : (held held' : Option (List ℕ)) → AppendsPart held held' [] → ⊥
-no_part held held' part = omega (arith, ap length part.partial.joined, length-append part.part part.partial.rest, part.partial.some)
-
--- only one that is begun is
-pub was_begun : (until : Until) (held held' : Option (List ℕ)) (text : List ℕ) → (until ≡ Kept → text ≡ []) → AppendsPart held held' text → until ≡ Begun
-was_begun Begun held held' text nothing part = refl
-was_begun Kept held held' text nothing part = absurd (no_part held held' (subst (AppendsPart held held') (nothing refl) part))
-
--- the disk has all commands before it
-pub withdrawn_durable : (until : Until) (form : Form) (images : List ℕ → Type 0) (old new : EngineState) (a : Accepted) (put : JournalState) → until ≡ Begun → new.history ≡ old.history
-    → IsKept form images put (lines_of_history (kept_after until (kept_of old ++ begun_of old) a)) (lines_of_history (begun_after until a))
-    → ((lines begun : List (List ℕ)) → IsKept form images put lines begun → IsKept form images new.journal lines []) → IsDurableIn form images new
-withdrawn_durable Kept form images old new a put is same kept withdrawn = absurd (let no_way : ⊥ = cc in no_way)
-withdrawn_durable Begun form images old new a put is same kept withdrawn =
-    subst (λ h. IsKept form images new.journal (lines_of_history h) []) (kept_and_begun old ∙ sym same) (withdrawn _ _ kept)

@@ -13,9 +13,8 @@ use Rattle.serv_engine.specs.declared.fault.EngineFault.{EngineFault}
 use Rattle.serv_engine.specs.declared.fault.EngineFault.TheVariants as fault
 use Rattle.serv_engine.specs.Histories.{lengths_of}
 use Rattle.serv_engine.specs.declared.taken.Taken.{Taken}
-use Rattle.serv_engine.specs.declared.taken.Taken.TheVariants.{Settled, Begun, Withdrawn}
-use Rattle.serv_engine.specs.declared.until.Until.TheVariants as until
-use Rattle.serv_engine.specs.Engines.{EngineState, IsRunningIn, Replies, WasTaken, history_by}
+use Rattle.serv_engine.specs.declared.taken.Taken.TheVariants.{Settled, Begun}
+use Rattle.serv_engine.specs.Engines.{EngineState, IsRunningIn, WasTaken}
 use Rattle.serv_engine.proofs.LengthLemmas.{size_grows}
 use Rattle.serv_engine.proofs.RunningLemmas.{running_stands}
 
@@ -43,26 +42,9 @@ pub not_both : (said : Judgement) (reply : Reply) → said ≡ Kept reply → sa
 not_both said reply kept fresh = let no_way : ⊥ = cc in no_way
 
 -- a kept reply is taken with nothing changed
-pub taken_unchanged : (said : Judgement) (taken : Taken) (unchanged behind alone : Type 0) (reply : Reply) → WasTaken said taken unchanged behind alone → said ≡ Kept reply → unchanged
-taken_unchanged said (Settled r) unchanged behind alone reply was is = was.1
-taken_unchanged said (Begun r) unchanged behind alone reply was is = absurd (not_both said reply is was.0)
-taken_unchanged said Withdrawn unchanged behind alone reply was is = absurd (not_both said reply is was.0)
-
--- a command that is not withdrawn
-pub reply_said : (taken : Taken) (says : Reply → Type 0) (r : Reply) → (taken ≡ Withdrawn → ⊥) → Replies taken (λ reply. r ≡ reply) → Replies taken says → says r
-reply_said (Settled x) says r not is said = subst says (sym is) said
-reply_said (Begun x) says r not is said = subst says (sym is) said
-reply_said Withdrawn says r not is said = absurd (not refl)
-
-pub history_taken : (taken : Taken) (new before after : List Accepted) → (taken ≡ Withdrawn → ⊥) → new ≡ history_by taken before after → new ≡ after
-history_taken (Settled x) new before after not is = is
-history_taken (Begun x) new before after not is = is
-history_taken Withdrawn new before after not is = absurd (not refl)
-
-pub never_withdrawn : (said : Judgement) (taken : Taken) (unchanged behind x y : Type 0) → WasTaken said taken unchanged behind (x × y × (until.Kept ≡ until.Begun)) → taken ≡ Withdrawn → ⊥
-never_withdrawn said (Settled r) unchanged behind x y was is = let no_way : ⊥ = cc in no_way
-never_withdrawn said (Begun r) unchanged behind x y was is = let no_way : ⊥ = cc in no_way
-never_withdrawn said Withdrawn unchanged behind x y was is = let e = was.1.2 in let no_way : ⊥ = cc in no_way
+pub taken_unchanged : (said : Judgement) (taken : Taken) (unchanged behind : Type 0) (reply : Reply) → WasTaken said taken unchanged behind → said ≡ Kept reply → unchanged
+taken_unchanged said (Settled r) unchanged behind reply was is = was.1
+taken_unchanged said (Begun r) unchanged behind reply was is = absurd (not_both said reply is was.0)
 
 -- the journal's length where it stands for both histories
 pub length_more : (form : Form) (images : List ℕ → Type 0) (later : List ℕ → Type 0) (old new : EngineState) → IsRunningIn form images old → IsRunningIn form later new

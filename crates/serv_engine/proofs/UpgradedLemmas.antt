@@ -18,9 +18,9 @@ whole_now moment images images_since disk j lines only durable =
     started moment images_since disk (IsWhole lines) (λ c left. record { form = durable.form; is_form = durable.kept.stands.is_form; whole = durable.kept.each c (only c left) })
 
 -- the disk keeps the lines in the form of the upgrade
-pub upgraded_durable : (form : Form) (images : List ℕ → Type 0) (j : JournalState) (lines : List (List ℕ)) → StandsFor (upgraded_form form lines) lines j → j.begun ≡ None
+pub upgraded_durable : (form : Form) (images : List ℕ → Type 0) (j : JournalState) (lines : List (List ℕ)) → StandsFor (upgraded_form form lines) lines j → (j.begun ≡ None) × (j.laid ≡ None)
     → Each images (IsWholeIn (upgraded_form form lines) lines) → IsDurableFor images j lines
-upgraded_durable form images j lines stands none each = durable_kept (upgraded_form form lines) images j lines stands none each
+upgraded_durable form images j lines stands none each = durable_kept (upgraded_form form lines) images j lines stands none.0 none.1 each
 
 ok_no_err : {T E : Type 0} (x : T) (e : E) → ◌≡◌ {A = Result T E} (Ok x) (Err e) → ⊥
 ok_no_err x e is = let no_way : ⊥ = cc in no_way

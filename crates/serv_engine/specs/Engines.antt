@@ -1,5 +1,5 @@
 -- What callers see of an engine, and when a disk keeps its history.
-use Rattle.std.specs.Prelude.{◌≡◌, ℕ, ◌-◌, List, [], length, take, drop, Option, None, Some, ⊤}
+use Rattle.std.specs.Prelude.{◌≡◌, ℕ, ◌-◌, List, [], length, take, drop, Option, None, Some}
 use Rattle.svc_world.specs.World.{Accepted}
 use Rattle.svc_world.specs.Judging.{Judgement, Kept, Fresh}
 use Rattle.svc_types.specs.declared.replies.Reply.{Reply}
@@ -8,7 +8,7 @@ use Rattle.serv_journal.specs.States.{JournalState}
 use Rattle.serv_journal.specs.Disks.{IsKept, IsDurableFor}
 use Rattle.serv_engine.specs.Histories.{lines_of_history}
 use Rattle.serv_engine.specs.declared.taken.Taken.{Taken}
-use Rattle.serv_engine.specs.declared.taken.Taken.TheVariants.{Settled, Begun, Withdrawn}
+use Rattle.serv_engine.specs.declared.taken.Taken.TheVariants.{Settled, Begun}
 
 -- the accepted commands with their keys, and the journal
 pub record EngineState : Type 0 where
@@ -47,28 +47,13 @@ IsDurableIn form images e = IsKept form images e.journal (lines_of_history e.his
 abbrev pub IsDurable : (List ℕ → Type 0) → EngineState → Type 0
 IsDurable images e = IsDurableFor images e.journal (lines_of_history e.history)
 
--- a reply is given with what became of a command, unless it is withdrawn
-abbrev pub Replies : Taken → (Reply → Type 0) → Type 0
-Replies (Settled reply) says = says reply
-Replies (Begun reply) says = says reply
-Replies Withdrawn says = ⊤
-
--- the history after it, which was this one, and is that one where it is taken
-abbrev pub history_by : {X : Type 0} → Taken → X → X → X
-history_by (Settled reply) before after = after
-history_by (Begun reply) before after = after
-history_by Withdrawn before after = before
+-- the reply that is given with what became of a command
+abbrev pub reply_of : Taken → Reply
+reply_of (Settled reply) = reply
+reply_of (Begun reply) = reply
 
 -- what became of a command by what is judged of it: a kept reply changes nothing; a fresh command is begun behind all
--- commands before it, which the disk keeps then, or is withdrawn behind them
-abbrev pub WasTaken : Judgement → Taken → Type 0 → Type 0 → Type 0 → Type 0
-WasTaken said (Settled reply) unchanged behind alone = (said ≡ Kept reply) × unchanged
-WasTaken said (Begun reply) unchanged behind alone = (said ≡ Fresh) × behind
-WasTaken said Withdrawn unchanged behind alone = (said ≡ Fresh) × alone
-
--- what is written then of a text that waits for all commands before this one: nothing, all of it, or a part that does not reach
--- its end
-abbrev pub LetsOut : Taken → Type 0 → Type 0 → Type 0 → Type 0
-LetsOut (Settled reply) nothing whole part = nothing
-LetsOut (Begun reply) nothing whole part = whole
-LetsOut Withdrawn nothing whole part = part
+-- commands before it, which the disk keeps then
+abbrev pub WasTaken : Judgement → Taken → Type 0 → Type 0 → Type 0
+WasTaken said (Settled reply) unchanged behind = (said ≡ Kept reply) × unchanged
+WasTaken said (Begun reply) unchanged behind = (said ≡ Fresh) × behind

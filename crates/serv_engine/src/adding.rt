@@ -1,6 +1,6 @@
 //! A command's line, and a command that is put into a journal.
 
-ghost use Rattle.std.specs.Prelude.{◌≡◌, ◌⊎◌, ◌↔◌, ◌+◌, ◌≤◌, ◌<◌, ℕ, List, ◌++◌, length, None, true, false, IfOk, IfErr, OnOk, OnErr, IsErrOf};
+ghost use Rattle.std.specs.Prelude.{◌≡◌, ◌⊎◌, ◌↔◌, ◌+◌, ◌≤◌, ◌<◌, ℕ, List, ◌++◌, length, None, true, false, IfOk, IfErr, OnOk, OnErr, IsErrOf, IfSome};
 ghost use Rattle.svc_types.specs.Requests.{IsCommand};
 ghost use Rattle.svc_world.specs.World.{Accepted, accepted};
 ghost use Rattle.serv_disk.specs.Disks.{LeavesOnly};
@@ -30,6 +30,17 @@ fn line_for(alloc: Global, key: &Key, command: &Command) -> Result<Vec<u8>, OutO
     let _ = key.bytes();
     let line = write_line(alloc, &Request::Do(*key, *command))?;
     Ok(line)
+}
+
+/// The line of the command that comes next, if one does and memory is there for it.
+pub(crate) fn line_of_next(alloc: Global, next: Option<(&Key, &Command)>) -> Option<Vec<u8>>
+    requires { IfSome next (λ c. IsCommand c.1.now) }
+    ensures { IfSome result (λ line. IsLine line.items) }
+{
+    match next {
+        Some((key, command)) => line_for(alloc, key, command).ok(),
+        None => None,
+    }
 }
 
 /// Puts a line into a journal of version 2, so far. It takes no memory.

@@ -1,6 +1,6 @@
 //! The engine: it submits commands and answers queries, and keeps the history on a disk.
 
-ghost use Rattle.std.specs.Prelude.{◌≡◌, ◌⊎◌, ◌↔◌, ◌+◌, ◌^◌, ◌≤◌, ◌∷◌, ◌++◌, ℕ, List, [], length, true, false, None, Some, IfOk, IfErr, OnOk, OnErr, IsOk, IsErr, IsErrOf};
+ghost use Rattle.std.specs.Prelude.{◌≡◌, ◌⊎◌, ◌↔◌, ◌+◌, ◌^◌, ◌≤◌, ◌∷◌, ◌++◌, ℕ, List, [], length, true, false, None, Some, IfOk, IfErr, OnOk, OnErr, IsOk, IsErr, IsErrOf, IfSome};
 ghost use Rattle.svc_types.specs.Requests.{IsCommand, IsQuery};
 ghost use Rattle.svc_spec.specs.Accounts.{Account};
 ghost use Rattle.svc_spec.specs.Months.{cost_of_month};
@@ -11,24 +11,22 @@ ghost use Rattle.svc_world.specs.Custody.{rows_in};
 ghost use Rattle.svc_core.specs.Bound.{step_bound, query_bound};
 ghost use Rattle.svc_core.specs.Core.{IsReplyTo};
 ghost use Rattle.svc_core.specs.Asking.{WantsMemory};
-ghost use Rattle.std.specs.Io.KnownBytes.{Appends};
-ghost use Rattle.serv_disk.specs.Faults.{AppendsPart, HasCause, HasRisen};
-ghost use Rattle.serv_disk.specs.Stamps.{Notes};
+ghost use Rattle.serv_disk.specs.Faults.{HasCause};
 ghost use Rattle.serv_disk.specs.Disks.{Each, LeavesOnly};
 ghost use Rattle.serv_journal.specs.Format.{Form};
 ghost use Rattle.serv_journal.specs.Reading.{IsNoJournal};
 ghost use Rattle.serv_engine.specs.Histories.{lengths_of, IsGoodFor, IsAroundFor, IsGoodFound};
-ghost use Rattle.serv_engine.specs.Engines.{IsDurableIn, IsDurable, IsRunningIn, IsRunning, kept_of, begun_of, history_by, LetsOut, Replies, WasTaken};
+ghost use Rattle.serv_engine.specs.Engines.{IsDurableIn, IsDurable, IsRunningIn, IsRunning, kept_of, begun_of, reply_of, WasTaken};
 ghost use Rattle.serv_engine.specs.Submitting.{HasRoom, IsSubmitFault, IsAskFault};
 ghost use Rattle.serv_engine.specs.Entering.{risked, kept_after, begun_after};
 ghost use Rattle.serv_engine.specs.Opening.{IsDamagedAt, IsTooLong, IsFound, IsClosed, IsOnlyFault, IsOpenFault, IsOpenCause, IsFoundWithin, history_bound};
 
-use crate::adding::put_command;
+use crate::adding::{line_of_next, put_command};
 use crate::fault::{EngineFault, of_core, of_journal};
 use crate::opening::take_over;
 use crate::taken::Taken;
 use crate::until::Until;
-use serv_disk::{CalmSink, Disk, Failed, Sink, write_beside};
+use serv_disk::{Disk, Failed};
 use serv_journal::{Journal, Version};
 use std::alloc::Global;
 use std::marker::Model;
@@ -177,42 +175,35 @@ impl<B: LoanBooks> Engine<B> {
             → ((a : Account) (m : ℕ) → B.month_cost a m ≡ 0)
             → steps.new ≤ steps.old + step_bound self.old.history key.now command.now }
     {
-        let mut sink = CalmSink::new();
-        match self.enter(disk, key, command, Until::Kept, &mut sink, &[], steps) {
+        match self.enter(disk, key, command, Until::Kept, steps) {
             Ok(taken) => Ok(taken.reply()),
             Err(fault) => Err(fault),
         }
     }
 
     /// Takes a command as `submit` does, but does not wait until the disk has it: the next call of `begin` or `commit` puts
-    /// it there with its own sync. So after Ok of a fresh one the disk has all commands before it. What waits for them is
-    /// written to the sink then, before the command is accepted; where that fails, it is withdrawn.
-    pub fn begin<D: Disk, K: Sink, L: Ledger>(
+    /// it there with its own sync. So after Ok the disk has all commands before this one.
+    pub fn begin<D: Disk, L: Ledger>(
         &mut self,
         disk: &mut D,
         key: &Key,
         command: &Command,
-        sink: &mut K,
-        waiting: &[u8],
         steps: &mut Steps<L>,
     ) -> Result<Taken, EngineFault>
         requires command { IsCommand command.now }
         requires unspent { self.old.journal.spent ≡ false }
         requires running { IsRunning (D.images disk.old) self.old }
-        ensures reply { IfOk result (λ taken. Replies taken (IsReplyTo self.old.history command.now
-            (judged self.old.history key.now command.now))) }
-        ensures history { IfOk result (λ taken. self.new.history ≡ history_by taken self.old.history
-            (history_after self.old.history key.now command.now
-            (judged self.old.history key.now command.now))) }
+        ensures reply { IfOk result (λ taken. IsReplyTo self.old.history command.now
+            (judged self.old.history key.now command.now) (reply_of taken)) }
+        ensures history { OnOk result (self.new.history ≡ history_after self.old.history key.now command.now
+            (judged self.old.history key.now command.now)) }
         // A kept reply changes nothing; after another one the disk keeps all commands before this one.
         ensures taken { IfOk result (λ taken. WasTaken (judged self.old.history key.now command.now) taken
             ((self.new ≡ self.old) × (disk.new ≡ disk.old))
-            ((kept_of self.new ≡ self.old.history) × (begun_of self.new ≡ accepted key.now command.now ∷ []))
-            ((kept_of self.new ≡ self.old.history) × (begun_of self.new ≡ []))) }
+            ((kept_of self.new ≡ self.old.history) × (begun_of self.new ≡ accepted key.now command.now ∷ []))) }
         ensures running { OnOk result (IsRunning (D.images disk.new) self.new) }
         ensures running_in { (form : Form) → IsRunningIn form (D.images disk.old) self.old
             → OnOk result (IsRunningIn form (D.images disk.new) self.new) }
-        ensures withdrawn { IfOk result (λ taken. taken ≡ Taken.Withdrawn → IsDurable (D.images disk.new) self.new) }
         // A crash at any moment leaves what was kept, with the command that was begun before or without, or torn
         // with it.
         ensures moments { (form : Form) → IsRunningIn form (D.images disk.old) self.old
@@ -239,56 +230,39 @@ impl<B: LoanBooks> Engine<B> {
         // A command more takes its line's bytes and seven.
         ensures length { (base : ℕ) → self.old.journal.size ≡ base + lengths_of self.old.history
             → OnOk result (self.new.journal.size ≡ base + lengths_of self.new.history) }
-        // What waits is written where the command is fresh, and counts from then on.
-        ensures let_out { IfOk result (λ taken. LetsOut taken (sink.new ≡ sink.old)
-            (Appends (K.held sink.old) (K.held sink.new) waiting.now)
-            (AppendsPart (K.held sink.old) (K.held sink.new) waiting.now)) }
-        ensures silent { OnErr result (sink.new ≡ sink.old) }
-        ensures noted { (s : List ℕ) → K.held sink.old ≡ Some s → Notes (D.moment disk.new)
-            (length s + length waiting.now) (K.log sink.old) (K.log sink.new) }
-        ensures cut { IfOk result (λ taken. taken ≡ Taken.Withdrawn
-            → HasRisen (K.faults sink.old) (K.faults sink.new)) }
-        ensures later { K.faults sink.old ≤ K.faults sink.new }
-        ensures beside { K.beside sink.new ≡ K.beside sink.old }
         ensures bound { ((a : Account) (m : ℕ) → B.cost a m ≤ cost_of_month a m)
             → ((a : Account) (m : ℕ) → B.month_cost a m ≡ 0)
             → steps.new ≤ steps.old + step_bound self.old.history key.now command.now }
     {
-        self.enter(disk, key, command, Until::Begun, sink, waiting, steps)
+        self.enter(disk, key, command, Until::Begun, steps)
     }
 
     /// Takes a command so far: what `submit` and `begin` have in common.
-    fn enter<D: Disk, K: Sink, L: Ledger>(
+    fn enter<D: Disk, L: Ledger>(
         &mut self,
         disk: &mut D,
         key: &Key,
         command: &Command,
         until: Until,
-        sink: &mut K,
-        waiting: &[u8],
         steps: &mut Steps<L>,
     ) -> Result<Taken, EngineFault>
         requires command { IsCommand command.now }
         requires unspent { self.old.journal.spent ≡ false }
         requires running { IsRunning (D.images disk.old) self.old }
         requires alone { until ≡ Until.Kept → self.old.journal.begun ≡ None }
-        requires nothing { until ≡ Until.Kept → waiting.now ≡ [] }
-        ensures reply { IfOk result (λ taken. Replies taken (IsReplyTo self.old.history command.now
-            (judged self.old.history key.now command.now))) }
-        ensures history { IfOk result (λ taken. self.new.history ≡ history_by taken self.old.history
-            (history_after self.old.history key.now command.now
-            (judged self.old.history key.now command.now))) }
+        ensures reply { IfOk result (λ taken. IsReplyTo self.old.history command.now
+            (judged self.old.history key.now command.now) (reply_of taken)) }
+        ensures history { OnOk result (self.new.history ≡ history_after self.old.history key.now command.now
+            (judged self.old.history key.now command.now)) }
         // A kept reply changes nothing; after another one the disk keeps all commands before this one, or this one too.
         ensures taken { IfOk result (λ taken. WasTaken (judged self.old.history key.now command.now) taken
             ((self.new ≡ self.old) × (disk.new ≡ disk.old))
             ((kept_of self.new ≡ kept_after until self.old.history (accepted key.now command.now))
-            × (begun_of self.new ≡ begun_after until (accepted key.now command.now)))
-            ((kept_of self.new ≡ self.old.history) × (begun_of self.new ≡ []) × (until ≡ Until.Begun))) }
+            × (begun_of self.new ≡ begun_after until (accepted key.now command.now)))) }
         ensures none { OnOk result (until ≡ Until.Kept → self.new.journal.begun ≡ None) }
         ensures running { OnOk result (IsRunning (D.images disk.new) self.new) }
         ensures running_in { (form : Form) → IsRunningIn form (D.images disk.old) self.old
             → OnOk result (IsRunningIn form (D.images disk.new) self.new) }
-        ensures withdrawn { IfOk result (λ taken. taken ≡ Taken.Withdrawn → IsDurable (D.images disk.new) self.new) }
         // A crash at any moment leaves what was kept, with the command that is at risk or without, or torn with it.
         ensures moments { (form : Form) → IsRunningIn form (D.images disk.old) self.old
             → LeavesOnly D.moment D.images_since disk.old disk.new
@@ -317,17 +291,6 @@ impl<B: LoanBooks> Engine<B> {
         // A command more takes its line's bytes and seven.
         ensures length { (base : ℕ) → self.old.journal.size ≡ base + lengths_of self.old.history
             → OnOk result (self.new.journal.size ≡ base + lengths_of self.new.history) }
-        // What waits is written where the command is fresh, and counts from then on.
-        ensures let_out { IfOk result (λ taken. LetsOut taken (sink.new ≡ sink.old)
-            (Appends (K.held sink.old) (K.held sink.new) waiting.now)
-            (AppendsPart (K.held sink.old) (K.held sink.new) waiting.now)) }
-        ensures silent { OnErr result (sink.new ≡ sink.old) }
-        ensures noted { (s : List ℕ) → K.held sink.old ≡ Some s → Notes (D.moment disk.new)
-            (length s + length waiting.now) (K.log sink.old) (K.log sink.new) }
-        ensures cut { IfOk result (λ taken. taken ≡ Taken.Withdrawn
-            → HasRisen (K.faults sink.old) (K.faults sink.new)) }
-        ensures later { K.faults sink.old ≤ K.faults sink.new }
-        ensures beside { K.beside sink.new ≡ K.beside sink.old }
         ensures bound { ((a : Account) (m : ℕ) → B.cost a m ≤ cost_of_month a m)
             → ((a : Account) (m : ℕ) → B.month_cost a m ≡ 0)
             → steps.new ≤ steps.old + step_bound self.old.history key.now command.now }
@@ -338,13 +301,7 @@ impl<B: LoanBooks> Engine<B> {
                 Verdict::Repeat(reply) => Ok(Taken::Settled(reply)),
                 Verdict::Fresh => {
                     match put_command(self.alloc, &mut self.journal, disk, key, command, until) {
-                        Ok(()) => match write_beside(sink, disk, waiting) {
-                            Ok(()) => Ok(Taken::Begun(self.core.accept(key, command, steps))),
-                            Err(_) => {
-                                self.journal.withdraw(disk);
-                                Ok(Taken::Withdrawn)
-                            }
-                        },
+                        Ok(()) => Ok(Taken::Begun(self.core.accept(key, command, steps))),
                         Err(fault) => Err(fault),
                     }
                 }
@@ -353,8 +310,14 @@ impl<B: LoanBooks> Engine<B> {
         }
     }
 
-    /// Puts the command that is begun on the disk, if one is.
-    pub fn commit<D: Disk>(&mut self, disk: &mut D) -> Result<(), Failed>
+    /// Puts the command that is begun on the disk, if one is. Where the command that is to be begun next is given, what `begin`
+    /// writes of it goes there with the same sync, unless memory or room is short; it is no part of the journal until then.
+    pub fn commit<D: Disk>(
+        &mut self,
+        disk: &mut D,
+        next: Option<(&Key, &Command)>,
+    ) -> Result<(), Failed>
+        requires next { IfSome next (λ c. IsCommand c.1.now) }
         requires unspent { self.old.journal.spent ≡ false }
         requires running { IsRunning (D.images disk.old) self.old }
         ensures history { self.new.history ≡ self.old.history }
@@ -378,7 +341,12 @@ impl<B: LoanBooks> Engine<B> {
         ensures limit { self.new.journal.limit ≡ self.old.journal.limit }
         ensures version { self.new.journal.version ≡ Version.Two }
     {
-        self.journal.commit(disk)
+        let line = if self.journal.is_begun() {
+            line_of_next(self.alloc, next)
+        } else {
+            None
+        };
+        self.journal.commit(disk, line)
     }
 
     /// Answers a query over the history, or with the first rule that refuses it.

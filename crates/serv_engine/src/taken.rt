@@ -1,7 +1,7 @@
-//! What became of a command that an engine was to begin.
+//! What became of a command that an engine has begun.
 
-ghost use Rattle.std.specs.Prelude.{◌≡◌, ◌≢◌};
-ghost use Rattle.serv_engine.specs.Engines.{Replies};
+ghost use Rattle.std.specs.Prelude.{◌≡◌};
+ghost use Rattle.serv_engine.specs.Engines.{reply_of};
 
 use svc_types::Reply;
 
@@ -12,19 +12,15 @@ pub enum Taken {
     Settled(Reply),
     /// It is begun: the disk has it after the next `begin` or `commit`.
     Begun(Reply),
-    /// What waited for the commands before it could not be written: it is not taken, and the disk has all of them.
-    Withdrawn,
 }
 
 impl Taken {
-    /// The reply to a command that was taken.
-    pub(crate) fn reply(self) -> Reply
-        requires { self ≢ Taken.Withdrawn }
-        ensures { Replies self (λ reply. result ≡ reply) }
+    /// The reply to the command.
+    pub fn reply(self) -> Reply
+        ensures { result ≡ reply_of self }
     {
         match self {
             Taken::Settled(reply) | Taken::Begun(reply) => reply,
-            Taken::Withdrawn => unreachable!(),
         }
     }
 }

@@ -1,16 +1,20 @@
 -- Lines of which the last may be begun.
-use Rattle.std.proofs.Common.{◌≡◌, ℕ, ◌+◌, ◌-◌, ◌≤◌, List, [], ◌∷◌, ◌++◌, None, Some, length, refl, sym, ap, subst, ◌∙◌, inl, arith, append_assoc, length-append}
+use Rattle.std.proofs.Common.{◌≡◌, ℕ, ◌+◌, ◌-◌, ◌≤◌, List, [], ◌∷◌, ◌++◌, Option, None, Some, length, refl, sym, ap, subst, ◌∙◌, inl, arith, append_assoc, length-append}
 use Rattle.std.proofs.lemmas.List.{append-nil}
 use Rattle.serv_disk.specs.Disks.{Each, LeavesOnly}
 use Rattle.serv_disk.proofs.Moments.{started, weaker, joined}
 use Rattle.serv_journal.specs.declared.format.Version.TheVariants.{Two}
 use Rattle.serv_journal.specs.Bytes.{Starts, Between}
-use Rattle.serv_journal.specs.Format.{Form, IsLine, AreLines, base, body}
+use Rattle.serv_journal.specs.Format.{Form, IsLine, base, body}
 use Rattle.serv_journal.specs.States.{JournalState, StandsFor}
-use Rattle.serv_journal.specs.Disks.{IsWholeIn, IsGoodIn, IsBegunIn, IsAtRest, IsAround, IsKept, IsDurableFor, gate_of}
+use Rattle.serv_journal.specs.Disks.{IsWholeIn, IsGoodIn, IsBegunIn, IsAtRest, IsAround, HasLaid, IsKept, IsDurableFor, gate_of}
 use Rattle.serv_journal.specs.Puts.{IsPut, IsPutting}
 use Rattle.serv_journal.proofs.ByteLemmas.{starts_fits, length_closed}
 use Rattle.serv_journal.proofs.FormatLemmas.{base_push, whole_push, between_good, closed_starts, stands_push}
+
+-- no line is laid
+pub none_laid : (form : Form) (images : List ℕ → Type 0) (lines : List (List ℕ)) (laid : Option (List ℕ)) → laid ≡ None → HasLaid form images lines laid
+none_laid form images lines laid none = subst (λ l. HasLaid form images lines l) (sym none) tt
 
 -- none is begun
 stands_none : (form : Form) (lines : List (List ℕ)) (journal : JournalState) → StandsFor form lines journal → StandsFor form (lines ++ []) journal
@@ -19,13 +23,19 @@ stands_none form lines journal stands = subst (λ x. StandsFor form x journal) (
 pub stands_all : (form : Form) (lines : List (List ℕ)) (journal : JournalState) → StandsFor form (lines ++ []) journal → StandsFor form lines journal
 stands_all form lines journal stands = subst (λ x. StandsFor form x journal) (append-nil lines) stands
 
-pub kept_whole : (form : Form) (images : List ℕ → Type 0) (journal : JournalState) (lines : List (List ℕ)) → StandsFor form lines journal → journal.begun ≡ None → Each images (IsWholeIn form lines)
-    → IsKept form images journal lines []
-kept_whole form images journal lines stands none each = record { stands = stands_none form lines journal stands; at_most_one = omega arith; gate = none; each = each }
+pub kept_whole : (form : Form) (images : List ℕ → Type 0) (journal : JournalState) (lines : List (List ℕ)) → StandsFor form lines journal → journal.begun ≡ None → journal.laid ≡ None
+    → Each images (IsWholeIn form lines) → IsKept form images journal lines []
+kept_whole form images journal lines stands none no_line each = record {
+  stands = stands_none form lines journal stands;
+  at_most_one = omega arith;
+  gate = none;
+  each = each;
+  laid = none_laid form images (lines ++ []) journal.laid no_line;
+}
 
-pub durable_kept : (form : Form) (images : List ℕ → Type 0) (journal : JournalState) (lines : List (List ℕ)) → StandsFor form lines journal → journal.begun ≡ None → Each images (IsWholeIn form lines)
-    → IsDurableFor images journal lines
-durable_kept form images journal lines stands none each = record { form = form; kept = kept_whole form images journal lines stands none each }
+pub durable_kept : (form : Form) (images : List ℕ → Type 0) (journal : JournalState) (lines : List (List ℕ)) → StandsFor form lines journal → journal.begun ≡ None → journal.laid ≡ None
+    → Each images (IsWholeIn form lines) → IsDurableFor images journal lines
+durable_kept form images journal lines stands none no_line each = record { form = form; kept = kept_whole form images journal lines stands none no_line each }
 
 -- an image at rest reaches the journal's length
 rest_long : (form : Form) (lines begun : List (List ℕ)) (s : List ℕ) → length begun ≤ 1 → IsAtRest form lines begun s → length (base form (lines ++ begun)) + 1 ≤ length s
@@ -87,9 +97,9 @@ put_rest form lines (b ∷ []) line number size old new two same one size_is eac
 put_rest form lines (b ∷ other ∷ more) line number size old new two same one size_is each put = absurd (omega (arith, one))
 
 pub begin_kept : (form : Form) (images images' : List ℕ → Type 0) (old new : JournalState) (lines begun : List (List ℕ)) (line : List ℕ) → IsLine line → old.version ≡ Two
-    → new.version ≡ old.version → new.count ≡ old.count + 1 → new.size ≡ old.size + (7 + length line) → new.begun ≡ Some (old.size - 1)
+    → new.version ≡ old.version → new.count ≡ old.count + 1 → new.size ≡ old.size + (7 + length line) → new.begun ≡ Some (old.size - 1) → new.laid ≡ None
     → IsPut old.begun old.size (body Two (old.count + 1) line ++ 0 ∷ []) images images' → IsKept form images old lines begun → IsKept form images' new (lines ++ begun) (line ∷ [])
-begin_kept form images images' old new lines begun line is_line two version count size gate put kept =
+begin_kept form images images' old new lines begun line is_line two version count size gate no_line put kept =
     let form_two : form.version ≡ Two = sym kept.stands.version ∙ two in
     let place : old.size - 1 ≡ length (base form (lines ++ begun)) = omega (arith, kept.stands.size) in
     record {
@@ -98,6 +108,23 @@ begin_kept form images images' old new lines begun line is_line two version coun
       gate = gate ∙ ap (λ n. Some n) place;
       each = put_rest form lines begun line (old.count + 1) old.size images images' form_two (ap (λ n. n + 1) kept.stands.count) kept.at_most_one kept.stands.size kept.each
           (subst (λ g. IsPut g old.size (body Two (old.count + 1) line ++ 0 ∷ []) images images') kept.gate put);
+      laid = none_laid form images' ((lines ++ begun) ++ line ∷ []) new.laid no_line;
+    }
+
+-- the line is laid already
+pub laid_kept : (form : Form) (images : List ℕ → Type 0) (old new : JournalState) (lines begun : List (List ℕ)) (line : List ℕ) → old.laid ≡ Some line → old.version ≡ Two
+    → new.version ≡ old.version → new.count ≡ old.count + 1 → new.size ≡ old.size + (7 + length line) → new.begun ≡ Some (old.size - 1) → new.laid ≡ None
+    → IsKept form images old lines begun → IsKept form images new (lines ++ begun) (line ∷ [])
+laid_kept form images old new lines begun line is two version count size gate no_line kept =
+    let laid : IsLine line × Each images (IsBegunIn form (lines ++ begun) line) = subst (λ l. HasLaid form images (lines ++ begun) l) is kept.laid in
+    let form_two : form.version ≡ Two = sym kept.stands.version ∙ two in
+    let place : old.size - 1 ≡ length (base form (lines ++ begun)) = omega (arith, kept.stands.size) in
+    record {
+      stands = stands_push form (lines ++ begun) line old new laid.0 kept.stands form_two version count size;
+      at_most_one = omega arith;
+      gate = gate ∙ ap (λ n. Some n) place;
+      each = laid.1;
+      laid = none_laid form images ((lines ++ begun) ++ line ∷ []) new.laid no_line;
     }
 
 -- ---- moments
@@ -168,36 +195,40 @@ same_stands form lines old new version count size stands = record {
 }
 
 pub commit_kept : (form : Form) (images images' : List ℕ → Type 0) (old new : JournalState) (lines begun : List (List ℕ)) (gate : ℕ) → old.begun ≡ Some gate
-    → new.version ≡ old.version → new.count ≡ old.count → new.size ≡ old.size → new.begun ≡ None
+    → new.version ≡ old.version → new.count ≡ old.count → new.size ≡ old.size → new.begun ≡ None → new.laid ≡ None
     → ((front rest : List ℕ) → length front ≡ gate → Each images (Between front rest) → Each images' (Starts (front ++ 1 ∷ rest)))
     → IsKept form images old lines begun → IsKept form images' new (lines ++ begun) []
-commit_kept form images images' old new lines begun gate at version count size none durable kept =
-    kept_whole form images' new (lines ++ begun) (same_stands form (lines ++ begun) old new version count size kept.stands) none
+commit_kept form images images' old new lines begun gate at version count size none no_line durable kept =
+    kept_whole form images' new (lines ++ begun) (same_stands form (lines ++ begun) old new version count size kept.stands) none no_line
     (set_whole form lines begun gate images images' kept.at_most_one (sym at ∙ kept.gate) kept.each durable)
 
--- the line that is begun is forgotten
-lines_front : (lines more : List (List ℕ)) → AreLines (lines ++ more) → AreLines lines
-lines_front [] more fit = tt
-lines_front (line ∷ lines) more fit = (fit.0, lines_front lines more fit.1)
+-- ---- a line's record is laid behind the journal
 
 pub rest_whole : (form : Form) (lines begun : List (List ℕ)) (file : List ℕ) → IsAtRest form lines begun file → IsWholeIn form lines file
 rest_whole form lines [] file rest = rest
 rest_whole form lines (line ∷ more) file rest = closed_starts (base form lines) (body form.version (length lines + 1) line ++ 0 ∷ []) file rest
 
-pub withdrawn_kept : (form : Form) (images : List ℕ → Type 0) (old new : JournalState) (lines begun : List (List ℕ)) (gate : ℕ) → old.begun ≡ Some gate → new.version ≡ old.version
-    → new.count ≡ old.count - 1 → new.size ≡ gate + 1 → new.begun ≡ None → IsKept form images old lines begun → IsKept form images new lines []
-withdrawn_kept form images old new lines [] gate at version count size none kept = absurd (let e : ⊥ = let f = kept.gate in cc in e)
-withdrawn_kept form images old new lines (line ∷ []) gate at version count size none kept =
-    let place : Some gate ≡ Some (length (base form lines)) = sym at ∙ kept.gate in
-    let long : gate ≡ length (base form lines) = cc in
-    kept_whole form images new lines
-    (record {
-      is_form = kept.stands.is_form;
-      version = version ∙ kept.stands.version;
-      count = omega (arith, count, kept.stands.count, length-append lines (line ∷ []));
-      size = omega (arith, size, long);
-      fit = lines_front lines (line ∷ []) kept.stands.fit;
-    })
-    none
-    (λ c image. rest_whole form lines (line ∷ []) c (kept.each c image))
-withdrawn_kept form images old new lines (line ∷ other ∷ more) gate at version count size none kept = absurd (omega (arith, kept.at_most_one))
+-- it was begun, and is taken out of the journal again
+pub lay_kept : (form : Form) (images images' : List ℕ → Type 0) (old mid new : JournalState) (lines begun : List (List ℕ)) (line : List ℕ) → IsLine line → new.version ≡ old.version
+    → new.count ≡ old.count → new.size ≡ old.size → new.begun ≡ None → new.laid ≡ Some line → IsKept form images old lines begun → IsKept form images' mid (lines ++ begun) (line ∷ [])
+    → IsKept form images' new (lines ++ begun) []
+lay_kept form images images' old mid new lines begun line is_line version count size none is before begun_kept =
+    let all : List (List ℕ) = lines ++ begun in
+    record {
+      stands = stands_none form all new (same_stands form all old new version count size before.stands);
+      at_most_one = omega arith;
+      gate = none;
+      each = λ c image. rest_whole form all (line ∷ []) c (begun_kept.each c image);
+      laid = subst (λ l. HasLaid form images' (all ++ []) l) (sym is) (is_line, subst (λ x. Each images' (IsBegunIn form x line)) (sym (append-nil all)) begun_kept.each);
+    }
+
+-- and is forgotten
+pub forgotten : (form : Form) (images : List ℕ → Type 0) (old new : JournalState) (lines begun : List (List ℕ)) → new.version ≡ old.version → new.count ≡ old.count → new.size ≡ old.size
+    → new.begun ≡ old.begun → new.laid ≡ None → IsKept form images old lines begun → IsKept form images new lines begun
+forgotten form images old new lines begun version count size gate no_line kept = record {
+  stands = same_stands form (lines ++ begun) old new version count size kept.stands;
+  at_most_one = kept.at_most_one;
+  gate = gate ∙ kept.gate;
+  each = kept.each;
+  laid = none_laid form images (lines ++ begun) new.laid no_line;
+}

@@ -207,9 +207,9 @@ closing_good form lines xs line commit place rest file c fit is_line good read e
 
 -- a journal that was opened has its lines in each image
 pub durable_for : (seen_old seen_new : Option (List ℕ)) (images : List ℕ → Type 0) (journal : JournalState) (frames : List (ℕ × List ℕ)) (place : ℕ)
-    → HasForm journal.version frames place → journal.count ≡ length frames → journal.size ≡ place + 1 → journal.begun ≡ None
+    → HasForm journal.version frames place → journal.count ≡ length frames → journal.size ≡ place + 1 → journal.begun ≡ None → journal.laid ≡ None
     → ((s : List ℕ) → seen_old ≡ Some s → IsOpened seen_new journal frames s) → Only seen_new images → (seen_old ≡ None → seen_new ≡ None) → IsDurableFor images journal (lines_in frames)
-durable_for None seen_new images journal frames place form count size none_begun opened only untold =
+durable_for None seen_new images journal frames place form count size none_begun no_line opened only untold =
     let stands : StandsFor form.form (lines_in frames) journal = record {
       is_form = form.is_form;
       version = form.same;
@@ -217,11 +217,11 @@ durable_for None seen_new images journal frames place form count size none_begun
       size = omega (arith, size, form.end);
       fit = form.fit;
     } in
-    durable_kept form.form images journal (lines_in frames) stands none_begun
+    durable_kept form.form images journal (lines_in frames) stands none_begun no_line
     (λ c h. absurd (let none : seen_new ≡ None = untold refl in let some : seen_new ≡ Some c = only c h in let e : ⊥ = cc in e))
-durable_for (Some s) seen_new images journal frames place form count size none_begun opened only untold =
+durable_for (Some s) seen_new images journal frames place form count size none_begun no_line opened only untold =
     let o = opened s refl in
-    durable_kept o.form images journal (lines_in frames) o.stands none_begun
+    durable_kept o.form images journal (lines_in frames) o.stands none_begun no_line
     (λ c h.
     let some : seen_new ≡ Some c = only c h in
     let closes : seen_new ≡ Some (base o.form (lines_in frames) ++ 0 ∷ o.rest) = o.closes in

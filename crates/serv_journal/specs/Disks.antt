@@ -1,8 +1,8 @@
 -- Which contents of a disk keep which lines.
-use Rattle.std.specs.Prelude.{◌≡◌, ◌≢◌, ◌⊎◌, ℕ, ◌+◌, ◌≤◌, List, [], ◌∷◌, ◌++◌, length, Option, None, Some}
+use Rattle.std.specs.Prelude.{◌≡◌, ◌≢◌, ◌⊎◌, ℕ, ◌+◌, ◌≤◌, List, [], ◌∷◌, ◌++◌, length, Option, None, Some, ⊤}
 use Rattle.serv_disk.specs.Disks.{Each}
 use Rattle.serv_journal.specs.Bytes.{Starts}
-use Rattle.serv_journal.specs.Format.{Form, IsForm, base, body}
+use Rattle.serv_journal.specs.Format.{Form, IsForm, IsLine, base, body}
 use Rattle.serv_journal.specs.States.{JournalState, StandsFor}
 
 -- the lines, a closed commit byte, and any tail
@@ -53,6 +53,11 @@ abbrev pub IsAround : Form → List (List ℕ) → List (List ℕ) → List ℕ 
 IsAround form lines [] file = IsWholeIn form lines file
 IsAround form lines (line ∷ more) file = IsGoodIn form lines line file
 
+-- a line whose record stands behind these lines in each image, if there is one
+abbrev pub HasLaid : Form → (List ℕ → Type 0) → List (List ℕ) → Option (List ℕ) → Type 0
+HasLaid form images lines None = ⊤
+HasLaid form images lines (Some line) = IsLine line × Each images (IsBegunIn form lines line)
+
 -- each image of the disk has these lines, and the journal these and the begun one
 pub record IsKept (form : Form) (images : List ℕ → Type 0) (journal : JournalState)
     (lines begun : List (List ℕ)) : Type 0 where
@@ -60,6 +65,7 @@ pub record IsKept (form : Form) (images : List ℕ → Type 0) (journal : Journa
   pub at_most_one : length begun ≤ 1
   pub gate : journal.begun ≡ gate_of form lines begun
   pub each : Each images (IsAtRest form lines begun)
+  pub laid : HasLaid form images (lines ++ begun) journal.laid
 
 -- the journal has these lines in some form, and so has each image of the disk; none is begun
 pub record IsDurableFor (images : List ℕ

@@ -4,13 +4,15 @@ use Rattle.serv_journal.specs.declared.format.Version.{Version}
 use Rattle.serv_journal.specs.Format.{Form, IsForm, AreLines, base}
 
 -- the journal's length, the limit on it, how many records it has, their version, where the commit byte of the last one
--- stands while that record is begun, and whether a call of the disk has failed
+-- stands while that record is begun, a line whose record stands behind the journal and is no part of it, and whether a
+-- call of the disk has failed
 pub record JournalState : Type 0 where
   pub size : ℕ
   pub limit : ℕ
   pub count : ℕ
   pub version : Version
   pub begun : Option ℕ
+  pub laid : Option (List ℕ)
   pub spent : Bool
 
 -- the journal has these lines in this form, and ends after the commit byte that comes after them

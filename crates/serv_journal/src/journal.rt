@@ -1,6 +1,6 @@
 //! An open journal.
 
-ghost use Rattle.std.specs.Prelude.{◌≡◌, ◌⊎◌, ◌↔◌, ℕ, ◌+◌, ◌≤◌, ◌<◌, List, [], ◌∷◌, ◌++◌, length, Some, None, true, false, IfErr, OnOk, OnErr, IsOk, IsErr, IsErrOf, MatchOption};
+ghost use Rattle.std.specs.Prelude.{◌≡◌, ◌⊎◌, ◌↔◌, ℕ, ◌+◌, ◌-◌, ◌≤◌, ◌<◌, List, [], ◌∷◌, ◌++◌, length, Some, None, true, false, IfErr, OnOk, OnErr, IsOk, IsErr, IsErrOf, IfSome, MatchOption};
 ghost use Rattle.serv_disk.specs.Faults.{HasRisen, HasCause};
 ghost use Rattle.serv_disk.specs.Disks.{LeavesOnly};
 ghost use Rattle.serv_journal.specs.Format.{Form, IsLine, version_number};
@@ -24,13 +24,15 @@ pub struct Journal {
     pub(crate) count: u64,
     pub(crate) version: Version,
     pub(crate) begun: Option<u64>,
+    /// A line whose record stands behind the closed commit byte on the disk already, and is no part of the journal.
+    pub(crate) laid: Option<Vec<u8>>,
     pub(crate) spent: bool,
     /// How far the file is known to reach.
     pub(crate) reach: u64,
 }
 
 impl Model for Journal {
-    ghost use Rattle.std.specs.Prelude.{ℕ, ◌+◌, ◌-◌, ◌*◌, ◌^◌, ◌<◌, ◌≤◌, IfSome};
+    ghost use Rattle.std.specs.Prelude.{ℕ, ◌+◌, ◌*◌, ◌^◌, ◌<◌, ◌≤◌, IfSome, option_map};
     ghost use Rattle.serv_journal.specs.States.{JournalState};
     ghost use Rattle.serv_journal.specs.Format.{head_size};
 
@@ -42,12 +44,12 @@ impl Model for Journal {
       count = j.count;
       version = j.version;
       begun = j.begun;
+      laid = option_map (λ v. v.items) j.laid;
       spent = j.spent;
     } };
 
     ghost invariant = { λ j. (j.limit ≤ 2 ^ 32) × (8 + (head_size j.version + 2) * j.count < j.size)
-        × IfSome j.begun (λ gate. (0 < j.count)
-        × (8 + (head_size j.version + 2) * (j.count - 1) ≤ gate) × (gate < j.size)) };
+        × IfSome j.begun (λ gate. gate < j.size) };
 }
 
 impl Journal {
@@ -88,6 +90,36 @@ impl Journal {
         Some(added)
     }
 
+    /// Whether this line's record stands behind the journal already.
+    fn has_laid(&self, line: &[u8]) -> bool
+        ensures { result ≡ true → self.now.laid ≡ Some line.now }
+    {
+        match &self.laid {
+            Some(laid) => laid.as_slice() == line,
+            None => false,
+        }
+    }
+
+    /// Takes the record that stands behind the journal, of so many bytes, into it as the one that is begun.
+    fn count_in(&mut self, added: u64)
+        requires some { 8 ≤ added }
+        requires within { self.old.size + added ≤ self.old.limit }
+        ensures { self.new ≡ record {
+          size = self.old.size + added;
+          limit = self.old.limit;
+          count = self.old.count + 1;
+          version = self.old.version;
+          begun = Some (self.old.size - 1);
+          laid = None;
+          spent = self.old.spent;
+        } }
+    {
+        self.begun = Some(self.size - 1);
+        self.size += added;
+        self.count += 1;
+        self.laid = None;
+    }
+
     /// Adds a line to a journal of version 2. It takes no memory. After Ok each crash leaves the line.
     pub fn append<D: Disk>(&mut self, disk: &mut D, line: &[u8]) -> Result<(), JournalFault>
         requires line { IsLine line.now }
@@ -115,9 +147,13 @@ impl Journal {
         ensures limit { self.new.limit ≡ self.old.limit }
         ensures same_version { self.new.version ≡ self.old.version }
     {
+        if self.room_for(line).is_none() {
+            return Err(JournalFault::Full(self.size));
+        }
         let (size, count, begun) = (self.size, self.count, self.begun);
+        self.laid = None;
         self.begin(disk, line)?;
-        if self.commit(disk).is_err() {
+        if self.commit(disk, None).is_err() {
             self.size = size;
             self.count = count;
             self.begun = begun;
@@ -152,14 +188,20 @@ impl Journal {
         ensures spent { IsErrOf result JournalFault.DiskFault ↔ (self.new.spent ≡ true) }
         ensures faults { D.faults disk.old ≤ D.faults disk.new }
         ensures size { OnErr result (self.new.size ≡ self.old.size) }
+        ensures count { OnErr result (self.new.count ≡ self.old.count) }
         ensures same_begun { OnErr result (self.new.begun ≡ self.old.begun) }
         ensures limit { self.new.limit ≡ self.old.limit }
         ensures same_version { self.new.version ≡ self.old.version }
-        ensures reach { OnOk result (Reaches (D.seen disk.new) self.new.size) }
+        ensures reach { self.old.laid ≡ None → OnOk result (Reaches (D.seen disk.new) self.new.size) }
+        ensures none_laid { OnOk result (self.new.laid ≡ None) }
     {
         let Some(added) = self.room_for(line) else {
             return Err(JournalFault::Full(self.size));
         };
+        if self.has_laid(line) {
+            self.count_in(added);
+            return Ok(());
+        }
         match begin_within(
             disk,
             self.reach,
@@ -170,9 +212,7 @@ impl Journal {
         ) {
             Ok(reach) => {
                 self.reach = reach;
-                self.begun = Some(self.size - 1);
-                self.size += added;
-                self.count += 1;
+                self.count_in(added);
                 Ok(())
             }
             Err(_) => {
@@ -182,8 +222,11 @@ impl Journal {
         }
     }
 
-    /// Sets the commit byte of the line that is begun, if one is. After Ok each crash leaves that line too.
-    pub fn commit<D: Disk>(&mut self, disk: &mut D) -> Result<(), Failed>
+    /// Sets the commit byte of the line that is begun, if one is. After Ok each crash leaves that line too. Where the line that
+    /// is to be begun next is given and there is room for it, its record goes to the disk with the same sync. It is no part of
+    /// the journal yet: `begin` of that line takes it in with no call of the disk, and any other call forgets it.
+    pub fn commit<D: Disk>(&mut self, disk: &mut D, next: Option<Vec<u8>>) -> Result<(), Failed>
+        requires next { IfSome next (λ line. IsLine line.items × (self.old.version ≡ Version.Two)) }
         requires unspent { self.old.spent ≡ false }
         requires reaches { Reaches (D.seen disk.old) self.old.size }
         ensures committed { (form : Form) (lines begun : List (List ℕ))
@@ -208,9 +251,15 @@ impl Journal {
         let Some(gate) = self.begun else {
             return Ok(());
         };
+        if let Some(line) = next {
+            if self.room_for(&line).is_some() {
+                return self.lay(disk, line);
+            }
+        }
         match set_byte(disk, gate, 1) {
             Ok(()) => {
                 self.begun = None;
+                self.laid = None;
                 Ok(())
             }
             Err(failed) => {
@@ -219,21 +268,46 @@ impl Journal {
             }
         }
     }
-    /// Forgets the line that is begun, if one is: its commit byte is closed, so no crash leaves it. Nothing is called.
-    pub fn withdraw<D: Disk>(&mut self, disk: &D)
-        ensures withdrawn { (form : Form) (lines begun : List (List ℕ))
-            → IsKept form (D.images disk.now) self.old lines begun
-            → IsKept form (D.images disk.now) self.new lines [] }
-        ensures none { self.new.begun ≡ None }
+
+    /// Begins a line, and takes it out of the journal again: its record stays where it is.
+    fn lay<D: Disk>(&mut self, disk: &mut D, line: Vec<u8>) -> Result<(), Failed>
+        requires line { IsLine line.items }
+        requires version { self.old.version ≡ Version.Two }
+        requires room { self.old.size + 7 + length line.items ≤ self.old.limit }
+        requires unspent { self.old.spent ≡ false }
+        requires reaches { Reaches (D.seen disk.old) self.old.size }
+        ensures committed { (form : Form) (lines begun : List (List ℕ))
+            → IsKept form (D.images disk.old) self.old lines begun
+            → OnOk result (IsKept form (D.images disk.new) self.new (lines ++ begun) []) }
+        ensures moments { (form : Form) (lines begun : List (List ℕ))
+            → IsKept form (D.images disk.old) self.old lines begun
+            → LeavesOnly D.moment D.images_since disk.old disk.new (IsAround form lines begun) }
+        ensures cause { HasCause (D.faults disk.old) (D.faults disk.new) result }
+        ensures spent { IsErr result ↔ (self.new.spent ≡ true) }
+        ensures size { self.new.size ≡ self.old.size }
+        ensures count { self.new.count ≡ self.old.count }
+        ensures none { OnOk result (self.new.begun ≡ None) }
+        ensures same_begun { OnErr result (self.new.begun ≡ self.old.begun) }
         ensures limit { self.new.limit ≡ self.old.limit }
-        ensures spent { self.new.spent ≡ self.old.spent }
         ensures same_version { self.new.version ≡ self.old.version }
     {
-        let _ = disk;
-        if let Some(gate) = self.begun {
-            self.size = gate + 1;
-            self.count -= 1;
-            self.begun = None;
+        let (size, count) = (self.size, self.count);
+        match self.begin(disk, &line) {
+            Ok(()) => {
+                self.size = size;
+                self.count = count;
+                self.begun = None;
+                self.laid = Some(line);
+                Ok(())
+            }
+            Err(_) => Err(Failed),
         }
+    }
+
+    /// Whether a line is begun.
+    pub fn is_begun(&self) -> bool
+        ensures { (result ≡ false) ↔ (self.now.begun ≡ None) }
+    {
+        self.begun.is_some()
     }
 }

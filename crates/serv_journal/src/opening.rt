@@ -132,6 +132,7 @@ impl Journal {
                 count: found.frames.len() as u64,
                 version: found.version,
                 begun: None,
+                laid: None,
                 spent: false,
                 reach: found.place + 1,
             },

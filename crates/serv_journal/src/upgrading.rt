@@ -188,7 +188,7 @@ impl Journal {
             → Each (D.images disk.old) (IsWholeIn form (lines_in frames.now))
             → OnOk result (Each (D.images disk.new)
             (IsWholeIn (upgraded_form form (lines_in frames.now)) (lines_in frames.now))) }
-        ensures none_begun { OnOk result (self.new.begun ≡ None) }
+        ensures none_begun { OnOk result ((self.new.begun ≡ None) × (self.new.laid ≡ None)) }
         // `Full` comes exactly where the length would pass the limit, and then nothing is written.
         ensures full { IsErrOf result (JournalFault.Full self.old.size)
             ↔ (self.old.limit < self.old.size + 9 + length (records Version.Two 1 (lines_in frames.now))) }
@@ -211,6 +211,7 @@ impl Journal {
                 self.count = frames.len() as u64;
                 self.version = Version::Two;
                 self.begun = None;
+                self.laid = None;
                 Ok(())
             }
             Err(_) => {

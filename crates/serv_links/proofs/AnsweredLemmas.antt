@@ -6,7 +6,6 @@ use Rattle.std.proofs.KnownBytes.{Appends-nil}
 use Rattle.svc_world.specs.World.{Accepted}
 use Rattle.serv_disk.specs.Disks.{Each}
 use Rattle.serv_disk.specs.Stamps.{Stamp, Notes}
-use Rattle.serv_disk.proofs.NotedLemmas.{adds_trans, at_both, at_wider, held_after}
 use Rattle.serv_http.specs.declared.ask.Ask.{Ask}
 use Rattle.serv_http.specs.Streams.{AsksTo}
 use Rattle.serv_http.proofs.StepLemmas.{nothing-more, nothing-open}
@@ -82,22 +81,6 @@ answers_before h taken more bytes commands is = record {
 }
 
 -- ---- what is written while the disk is as it is
-
--- a text, and another one after it
-pub notes_both : (at : ℕ) (held mid : Option (List ℕ)) (text last : List ℕ) (log log' log'' : Option (List Stamp)) → Appends held mid text → ((s : List ℕ) → held ≡ Some s → Notes at (length s + length text) log log')
-    → ((s : List ℕ) → mid ≡ Some s → Notes at (length s + length last) log' log'') → (s : List ℕ) → held ≡ Some s → Notes at (length s + length (text ++ last)) log log''
-notes_both at held mid text last log log' log'' wrote first second s told =
-    let most : ℕ = length s + length (text ++ last) in
-    let one = first s told in
-    let two = second (s ++ text) (held_after held mid s text told wrote) in
-    let both = length-append text last in
-    let long = length-append s text in
-    record {
-      stamps = one.stamps ++ two.stamps;
-      added = adds_trans log log' log'' one.stamps two.stamps one.added two.added;
-      each = at_both at most one.stamps two.stamps (at_wider at (length s + length text) most one.stamps (omega (arith, both)) one.each)
-          (at_wider at (length (s ++ text) + length last) most two.stamps (omega (arith, both, long)) two.each);
-    }
 
 -- a text that ends within the responses to some first requests, and what is written after them
 pub text_upheld : {D : Type 0} (images : D → List ℕ → Type 0) (moment : D → ℕ) (images_since : D → ℕ → List ℕ → Type 0) (d : D) → ((c : List ℕ) → images_since d (moment d) c → images d c) → {n : ℕ} {done : List Ask} {s mid : Stand} {w : List ℕ}

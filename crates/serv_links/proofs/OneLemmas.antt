@@ -13,7 +13,9 @@ use Rattle.serv_http.specs.declared.ask.Ask.{Ask}
 use Rattle.serv_http.specs.declared.ask.Ask.TheVariants.{Post, Get, Fault}
 use Rattle.serv_http.specs.Streams.{AsksTo}
 use Rattle.serv_http.proofs.StreamLemmas.{asks-unique, asks-first}
-use Rattle.serv_links.specs.Meanings.{Meaning, Asks, Faulty, Means, Mean}
+use Rattle.serv_links.specs.declared.meaning.Meaning.{Meaning}
+use Rattle.serv_links.specs.declared.meaning.Meaning.TheVariants.{Asks, Faulty}
+use Rattle.serv_links.specs.Meanings.{Means, Mean}
 use Rattle.serv_machine.specs.Stands.{Stand}
 use Rattle.serv_links.specs.Responses.{response_to, responses_to, history_after, after_all}
 use Rattle.serv_links.specs.declared.outcome.Outcome.TheVariants.{Broken}
@@ -107,7 +109,7 @@ cut_of_all n m taken added whole s t u pending l earlier later cut all =
     let same : cut.asks ≡ all.asks = (asks-unique cut.asks all.asks taken cut.left l cut.asked all.asked).0 in
     let at = parted_at stopped.done stopped.ask stopped.rest all.answered.meant (subst (λ (z : List Ask). Mean z all.answered.meant) (sym same ∙ stopped.asked) all.answered.mean) in
     let first : stopped.answered.meant ≡ at.ms = mean_one stopped.done stopped.answered.meant at.ms stopped.answered.mean at.mean in
-    let one = stopped.one.1.1 in
+    let one = stopped.one.1 in
     let next : one.meant ≡ at.m = means_one stopped.ask one.meant at.m one.means at.means in
     let before : stopped.before ≡ responses_to s.history at.ms = stopped.answered.wrote_is ∙ ap (responses_to s.history) first in
     let mid : stopped.mid.history ≡ after_all s.history at.ms = stopped.answered.moved.0 ∙ ap (after_all s.history) first in

@@ -5,20 +5,21 @@ use Rattle.std.specs.Io.KnownBytes.{Appends}
 use Rattle.std.proofs.KnownBytes.{Appends-trans}
 use Rattle.std.proofs.lemmas.Bool.{cases_lt}
 use Rattle.std.proofs.lemmas.List.{take-append-drop}
-use Rattle.svc_world.specs.World.{Accepted, accepted}
+use Rattle.svc_world.specs.World.{Accepted}
 use Rattle.serv_disk.specs.Faults.{AppendsPart, HasRisen}
 use Rattle.serv_http.specs.declared.ask.Ask.{Ask}
 use Rattle.serv_http.specs.declared.conn.Conn.{Conn}
 use Rattle.serv_http.specs.Conns.{IsFed}
-use Rattle.serv_machine.specs.History.{History, with_command}
+use Rattle.serv_machine.specs.History.{History}
 use Rattle.serv_machine.specs.OnDisk.{OnDisk}
 use Rattle.serv_machine.proofs.OnDiskLemmas.{disk_more}
 use Rattle.serv_links.specs.declared.outcome.Outcome.{Outcome}
 use Rattle.serv_links.specs.declared.outcome.Outcome.TheVariants.{Answered, Broken, Disk, NoMemory}
-use Rattle.serv_links.specs.Meanings.{Meaning, Mean}
+use Rattle.serv_links.specs.declared.meaning.Meaning.{Meaning}
+use Rattle.serv_links.specs.Meanings.{Mean}
 use Rattle.serv_machine.specs.Stands.{Stand}
 use Rattle.serv_links.specs.Responses.{MovesAll, response_to, responses_to, response_500, response_503, after_all, bound_of_all, history_after, bound_of}
-use Rattle.serv_links.specs.Outcomes.{IsReplied, IsFront, IsAhead, IsOne, IsStuck, IsAnswered, IsStopped, IsRound, IsCutOff, IsPiece, AppendsFront, Writes}
+use Rattle.serv_links.specs.Outcomes.{IsReplied, IsFront, IsOne, IsAnswered, IsStopped, IsRound, IsCutOff, IsPiece, AppendsFront, Writes}
 
 -- ---- lists of meanings
 
@@ -97,32 +98,6 @@ pub parted : (i : ℕ) (asks : List Ask) (a d : Ask) → i < length asks → a �
 parted i asks a d lt is =
     sym (take-append-drop i asks) ∙ ap (λ l. take i asks ++ l) (drop-cons asks i d lt ∙ (ap (λ x. x ∷ drop (suc i) asks) (sym is) ∙ ap (λ n. a ∷ drop n asks) (sym (add-one i))))
 
-ahead_wider : (rest more : List Ask) (h : History) (n m : ℕ) → IsAhead rest h n m → IsAhead (rest ++ more) h n m
-ahead_wider [] [] h n m is = is
-ahead_wider [] (a ∷ more) h n m is = inl is
-ahead_wider (a ∷ rest) more h n m is = is
-
-stuck_wider : (a : Ask) (rest more : List Ask) (s s' : Stand) (pending : List Accepted) → IsStuck a rest s s' pending → IsStuck a (rest ++ more) s s' pending
-stuck_wider a rest more s s' pending is = record {
-  key = is.key;
-  command = is.command;
-  last = is.last;
-  means = is.means;
-  fresh = is.fresh;
-  pending_is = is.pending_is;
-  same = is.same;
-  steps = is.steps;
-  cost = is.cost;
-  ahead = ahead_wider rest more (with_command s.history (accepted is.key is.command)) is.steps s'.steps is.ahead;
-}
-
--- of more requests it is said too
-one_wider : (cut : Type 0) (o : Outcome) (a : Ask) (rest more : List Ask) (s s' : Stand) (pending : List Accepted) (w : List ℕ) → IsOne cut o a rest s s' pending w → IsOne cut o a (rest ++ more) s s' pending w
-one_wider cut Answered a rest more s s' pending w is = absurd is
-one_wider cut Broken a rest more s s' pending w (none, (t, is, next)) = (none, (t, is, (next.0, ahead_wider rest more t.history t.steps s'.steps next.1)))
-one_wider cut Disk a rest more s s' pending w (is, front) = (stuck_wider a rest more s s' pending is, front)
-one_wider cut NoMemory a rest more s s' pending w is = is
-
 stopped_wider : (cut : Type 0) (o : Outcome) (n : ℕ) (asks more : List Ask) (s s' : Stand) (pending : List Accepted) (w : List ℕ) → IsStopped cut o n asks s s' pending w → IsStopped cut o n (asks ++ more) s s' pending w
 stopped_wider cut o n asks more s s' pending w is = record {
   done = is.done;
@@ -134,7 +109,7 @@ stopped_wider cut o n asks more s s' pending w is = record {
   answered = is.answered;
   part = is.part;
   wrote_is = is.wrote_is;
-  one = one_wider cut o is.ask is.rest more is.mid s' pending is.part is.one;
+  one = is.one;
 }
 
 round_stopped : (cut : Type 0) (o : Outcome) (n : ℕ) (asks : List Ask) (s s' : Stand) (pending : List Accepted) (w : List ℕ) → IsStopped cut o n asks s s' pending w → IsRound cut o n asks s s' pending w
@@ -163,11 +138,11 @@ front_by cut (Err e) held held' text whole part risen =
 front_weaker : (cut later : Type 0) (part whole : List ℕ) → (cut → later) → IsFront cut part whole → IsFront later part whole
 front_weaker cut later part whole then f = record { rest = f.rest; joined = f.joined; all = λ calm. f.all (λ c. calm (then c)) }
 
-one_weaker : (cut later : Type 0) (o : Outcome) (a : Ask) (rest : List Ask) (s s' : Stand) (pending : List Accepted) (w : List ℕ) → (cut → later) → IsOne cut o a rest s s' pending w → IsOne later o a rest s s' pending w
-one_weaker cut later Answered a rest s s' pending w then is = absurd is
-one_weaker cut later Broken a rest s s' pending w then is = is
-one_weaker cut later Disk a rest s s' pending w then is = (is.0, front_weaker cut later w response_500 then is.1)
-one_weaker cut later NoMemory a rest s s' pending w then is = (is.0, is.1, front_weaker cut later w response_503 then is.2)
+pub one_weaker : (cut later : Type 0) (o : Outcome) (a : Ask) (s s' : Stand) (pending : List Accepted) (w : List ℕ) → (cut → later) → IsOne cut o a s s' pending w → IsOne later o a s s' pending w
+one_weaker cut later Answered a s s' pending w then is = absurd is
+one_weaker cut later Broken a s s' pending w then is = is
+one_weaker cut later Disk a s s' pending w then is = (is.0, front_weaker cut later w response_500 then is.1)
+one_weaker cut later NoMemory a s s' pending w then is = (is.0, is.1, front_weaker cut later w response_503 then is.2)
 
 stopped_weaker : (cut later : Type 0) (o : Outcome) (n : ℕ) (asks : List Ask) (s s' : Stand) (pending : List Accepted) (w : List ℕ) → (cut → later) → IsStopped cut o n asks s s' pending w → IsStopped later o n asks s s' pending w
 stopped_weaker cut later o n asks s s' pending w then is = record {
@@ -180,7 +155,7 @@ stopped_weaker cut later o n asks s s' pending w then is = record {
   answered = is.answered;
   part = is.part;
   wrote_is = is.wrote_is;
-  one = one_weaker cut later o is.ask is.rest is.mid s' pending is.part then is.one;
+  one = one_weaker cut later o is.ask is.mid s' pending is.part then is.one;
 }
 
 cut_off_weaker : (cut later : Type 0) (o : Outcome) (n : ℕ) (bytes : List ℕ) (s s' : Stand) (pending : List Accepted) (w : List ℕ) → (cut → later) → IsCutOff cut o n bytes s s' pending w
@@ -230,26 +205,21 @@ module _ {D : Type 0} (images : D → List ℕ → Type 0) (moment : D → ℕ) 
       record { pending = w.pending; wrote = w.wrote; appends = w.appends; says_so = w.says_so; disk = disk_more images moment images_since old mid new h h1 h2 w.pending first w.disk }
 
   -- by the result of a call
-  pub stopped_after : (old mid new : D) (cut : Type 0) (r : Result (Unit {0}) Outcome) (n : ℕ) (asks : List Ask) (s s' : Stand) (h h1 h2 : List Accepted) (held held' : Option (List ℕ)) → OnDisk images moment images_since old mid h h1 []
-      → IfErr r (λ o. Writes images moment images_since mid new (IsStopped cut o n asks s s') h1 h2 held held') → IfErr r (λ o. Writes images moment images_since old new (IsStopped cut o n asks s s') h h2 held held')
-  stopped_after old mid new cut (Ok done) n asks s s' h h1 h2 held held' first second = tt
-  stopped_after old mid new cut (Err o) n asks s s' h h1 h2 held held' first second = writes_after old mid new _ h h1 h2 held held' first second
-
   pub disk_after : (old mid new : D) (r : Result (Unit {0}) Outcome) (h h1 h2 : List Accepted) → OnDisk images moment images_since old mid h h1 [] → OnOk r (OnDisk images moment images_since mid new h1 h2 [])
       → OnOk r (OnDisk images moment images_since old new h h2 [])
   disk_after old mid new (Ok done) h h1 h2 first second = disk_more images moment images_since old mid new h h1 h2 [] first second
   disk_after old mid new (Err o) h h1 h2 first second = tt
 
-  -- a cut within a longer run
-  pub stops_weaker : (cut later : Type 0) (o : Outcome) (old new : D) (n : ℕ) (asks : List Ask) (s s' : Stand) (h h' : List Accepted) (held held' : Option (List ℕ)) → (cut → later)
-      → Writes images moment images_since old new (IsStopped cut o n asks s s') h h' held held' → Writes images moment images_since old new (IsStopped later o n asks s s') h h' held held'
-  stops_weaker cut later o old new n asks s s' h h' held held' then w =
-      writes_as old new _ _ h h' held held' (λ pending wrote stopped. stopped_weaker cut later o n asks s s' pending wrote then stopped) w
+  pub run_of : (old new : D) (r : Result (Unit {0}) Outcome) (P : Outcome → List Accepted → List ℕ → Type 0) (h h' : List Accepted) (held held' : Option (List ℕ)) → OnOk r (OnDisk images moment images_since old new h h' [])
+      → IfErr r (λ o. Writes images moment images_since old new (P o) h h' held held') → (pending : List Accepted) × OnDisk images moment images_since old new h h' pending
+  run_of old new (Ok done) P h h' held held' run stops = ([], run)
+  run_of old new (Err o) P h h' held held' run stops = (stops.pending, stops.disk)
 
-  pub stops_all : (cut later : Type 0) (old new : D) (r : Result (Unit {0}) Outcome) (n : ℕ) (asks : List Ask) (s s' : Stand) (h h' : List Accepted) (held held' : Option (List ℕ)) → (cut → later)
-      → IfErr r (λ o. Writes images moment images_since old new (IsStopped cut o n asks s s') h h' held held') → IfErr r (λ o. Writes images moment images_since old new (IsStopped later o n asks s s') h h' held held')
-  stops_all cut later old new (Ok done) n asks s s' h h' held held' then w = tt
-  stops_all cut later old new (Err o) n asks s s' h h' held held' then w = stops_weaker cut later o old new n asks s s' h h' held held' then w
+  -- of more requests it is said too
+  pub stops_wider : (cut : Type 0) (o : Outcome) (old new : D) (n : ℕ) (asks more : List Ask) (s s' : Stand) (h h' : List Accepted) (held held' : Option (List ℕ))
+      → Writes images moment images_since old new (IsStopped cut o n asks s s') h h' held held' → Writes images moment images_since old new (IsStopped cut o n (asks ++ more) s s') h h' held held'
+  stops_wider cut o old new n asks more s s' h h' held held' w =
+      writes_as old new _ _ h h' held held' (λ pending wrote stopped. stopped_wider cut o n asks more s s' pending wrote stopped) w
 
   -- it stopped within the first of some requests
   pub round_stops : (cut later : Type 0) (o : Outcome) (old mid new : D) (n : ℕ) (asks first more : List Ask) (s s' : Stand) (h h1 : List Accepted) (held held' : Option (List ℕ)) → (cut → later) → asks ≡ first ++ more

@@ -4,7 +4,8 @@ use Rattle.svc_world.specs.World.{Accepted}
 use Rattle.serv_http.specs.declared.ask.Ask.{Ask}
 use Rattle.serv_http.specs.Streams.{AsksTo}
 use Rattle.serv_machine.specs.History.{History}
-use Rattle.serv_links.specs.Meanings.{Meaning, Mean}
+use Rattle.serv_links.specs.declared.meaning.Meaning.{Meaning}
+use Rattle.serv_links.specs.Meanings.{Mean}
 use Rattle.serv_links.specs.Responses.{responses_to, after_all, response_500, response_503}
 
 -- what is written after the responses: nothing more, or that the disk failed, or that no memory was there

@@ -3,16 +3,16 @@ use Rattle.std.specs.Prelude.{◌≡◌, ℕ, List, [], ◌∷◌, Bool, false, 
 use Rattle.svc_types.specs.Requests.{IsQuery, IsRequest}
 use Rattle.svc_types.specs.declared.requests.Request.{Request}
 use Rattle.svc_types.specs.declared.requests.Request.TheVariants as request
+use Rattle.svc_world.specs.World.{Accepted}
 use Rattle.serv_http.specs.declared.ask.Allow.{Allow}
 use Rattle.serv_http.specs.declared.ask.Ask.{Ask}
 use Rattle.serv_http.specs.declared.ask.Ask.TheVariants.{Post, Get, Fault}
 use Rattle.serv_http.specs.Responses.{IsSent, has_body}
 use Rattle.serv_json.specs.Bodies.{IsBodyOf}
-
--- a request of the books, or a fault with its status and the route's method; and whether the connection ends
-pub data Meaning : Type 0 where
-  Asks : Request → Bool → Meaning
-  Faulty : ℕ → Bool → Option Allow → Meaning
+use Rattle.serv_machine.specs.History.{History}
+use Rattle.serv_machine.specs.Replies.{IsAppending, commands_in}
+use Rattle.serv_links.specs.declared.meaning.Meaning.{Meaning}
+use Rattle.serv_links.specs.declared.meaning.Meaning.TheVariants.{Asks, Faulty}
 
 -- no request has this body
 abbrev pub IsNoBody : List ℕ → Type 0
@@ -47,3 +47,23 @@ abbrev pub IsAsk : Ask → Type 0
 IsAsk (Post body last) = ⊤
 IsAsk (Get q last) = IsQuery q
 IsAsk (Fault status last allow) = IsFault status allow
+
+-- and what they mean
+abbrev pub IsFormed : Meaning → Type 0
+IsFormed (Asks r ends) = IsRequest r
+IsFormed (Faulty status ends allow) = IsFault status allow
+
+-- whether the connection ends after the response
+abbrev pub ends_of : Meaning → Bool
+ends_of (Asks r ends) = ends
+ends_of (Faulty status ends allow) = ends
+
+-- the command that is brought, if it is one
+abbrev pub commands_of : Meaning → List Accepted
+commands_of (Asks r ends) = commands_in r
+commands_of (Faulty status ends allow) = []
+
+-- a command that is fresh, and for which there is room
+abbrev pub IsAppended : History → Meaning → Type 0
+IsAppended h (Asks r ends) = IsAppending h r
+IsAppended h (Faulty status ends allow) = ⊥

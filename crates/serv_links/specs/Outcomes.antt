@@ -9,11 +9,13 @@ use Rattle.serv_http.specs.declared.ask.Ask.{Ask}
 use Rattle.serv_http.specs.declared.conn.Conn.{Conn}
 use Rattle.serv_http.specs.Conns.{IsFed}
 use Rattle.serv_http.specs.Streams.{AsksTo}
-use Rattle.serv_machine.specs.History.{History, Fresh, decided, with_command}
+use Rattle.serv_machine.specs.History.{Fresh, decided}
 use Rattle.serv_machine.specs.OnDisk.{OnDisk}
 use Rattle.serv_links.specs.declared.outcome.Outcome.{Outcome}
 use Rattle.serv_links.specs.declared.outcome.Outcome.TheVariants.{Answered, Broken, Disk, NoMemory}
-use Rattle.serv_links.specs.Meanings.{Meaning, Asks, Means, Mean}
+use Rattle.serv_links.specs.declared.meaning.Meaning.{Meaning}
+use Rattle.serv_links.specs.declared.meaning.Meaning.TheVariants.{Asks}
+use Rattle.serv_links.specs.Meanings.{Means, Mean}
 use Rattle.serv_machine.specs.Stands.{Stand, Stays}
 use Rattle.serv_links.specs.Responses.{Moves, MovesAll, history_after, bound_of, response_to, responses_to, response_500, response_503}
 
@@ -33,14 +35,8 @@ pub record IsCut (a : Ask) (s s' : Stand) (wrote : List ℕ) : Type 0 where
   pub cut : IsProperPrefix wrote (response_to s.history meant)
   pub moved : Moves meant s s'
 
--- steps may have been taken for the first one of these, over these books
-abbrev pub IsAhead : List Ask → History → ℕ → ℕ → Type 0
-IsAhead [] h steps steps' = steps' ≤ steps
-IsAhead (a ∷ rest) h steps steps' =
-    (steps' ≤ steps) ⊎ ((meant : Meaning) × Means a meant × (steps' ≤ steps + bound_of h meant))
-
--- the disk failed while its command was being appended; it is not accepted. Steps may have been taken for the next one
-pub record IsStuck (a : Ask) (rest : List Ask) (s s' : Stand) (pending : List Accepted) : Type 0 where
+-- the disk failed while its command was being appended; it is not accepted
+pub record IsStuck (a : Ask) (s s' : Stand) (pending : List Accepted) : Type 0 where
   pub key : List ℕ
   pub command : Command
   pub last : Bool
@@ -48,9 +44,7 @@ pub record IsStuck (a : Ask) (rest : List Ask) (s s' : Stand) (pending : List Ac
   pub fresh : decided s.history key command ≡ Fresh
   pub pending_is : pending ≡ accepted key command ∷ []
   pub same : s'.history ≡ s.history
-  pub steps : ℕ
-  pub cost : steps ≤ s.steps + bound_of s.history (Asks (request.Do key command) last)
-  pub ahead : IsAhead rest (with_command s.history (accepted key command)) steps s'.steps
+  pub cost : s'.steps ≤ s.steps + bound_of s.history (Asks (request.Do key command) last)
 
 -- no memory was there once it was known what it means: it was acted on or not
 pub record IsTriedAs (a : Ask) (s s' : Stand) : Type 0 where
@@ -62,10 +56,6 @@ pub record IsTriedAs (a : Ask) (s s' : Stand) : Type 0 where
 -- no memory was there
 abbrev pub IsTried : Ask → Stand → Stand → Type 0
 IsTried a s s' = Stays s s' ⊎ IsTriedAs a s s'
-
--- none of these was acted on; steps may have been taken for the first one
-abbrev pub IsUntaken : List Ask → Stand → Stand → Type 0
-IsUntaken rest s s' = (s'.history ≡ s.history) × IsAhead rest s.history s.steps s'.steps
 
 -- a front part of a text, and all of it unless a write was cut
 pub record IsFront (cut : Type 0) (part whole : List ℕ) : Type 0 where
@@ -81,11 +71,11 @@ pub record AppendsFront (cut : Type 0) (held held' : Option (List ℕ)) (text : 
 
 -- How it went where it is not answered, or not whole, what was written, and the command that was being appended; 500 and 503 are
 -- written whole unless a write was cut. No request behind it is acted on
-abbrev pub IsOne : Type 0 → Outcome → Ask → List Ask → Stand → Stand → List Accepted → List ℕ → Type 0
-IsOne cut Broken a rest s s' pending wrote = (pending ≡ []) × ((t : Stand) × IsCut a s t wrote × IsUntaken rest t s')
-IsOne cut Disk a rest s s' pending wrote = IsStuck a rest s s' pending × IsFront cut wrote response_500
-IsOne cut NoMemory a rest s s' pending wrote = (pending ≡ []) × IsTried a s s' × IsFront cut wrote response_503
-IsOne cut other a rest s s' pending wrote = ⊥
+abbrev pub IsOne : Type 0 → Outcome → Ask → Stand → Stand → List Accepted → List ℕ → Type 0
+IsOne cut Broken a s s' pending wrote = (pending ≡ []) × IsCut a s s' wrote
+IsOne cut Disk a s s' pending wrote = IsStuck a s s' pending × IsFront cut wrote response_500
+IsOne cut NoMemory a s s' pending wrote = (pending ≡ []) × IsTried a s s' × IsFront cut wrote response_503
+IsOne cut other a s s' pending wrote = ⊥
 
 -- ---- requests in order
 
@@ -108,7 +98,7 @@ pub record IsStopped (cut : Type 0) (o : Outcome) (n : ℕ) (asks : List Ask) (s
   pub answered : IsAnswered n done s mid before
   pub part : List ℕ
   pub wrote_is : wrote ≡ before ++ part
-  pub one : IsOne cut o ask rest mid s' pending part
+  pub one : IsOne cut o ask mid s' pending part
 
 abbrev pub IsRound : Type 0 → Outcome → ℕ → List Ask → Stand → Stand → List Accepted → List ℕ → Type 0
 IsRound cut Answered n asks s s' pending wrote = (pending ≡ []) × IsAnswered n asks s s' wrote

@@ -12,7 +12,8 @@ use Rattle.serv_http.specs.Responses.{response}
 use Rattle.serv_machine.specs.History.{History, Decision, Kept, Refused, Full, Fresh, decided}
 use Rattle.serv_machine.specs.Replies.{reply_to_request, history_after_request, bound_of_request}
 use Rattle.serv_machine.specs.Stands.{Stand}
-use Rattle.serv_links.specs.Meanings.{Meaning, Asks, Faulty}
+use Rattle.serv_links.specs.declared.meaning.Meaning.{Meaning}
+use Rattle.serv_links.specs.declared.meaning.Meaning.TheVariants.{Asks, Faulty}
 
 -- ---- a reply
 

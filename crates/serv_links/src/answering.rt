@@ -58,7 +58,7 @@ fn answer_all<D: Disk, M: Machine<D>, K: Sink, L: Ledger>(
             },
         }
     }
-    match responses.settle(machine, disk, link) {
+    match responses.settle(None, machine, disk, link) {
         Ok(()) => Round {
             answered: responses.answered,
             outcome: Outcome::Answered,

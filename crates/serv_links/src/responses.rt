@@ -1,30 +1,32 @@
-//! Responses to requests, written in their order: one may wait until the disk has the command behind it.
+//! Responses to requests, written in their order: one waits until the disk has the command behind it.
 
-ghost use Rattle.std.specs.Prelude.{◌≡◌, ◌≢◌, ℕ, ◌+◌, ◌≤◌, ◌<◌, ◌^◌, ◌++◌, ◌∷◌, List, [], length, Option, Some, false, true, IfErr, OnErr, OnOk};
+ghost use Rattle.std.specs.Prelude.{◌≡◌, ◌≢◌, ℕ, ◌+◌, ◌≤◌, ◌<◌, ◌^◌, ◌++◌, ◌∷◌, List, [], length, Option, Some, false, true, IfErr, IfOk, IfSome, OnErr, OnOk};
 ghost use Rattle.std.specs.Io.KnownBytes.{Appends};
+ghost use Rattle.svc_types.specs.Requests.{IsCommand};
 ghost use Rattle.serv_disk.specs.Faults.{AppendsPart, HasCause, HasRisen};
-ghost use Rattle.serv_disk.specs.Stamps.{Notes, Stamp};
+ghost use Rattle.serv_disk.specs.Stamps.{Notes};
 ghost use Rattle.serv_http.specs.declared.ask.Ask as asks;
-ghost use Rattle.serv_machine.specs.declared.stage.Stage.TheVariants as stages;
 ghost use Rattle.serv_machine.specs.OnDisk.{OnDisk};
-ghost use Rattle.serv_machine.specs.Stands.{Running, Stand, running, stand};
+ghost use Rattle.serv_machine.specs.Stages.{IsKeptBut};
+ghost use Rattle.serv_machine.specs.Stands.{Stand, running, stand};
 ghost use Rattle.serv_machine.specs.Upheld.{Upholds};
 ghost use Rattle.serv_links.specs.Answered.{AreAnswers};
-ghost use Rattle.serv_links.specs.Gathered.{as_one, ending, text_if, Gathered, IsCommitted, IsLeft};
-ghost use Rattle.serv_links.specs.Meanings.{IsAsk};
-ghost use Rattle.serv_links.specs.Outcomes.{IsStopped, Writes};
-ghost use Rattle.serv_links.specs.Verdicts.{IsDecided, IsFit, response_of};
+ghost use Rattle.serv_links.specs.Gathered.{as_one, text_if, Gathered};
+ghost use Rattle.serv_links.specs.Meanings.{IsAppended, IsAsk, IsFormed, Means};
+ghost use Rattle.serv_links.specs.Outcomes.{IsOne, IsStopped, Writes};
+ghost use Rattle.serv_links.specs.Responses.{Moves, response_to};
 
 use crate::closing::{write_failed, write_no_memory};
-use crate::deciding::decide;
+use crate::deciding::respond_to;
+use crate::meaning::{Meaning, next_in, read_ask};
 use crate::outcome::Outcome;
-use crate::verdict::Verdict;
 use serv_disk::{Disk, Failed, Sink, write_beside};
 use serv_http::Ask;
-use serv_machine::{Machine, Stage};
+use serv_machine::{Halt, Machine};
 use std::alloc::Global;
 use std::sync::ledger::Ledger;
 use svc_base::Steps;
+use svc_types::{Command, Key};
 
 /// The responses to the requests of a piece: how many are written whole, and the text of one more, where one
 /// waits until the disk has its command.
@@ -48,7 +50,8 @@ impl Responses {
         }
     }
 
-    /// Acts on a request, and writes the responses whose commands the disk has then.
+    /// Writes the response that waits, and acts on a request. The record of its command goes to the disk with the end
+    /// of the one before it.
     pub(crate) fn answer<D: Disk, M: Machine<D>, K: Sink, L: Ledger>(
         &mut self,
         alloc: Global,
@@ -60,7 +63,7 @@ impl Responses {
     ) -> Result<(), Outcome>
         requires ask { IsAsk ask.now }
         requires running { M.running machine.old disk.old }
-        requires few { self.old.answered + as_one self.old.waits + 1 < 2 ^ 32 }
+        requires few { self.old.answered + as_one self.old.waits < 2 ^ 32 }
         ensures gathered { (done : List asks.Ask) (s : Stand) (held : Option (List ℕ))
             → Gathered self.old.answered self.old.waits self.old.text.items done s
             (running (M.history machine.old) (M.kept machine.old) steps.old) held (K.held link.old)
@@ -94,184 +97,10 @@ impl Responses {
         ensures faults { D.faults disk.old ≤ D.faults disk.new }
         ensures beside { K.beside link.new ≡ K.beside link.old }
     {
-        match decide(alloc, machine, disk, link, self.waiting(), ask, steps) {
-            Ok(decided) => match decided.stage {
-                Stage::Begun => self.hold_back(
-                    alloc,
-                    machine,
-                    disk,
-                    link,
-                    &decided.verdict,
-                    decided.ends,
-                ),
-                Stage::Settled => self.let_out(
-                    alloc,
-                    machine,
-                    disk,
-                    link,
-                    &decided.verdict,
-                    decided.ends,
-                ),
-            },
-            Err(Outcome::Disk) => {
-                write_failed(link, disk);
-                Err(Outcome::Disk)
-            }
-            Err(Outcome::NoMemory) => Err(self.give_up(machine, disk, link)),
-            Err(Outcome::Broken) => Err(Outcome::Broken),
-            Err(Outcome::Answered) => unreachable!(),
-        }
-    }
-
-    /// The text that waits, or none.
-    fn waiting(&self) -> &[u8]
-        ensures { result.now ≡ text_if self.now.waits self.now.text.items }
-    {
-        if self.waits { &self.text } else { &[] }
-    }
-
-    /// Counts what waited as written.
-    fn let_go(&mut self)
-        requires few { self.old.answered + as_one self.old.waits < 2 ^ 32 }
-        ensures count { self.new.answered ≡ self.old.answered + as_one self.old.waits }
-        ensures none { self.new.waits ≡ false }
-    {
-        if self.waits {
-            self.waits = false;
-            self.answered += 1;
-        }
-    }
-
-    /// After a command is begun, and what waited is written, since the disk has all before it. Its own response waits.
-    fn hold_back<D: Disk, M: Machine<D>, K: Sink>(
-        &mut self,
-        alloc: Global,
-        machine: &mut M,
-        disk: &mut D,
-        link: &mut K,
-        verdict: &Verdict,
-        ends: bool,
-    ) -> Result<(), Outcome>
-        requires fit { IsFit verdict.now }
-        requires running { M.running machine.old disk.old }
-        requires few { self.old.answered + as_one self.old.waits < 2 ^ 32 }
-        ensures gathered { (done : List asks.Ask) (s : Stand) (t : Running) (ask : asks.Ask) (steps : ℕ)
-            (held before : Option (List ℕ))
-            → Gathered self.old.answered self.old.waits self.old.text.items done s t held before
-            → Appends before (K.held link.old) (text_if self.old.waits self.old.text.items)
-            → IsDecided ask stages.Begun t (running (M.history machine.old) (M.kept machine.old) steps)
-            (response_of verdict.now ends)
-            → OnOk result (Gathered self.new.answered self.new.waits self.new.text.items (done ++ ask ∷ []) s
-            (running (M.history machine.new) (M.kept machine.new) steps) held (K.held link.new)) }
-        ensures stopped { (done : List asks.Ask) (s : Stand) (t : Running) (ask : asks.Ask) (steps : ℕ)
-            (held before : Option (List ℕ))
-            → Gathered self.old.answered self.old.waits self.old.text.items done s t held before
-            → Appends before (K.held link.old) (text_if self.old.waits self.old.text.items)
-            → IsDecided ask stages.Begun t (running (M.history machine.old) (M.kept machine.old) steps)
-            (response_of verdict.now ends)
-            → IfErr result (λ why. Writes D.images D.moment D.images_since disk.old disk.new
-            (IsStopped (HasRisen (K.faults link.old) (K.faults link.new)) why self.new.answered
-            (done ++ ask ∷ []) s (stand (M.kept machine.new) steps))
-            (M.kept machine.old).commands (M.kept machine.new).commands held (K.held link.new)) }
-        ensures upheld { (done : List asks.Ask) (s : Stand) (t : Running) (ask : asks.Ask) (steps : ℕ)
-            (held before : Option (List ℕ)) (log : Option (List Stamp))
-            → Gathered self.old.answered self.old.waits self.old.text.items done s t held before
-            → Appends before (K.held link.old) (text_if self.old.waits self.old.text.items)
-            → IsDecided ask stages.Begun t (running (M.history machine.old) (M.kept machine.old) steps)
-            (response_of verdict.now ends)
-            → ((x : List ℕ) → before ≡ Some x → Notes (D.moment disk.old)
-            (length x + length (text_if self.old.waits self.old.text.items)) log (K.log link.old))
-            → Upholds (AreAnswers (done ++ ask ∷ []) s.history) (D.moment disk.new)
-            (D.images_since disk.new) (M.kept machine.new).commands held log (K.log link.new) }
-        ensures count { OnOk result (self.new.answered + as_one self.new.waits
-            ≡ self.old.answered + as_one self.old.waits + 1) }
-        ensures few { OnErr result (self.new.answered ≤ self.old.answered + as_one self.old.waits) }
-        ensures disk { OnOk result (OnDisk D.images D.moment D.images_since disk.old disk.new
-            (M.kept machine.old).commands (M.kept machine.new).commands []) }
-        ensures running { OnOk result (M.running machine.new disk.new) }
-        ensures ready { IfErr result (λ why. why ≢ Outcome.Disk → M.ready machine.new disk.new) }
-        ensures broken { IfErr result (λ why. why ≡ Outcome.Broken
-            → HasRisen (K.faults link.old) (K.faults link.new)) }
-        ensures failed { IfErr result (λ why. why ≡ Outcome.Disk → M.failed machine.new) }
-        ensures cause { IfErr result (λ why. why ≡ Outcome.Disk
-            → HasRisen (D.faults disk.old) (D.faults disk.new)) }
-        ensures later { K.faults link.old ≤ K.faults link.new }
-        ensures faults { D.faults disk.old ≤ D.faults disk.new }
-        ensures beside { K.beside link.new ≡ K.beside link.old }
-    {
-        self.let_go();
-        match verdict.response(alloc, ends) {
-            Ok(text) => {
-                self.text = text;
-                self.waits = true;
-                Ok(())
-            }
-            Err(_) => Err(self.give_up(machine, disk, link)),
-        }
-    }
-
-    /// After a request of which nothing is left to be done: what is begun before it is committed, what waits is
-    /// written, and then its own response.
-    fn let_out<D: Disk, M: Machine<D>, K: Sink>(
-        &mut self,
-        alloc: Global,
-        machine: &mut M,
-        disk: &mut D,
-        link: &mut K,
-        verdict: &Verdict,
-        ends: bool,
-    ) -> Result<(), Outcome>
-        requires fit { IsFit verdict.now }
-        requires running { M.running machine.old disk.old }
-        requires few { self.old.answered + as_one self.old.waits + 1 < 2 ^ 32 }
-        ensures gathered { (done : List asks.Ask) (s : Stand) (t : Running) (ask : asks.Ask) (steps : ℕ)
-            (held : Option (List ℕ))
-            → Gathered self.old.answered self.old.waits self.old.text.items done s t held (K.held link.old)
-            → IsDecided ask stages.Settled t (running (M.history machine.old) (M.kept machine.old) steps)
-            (response_of verdict.now ends)
-            → OnOk result (Gathered self.new.answered self.new.waits self.new.text.items (done ++ ask ∷ []) s
-            (running (M.history machine.new) (M.kept machine.new) steps) held (K.held link.new)) }
-        ensures stopped { (done : List asks.Ask) (s : Stand) (t : Running) (ask : asks.Ask) (steps : ℕ)
-            (held : Option (List ℕ))
-            → Gathered self.old.answered self.old.waits self.old.text.items done s t held (K.held link.old)
-            → IsDecided ask stages.Settled t (running (M.history machine.old) (M.kept machine.old) steps)
-            (response_of verdict.now ends)
-            → IfErr result (λ why. Writes D.images D.moment D.images_since disk.old disk.new
-            (IsStopped (HasRisen (K.faults link.old) (K.faults link.new)) why self.new.answered
-            (done ++ ask ∷ []) s (stand (M.kept machine.new) steps))
-            (M.kept machine.old).commands (M.kept machine.new).commands held (K.held link.new)) }
-        ensures upheld { (done : List asks.Ask) (s : Stand) (t : Running) (ask : asks.Ask) (steps : ℕ)
-            (held : Option (List ℕ))
-            → Gathered self.old.answered self.old.waits self.old.text.items done s t held (K.held link.old)
-            → IsDecided ask stages.Settled t (running (M.history machine.old) (M.kept machine.old) steps)
-            (response_of verdict.now ends)
-            → Upholds (AreAnswers (done ++ ask ∷ []) s.history) (D.moment disk.new)
-            (D.images_since disk.new) (M.kept machine.new).commands held (K.log link.old) (K.log link.new) }
-        ensures count { OnOk result (self.new.answered + as_one self.new.waits
-            ≡ self.old.answered + as_one self.old.waits + 1) }
-        ensures few { OnErr result (self.new.answered ≤ self.old.answered + as_one self.old.waits) }
-        ensures disk { OnOk result (OnDisk D.images D.moment D.images_since disk.old disk.new
-            (M.kept machine.old).commands (M.kept machine.new).commands []) }
-        ensures running { OnOk result (M.running machine.new disk.new) }
-        ensures ready { IfErr result (λ why. why ≢ Outcome.Disk → M.ready machine.new disk.new) }
-        ensures broken { IfErr result (λ why. why ≡ Outcome.Broken
-            → HasRisen (K.faults link.old) (K.faults link.new)) }
-        ensures failed { IfErr result (λ why. why ≡ Outcome.Disk → M.failed machine.new) }
-        ensures cause { IfErr result (λ why. why ≡ Outcome.Disk
-            → HasRisen (D.faults disk.old) (D.faults disk.new)) }
-        ensures later { K.faults link.old ≤ K.faults link.new }
-        ensures faults { D.faults disk.old ≤ D.faults disk.new }
-        ensures beside { K.beside link.new ≡ K.beside link.old }
-    {
-        match self.settle(machine, disk, link) {
-            Ok(()) => match verdict.response(alloc, ends) {
-                Ok(text) => match write_beside(link, disk, &text) {
-                    Ok(()) => {
-                        self.answered += 1;
-                        Ok(())
-                    }
-                    Err(_) => Err(Outcome::Broken),
-                },
+        let read = read_ask(alloc, ask);
+        match self.settle(next_in(&read), machine, disk, link) {
+            Ok(()) => match &read {
+                Ok(meaning) => self.act(alloc, meaning, machine, disk, link, steps),
                 Err(_) => {
                     write_no_memory(link, disk);
                     Err(Outcome::NoMemory)
@@ -281,34 +110,101 @@ impl Responses {
         }
     }
 
-    /// Commits what is begun, and writes what waits.
+    /// Acts on a request, where nothing waits. Its response waits then.
+    fn act<D: Disk, M: Machine<D>, K: Sink, L: Ledger>(
+        &mut self,
+        alloc: Global,
+        meaning: &Meaning,
+        machine: &mut M,
+        disk: &mut D,
+        link: &mut K,
+        steps: &mut Steps<L>,
+    ) -> Result<(), Outcome>
+        requires formed { IsFormed meaning.now }
+        requires ready { M.ready machine.old disk.old }
+        ensures waits { OnOk result (self.new.waits ≡ true) }
+        ensures text { OnOk result (self.new.text.items ≡ response_to (M.history machine.old) meaning.now) }
+        ensures moved { OnOk result (Moves meaning.now (stand (M.history machine.old) steps.old)
+            (stand (M.history machine.new) steps.new)) }
+        ensures kept { OnOk result (IsKeptBut (IsAppended (M.history machine.old) meaning.now)
+            (M.history machine.old) (M.history machine.new) (M.kept machine.new)) }
+        ensures unwritten { OnOk result (K.held link.new ≡ K.held link.old) }
+        ensures one { (ask : asks.Ask) → Means ask meaning.now → IfErr result (λ why. Writes D.images D.moment
+            D.images_since disk.old disk.new (IsOne (HasRisen (K.faults link.old) (K.faults link.new)) why ask
+            (stand (M.history machine.old) steps.old) (stand (M.kept machine.new) steps.new))
+            (M.history machine.old).commands (M.kept machine.new).commands (K.held link.old) (K.held link.new)) }
+        ensures upheld { (more : List asks.Ask) → Upholds (AreAnswers more (M.history machine.old))
+            (D.moment disk.new) (D.images_since disk.new) (M.kept machine.new).commands
+            (K.held link.old) (K.log link.old) (K.log link.new) }
+        ensures count { self.new.answered ≡ self.old.answered }
+        ensures disk { OnOk result (OnDisk D.images D.moment D.images_since disk.old disk.new
+            (M.history machine.old).commands (M.kept machine.new).commands []) }
+        ensures running { OnOk result (M.running machine.new disk.new) }
+        ensures ready { IfErr result (λ why. why ≢ Outcome.Disk → M.ready machine.new disk.new) }
+        ensures broken { IfErr result (λ why. why ≢ Outcome.Broken) }
+        ensures failed { IfErr result (λ why. why ≡ Outcome.Disk → M.failed machine.new) }
+        ensures cause { IfErr result (λ why. why ≡ Outcome.Disk
+            → HasRisen (D.faults disk.old) (D.faults disk.new)) }
+        ensures later { K.faults link.old ≤ K.faults link.new }
+        ensures faults { D.faults disk.old ≤ D.faults disk.new }
+        ensures beside { K.beside link.new ≡ K.beside link.old }
+    {
+        match respond_to(alloc, machine, disk, meaning, steps) {
+            Ok(text) => {
+                self.text = text;
+                self.waits = true;
+                Ok(())
+            }
+            Err(Halt::DiskFault) => {
+                write_failed(link, disk);
+                Err(Outcome::Disk)
+            }
+            // A command may be begun.
+            Err(Halt::OutOfMemory) => match machine.commit(disk, None) {
+                Ok(()) => {
+                    write_no_memory(link, disk);
+                    Err(Outcome::NoMemory)
+                }
+                Err(_) => {
+                    write_failed(link, disk);
+                    Err(Outcome::Disk)
+                }
+            },
+        }
+    }
+
+    /// Leaves no command begun, and writes what waits. The command that comes next may be given, as to `commit`.
     pub(crate) fn settle<D: Disk, M: Machine<D>, K: Sink>(
         &mut self,
+        next: Option<(&Key, &Command)>,
         machine: &mut M,
         disk: &mut D,
         link: &mut K,
     ) -> Result<(), Outcome>
+        requires next { IfSome next (λ c. IsCommand c.1.now) }
         requires running { M.running machine.old disk.old }
         requires few { self.old.answered + as_one self.old.waits < 2 ^ 32 }
-        ensures history { M.history machine.new ≡ M.history machine.old }
-        ensures kept { OnOk result (M.kept machine.new ≡ M.history machine.old) }
-        ensures written { OnOk result (Appends (K.held link.old) (K.held link.new)
-            (text_if self.old.waits self.old.text.items)) }
+        ensures gathered { (done : List asks.Ask) (s : Stand) (steps : ℕ) (held : Option (List ℕ))
+            → Gathered self.old.answered self.old.waits self.old.text.items done s
+            (running (M.history machine.old) (M.kept machine.old) steps) held (K.held link.old)
+            → OnOk result (Gathered self.new.answered false self.new.text.items done s
+            (running (M.history machine.new) (M.kept machine.new) steps) held (K.held link.new)) }
+        ensures stopped { (done : List asks.Ask) (s : Stand) (steps : ℕ) (held : Option (List ℕ))
+            → Gathered self.old.answered self.old.waits self.old.text.items done s
+            (running (M.history machine.old) (M.kept machine.old) steps) held (K.held link.old)
+            → IfErr result (λ why. Writes D.images D.moment D.images_since disk.old disk.new
+            (IsStopped (HasRisen (K.faults link.old) (K.faults link.new)) why self.new.answered done s
+            (stand (M.kept machine.new) steps))
+            (M.kept machine.old).commands (M.kept machine.new).commands held (K.held link.new)) }
+        ensures upheld { (done : List asks.Ask) (s : Stand) (steps : ℕ) (held : Option (List ℕ))
+            → Gathered self.old.answered self.old.waits self.old.text.items done s
+            (running (M.history machine.old) (M.kept machine.old) steps) held (K.held link.old)
+            → Upholds (AreAnswers done s.history) (D.moment disk.new)
+            (D.images_since disk.new) (M.kept machine.new).commands held (K.log link.old) (K.log link.new) }
         ensures count { OnOk result (self.new.answered ≡ self.old.answered + as_one self.old.waits) }
-        ensures none { OnOk result (self.new.waits ≡ false) }
-        ensures committed { IfErr result (λ why. IsCommitted D.images D.moment D.images_since disk.old disk.new why
-            (M.history machine.old) (M.kept machine.old) (M.kept machine.new)) }
-        ensures left { IfErr result (λ why. IsLeft why (HasRisen (K.faults link.old) (K.faults link.new))
-            (K.held link.old) (K.held link.new) (text_if self.old.waits self.old.text.items)) }
-        ensures memory { IfErr result (λ why. why ≢ Outcome.NoMemory) }
         ensures same { OnErr result (self.new.answered ≡ self.old.answered) }
-        ensures noted { OnOk result ((s : List ℕ) → K.held link.old ≡ Some s → Notes (D.moment disk.new)
-            (length s + length (text_if self.old.waits self.old.text.items)) (K.log link.old) (K.log link.new)) }
-        ensures ended { IfErr result (λ why. (s : List ℕ) → K.held link.old ≡ Some s → Notes (D.moment disk.new)
-            (length s + length (ending why (text_if self.old.waits self.old.text.items)))
-            (K.log link.old) (K.log link.new)) }
         ensures disk { OnOk result (OnDisk D.images D.moment D.images_since disk.old disk.new
-            (M.kept machine.old).commands (M.kept machine.new).commands []) }
+            (M.kept machine.old).commands (M.history machine.new).commands []) }
         ensures ready { OnOk result (M.ready machine.new disk.new) }
         ensures ready_too { IfErr result (λ why. why ≢ Outcome.Disk → M.ready machine.new disk.new) }
         ensures broken { IfErr result (λ why. why ≡ Outcome.Broken
@@ -320,7 +216,7 @@ impl Responses {
         ensures faults { D.faults disk.old ≤ D.faults disk.new }
         ensures beside { K.beside link.new ≡ K.beside link.old }
     {
-        match machine.commit(disk) {
+        match machine.commit(disk, next) {
             Ok(()) => match self.write_waiting(disk, link) {
                 Ok(()) => Ok(()),
                 Err(_) => Err(Outcome::Broken),
@@ -329,42 +225,6 @@ impl Responses {
                 write_failed(link, disk);
                 Err(Outcome::Disk)
             }
-        }
-    }
-
-    /// Where no memory is there: commits what is begun, writes what waits, and then that no memory is there.
-    fn give_up<D: Disk, M: Machine<D>, K: Sink>(
-        &mut self,
-        machine: &mut M,
-        disk: &mut D,
-        link: &mut K,
-    ) -> Outcome
-        requires running { M.running machine.old disk.old }
-        requires few { self.old.answered + as_one self.old.waits < 2 ^ 32 }
-        ensures history { M.history machine.new ≡ M.history machine.old }
-        ensures committed { IsCommitted D.images D.moment D.images_since disk.old disk.new result
-            (M.history machine.old) (M.kept machine.old) (M.kept machine.new) }
-        ensures left { IsLeft result (HasRisen (K.faults link.old) (K.faults link.new))
-            (K.held link.old) (K.held link.new) (text_if self.old.waits self.old.text.items) }
-        ensures count { result ≡ Outcome.NoMemory → self.new.answered ≡ self.old.answered + as_one self.old.waits }
-        ensures same { result ≢ Outcome.NoMemory → self.new.answered ≡ self.old.answered }
-        ensures ended { (s : List ℕ) → K.held link.old ≡ Some s → Notes (D.moment disk.new)
-            (length s + length (ending result (text_if self.old.waits self.old.text.items)))
-            (K.log link.old) (K.log link.new) }
-        ensures ready { result ≢ Outcome.Disk → M.ready machine.new disk.new }
-        ensures broken { result ≡ Outcome.Broken → HasRisen (K.faults link.old) (K.faults link.new) }
-        ensures failed { result ≡ Outcome.Disk → M.failed machine.new }
-        ensures cause { result ≡ Outcome.Disk → HasRisen (D.faults disk.old) (D.faults disk.new) }
-        ensures later { K.faults link.old ≤ K.faults link.new }
-        ensures faults { D.faults disk.old ≤ D.faults disk.new }
-        ensures beside { K.beside link.new ≡ K.beside link.old }
-    {
-        match self.settle(machine, disk, link) {
-            Ok(()) => {
-                write_no_memory(link, disk);
-                Outcome::NoMemory
-            }
-            Err(why) => why,
         }
     }
 

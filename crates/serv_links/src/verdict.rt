@@ -12,7 +12,6 @@ use serv_ascii::{reach_answer, reach_refusal};
 use serv_http::{Allow, respond};
 use serv_json::write_json;
 use serv_line::{refusal_code, write_full, write_refusal, write_reply};
-use serv_machine::Stage;
 use serv_report::write_answer;
 use std::alloc::Global;
 use svc_base::OutOfMemory;
@@ -32,15 +31,6 @@ pub(crate) enum Verdict {
     Answer(Answer),
     /// A fault of HTTP: its status, with the route's method where it is 405.
     Fault(u16, Option<Allow>),
-}
-
-/// What is decided about a request: its verdict, how far its command is, and whether the connection ends
-/// after the response.
-#[derive(Drop)]
-pub(crate) struct Decided {
-    pub(crate) verdict: Verdict,
-    pub(crate) stage: Stage,
-    pub(crate) ends: bool,
 }
 
 impl Verdict {

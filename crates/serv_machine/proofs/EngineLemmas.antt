@@ -1,5 +1,5 @@
 -- What an engine answers, as a machine's answer.
-use Rattle.std.proofs.Common.{◌≡◌, ◌⊎◌, ℕ, ◌+◌, ◌-◌, ◌<◌, ◌≤◌, List, [], ◌∷◌, ◌++◌, length, refl, sym, ap, subst, ◌∙◌, ⊎_elim, inl, arith, append-nil, append_assoc}
+use Rattle.std.proofs.Common.{◌≡◌, ◌⊎◌, ℕ, ◌+◌, ◌-◌, ◌<◌, ◌≤◌, List, [], ◌∷◌, ◌++◌, length, refl, sym, ap, subst, ◌∙◌, ⊎_elim, inl, inr, arith, append-nil, append_assoc}
 use Rattle.std.proofs.lemmas.Bool.Decides.{nat_tests}
 use Rattle.svc_types.specs.declared.requests.Command.{Command}
 use Rattle.svc_types.specs.declared.replies.Reply.{Reply}
@@ -10,10 +10,10 @@ use Rattle.svc_world.specs.Judging as judging
 use Rattle.svc_world.specs.Judging.{Judgement, judged, IsHistory}
 use Rattle.serv_engine.specs.declared.fault.EngineFault.{EngineFault}
 use Rattle.serv_engine.specs.declared.fault.EngineFault.TheVariants as engine
-use Rattle.serv_engine.specs.Engines.{EngineState, IsRunningIn, IsRunning, Replies, WasTaken, history_by, kept_of, begun_of}
+use Rattle.serv_engine.specs.Engines.{EngineState, IsRunningIn, IsRunning, WasTaken, kept_of, begun_of}
 use Rattle.serv_engine.specs.declared.taken.Taken.{Taken}
 use Rattle.serv_engine.specs.declared.taken.Taken.TheVariants as taken
-use Rattle.serv_machine.specs.Stages.{IfBegun, IsStagedBy}
+use Rattle.serv_machine.specs.Stages.{IsKeptBut}
 use Rattle.serv_engine.specs.Histories.{line_of_command, record_length, lengths_of, IsAroundFor}
 use Rattle.serv_engine.proofs.LengthLemmas.{size_of}
 use Rattle.serv_engine.proofs.RunningLemmas.{running_stands, kept_and_begun}
@@ -30,7 +30,7 @@ use Rattle.serv_journal.specs.Format.{Form, IsForm}
 use Rattle.serv_engine.specs.Histories.{IsGoodFor, IsGoodFound}
 use Rattle.serv_machine.specs.EngineLaws.{running_whole}
 use Rattle.serv_machine.specs.OnDisk.{HasHistory, IsAlong, IsTorn, OnDisk}
-use Rattle.serv_machine.proofs.OnDiskLemmas.{disk_same, disk_kept, disk_torn, good_for, history_before}
+use Rattle.serv_machine.proofs.OnDiskLemmas.{disk_same, disk_kept, disk_stopped, disk_torn, good_for, history_before}
 use Rattle.serv_machine.specs.Engines.{history_of, kept_history, fault_of}
 
 with_room : (base limit : ℕ) (h : List Accepted) (a : Accepted) → base + lengths_of h + record_length a ≤ limit → by_room (Journal base limit) h a ≡ Fresh
@@ -109,7 +109,7 @@ history_told old new a judging.Fresh base reply is size h limit size' room =
 pub long_enough : (e : EngineState) (base : ℕ) → e.journal.size ≡ base + lengths_of e.history → lengths_of e.history ≤ e.journal.size
 long_enough e base is = omega (arith, is)
 
-act_reply : (e : EngineState) (key : List ℕ) (c : Command) (reply : Reply) → lengths_of e.history ≤ e.journal.size → IsReplyTo e.history c (judged e.history key c) reply
+pub act_reply : (e : EngineState) (key : List ℕ) (c : Command) (reply : Reply) → lengths_of e.history ≤ e.journal.size → IsReplyTo e.history c (judged e.history key c) reply
     → (judged e.history key c ≡ judging.Fresh → HasRoom e.journal (accepted key c)) → IsReplyBy (history_of e) c (decided (history_of e) key c) reply
 unfolding decided
 act_reply e key c reply fits is room = reply_told e (accepted key c) fits (judged e.history key c) reply is room
@@ -119,7 +119,7 @@ pub act_fault_is : (e : EngineState) (key : List ℕ) (c : Command) (old new : �
 unfolding decided
 act_fault_is e key c old new f fits is = fault_told e (accepted key c) fits (judged e.history key c) old new f is
 
-act_after : (old new : EngineState) (key : List ℕ) (c : Command) (base : ℕ) (reply : Reply) → IsReplyTo old.history c (judged old.history key c) reply → old.journal.size ≡ base + lengths_of old.history
+pub act_after : (old new : EngineState) (key : List ℕ) (c : Command) (base : ℕ) (reply : Reply) → IsReplyTo old.history c (judged old.history key c) reply → old.journal.size ≡ base + lengths_of old.history
     → new.history ≡ judging.history_after old.history key c (judged old.history key c) → new.journal.limit ≡ old.journal.limit → new.journal.size ≡ base + lengths_of new.history
     → (judged old.history key c ≡ judging.Fresh → HasRoom old.journal (accepted key c)) → history_of new ≡ after_decision (history_of old) (accepted key c) (decided (history_of old) key c)
 unfolding decided
@@ -148,26 +148,6 @@ pub kept_behind : (old new : EngineState) (base : ℕ) → kept_of new ≡ old.h
     → kept_history new ≡ history_of old
 kept_behind old new base kept size size' limit =
     same_in _ _ new.journal.limit old.journal.limit (kept_of new) old.history (base_on old.journal.size (lengths_of old.history) new.journal.size (lengths_of new.history) base size size') limit kept
-
--- nothing is held but what was
-held_same : (old new : EngineState) (base : ℕ) → new.history ≡ old.history → old.journal.size ≡ base + lengths_of old.history → new.journal.size ≡ base + lengths_of new.history → new.journal.limit ≡ old.journal.limit
-    → history_of new ≡ history_of old
-held_same old new base same size size' limit =
-    same_in _ _ new.journal.limit old.journal.limit new.history old.history (base_on old.journal.size (lengths_of old.history) new.journal.size (lengths_of new.history) base size size') limit same
-
--- by what became of a command
-pub acts_reply : (e : EngineState) (key : List ℕ) (c : Command) (t : Taken) → lengths_of e.history ≤ e.journal.size → Replies t (IsReplyTo e.history c (judged e.history key c))
-    → (judged e.history key c ≡ judging.Fresh → HasRoom e.journal (accepted key c)) → Replies t (IsReplyBy (history_of e) c (decided (history_of e) key c))
-acts_reply e key c (taken.Settled reply) fits is room = act_reply e key c reply fits is room
-acts_reply e key c (taken.Begun reply) fits is room = act_reply e key c reply fits is room
-acts_reply e key c taken.Withdrawn fits is room = tt
-
-pub acts_after : (old new : EngineState) (key : List ℕ) (c : Command) (base : ℕ) (t : Taken) → Replies t (IsReplyTo old.history c (judged old.history key c)) → old.journal.size ≡ base + lengths_of old.history
-    → new.history ≡ history_by t old.history (judging.history_after old.history key c (judged old.history key c)) → new.journal.limit ≡ old.journal.limit → new.journal.size ≡ base + lengths_of new.history
-    → (judged old.history key c ≡ judging.Fresh → HasRoom old.journal (accepted key c)) → history_of new ≡ history_by t (history_of old) (after_decision (history_of old) (accepted key c) (decided (history_of old) key c))
-acts_after old new key c base (taken.Settled reply) is size h limit size' room = act_after old new key c base reply is size h limit size' room
-acts_after old new key c base (taken.Begun reply) is size h limit size' room = act_after old new key c base reply is size h limit size' room
-acts_after old new key c base taken.Withdrawn is size h limit size' room = held_same old new base h size size' limit
 
 next_history : (h : List Accepted) (a : Accepted) (behind all : List Accepted) → all ≡ h ++ a ∷ behind → IsHistory all → IsHistory (h ++ a ∷ [])
 next_history h a behind all is history = history_before (h ++ a ∷ []) behind (subst IsHistory (is ∙ sym (append_assoc h (a ∷ []) behind)) history)
@@ -201,31 +181,32 @@ module _ (e e' : EngineState) (key : List ℕ) (c : Command) (base : ℕ) (size 
   unfolding decided
   act_fresh fresh room = fresh_told e (accepted key c) (long_enough e base size) said fresh room
 
-  module _ (unchanged : Type 0) (same : unchanged → e' ≡ e) (is_begun : Type 0) (behind : is_begun → kept_of e' ≡ e.history) (is_alone : Type 0) (alone : is_alone → kept_of e' ≡ e.history) where
-    pub staged_by : (t : Taken) (after : List Accepted) → WasTaken said t unchanged is_begun is_alone → e'.history ≡ history_by t e.history after
-        → e'.journal.size ≡ base + lengths_of e'.history → e'.journal.limit ≡ e.journal.limit → IsStagedBy t (history_of e) (kept_history e) (history_of e') (kept_history e')
-    staged_by (taken.Settled reply) after was h size' limit = inl (ap history_of (same was.1), ap kept_history (same was.1))
-    staged_by (taken.Begun reply) after was h size' limit = kept_behind e e' base (behind was.1) size size' limit
-    staged_by taken.Withdrawn after was h size' limit = (held_same e e' base h size size' limit, kept_behind e e' base (alone was.1) size size' limit)
+  module _ (unchanged : Type 0) (same : unchanged → e' ≡ e) (is_begun : Type 0) (behind : is_begun → kept_of e' ≡ e.history) where
+    pub kept_but : (t : Taken) → WasTaken said t unchanged is_begun → kept_history e ≡ history_of e → e'.journal.size ≡ base + lengths_of e'.history → e'.journal.limit ≡ e.journal.limit
+        → (said ≡ judging.Fresh → HasRoom e.journal (accepted key c)) → IsKeptBut (decided (history_of e) key c ≡ Fresh) (history_of e) (history_of e') (kept_history e')
+    kept_but (taken.Settled reply) was all size' limit room = inl (ap kept_history (same was.1) ∙ (all ∙ sym (ap history_of (same was.1))))
+    kept_but (taken.Begun reply) was all size' limit room = inr (act_fresh was.0 (room was.0), kept_behind e e' base (behind was.1) size size' limit)
 
-    pub fresh_by : (t : Taken) → WasTaken said t unchanged is_begun is_alone → (said ≡ judging.Fresh → HasRoom e.journal (accepted key c)) → IfBegun t (decided (history_of e) key c ≡ Fresh)
-    fresh_by (taken.Settled reply) was room = tt
-    fresh_by (taken.Begun reply) was room = act_fresh was.0 (room was.0)
-    fresh_by taken.Withdrawn was room = act_fresh was.0 (room was.0)
+-- nothing is taken
+pub same_held : (e e' : EngineState) → e'.history ≡ e.history → e'.journal.size ≡ e.journal.size → e'.journal.limit ≡ e.journal.limit → kept_of e' ≡ kept_of e → kept_of e ≡ e.history
+    → (history_of e' ≡ history_of e) × (kept_history e' ≡ history_of e)
+same_held e e' history size limit kept all =
+    let place : e'.journal.size - lengths_of e'.history ≡ e.journal.size - lengths_of e.history = ap (λ n. n - lengths_of e'.history) size ∙ ap (λ h. e.journal.size - lengths_of h) history in
+    (same_in _ _ e'.journal.limit e.journal.limit e'.history e.history place limit history, same_in _ _ e'.journal.limit e.journal.limit (kept_of e') e.history place limit (kept ∙ all))
 
-memory : ◌≡◌ {A = Result Taken ActFault} (Err fault.OutOfMemory) (Err fault.DiskFault) → ⊥
+memory : ◌≡◌ {A = Result Reply ActFault} (Err fault.OutOfMemory) (Err fault.DiskFault) → ⊥
 memory is = cc
 
 -- a machine's fault of the disk is the engine's
-pub disk_fault_is : (f : EngineFault) → ◌≡◌ {A = Result Taken ActFault} (Err (fault_of f)) (Err fault.DiskFault) → f ≡ engine.DiskFault
+pub disk_fault_is : (f : EngineFault) → ◌≡◌ {A = Result Reply ActFault} (Err (fault_of f)) (Err fault.DiskFault) → f ≡ engine.DiskFault
 disk_fault_is engine.DiskFault is = refl
 disk_fault_is (engine.Refused why) is = absurd (no why is)
   where
-    no : (why : Refusal) → ◌≡◌ {A = Result Taken ActFault} (Err (fault.Refused why)) (Err fault.DiskFault) → ⊥
+    no : (why : Refusal) → ◌≡◌ {A = Result Reply ActFault} (Err (fault.Refused why)) (Err fault.DiskFault) → ⊥
     no why is = cc
 disk_fault_is (engine.JournalFull bytes) is = absurd (no bytes is)
   where
-    no : (bytes : ℕ) → ◌≡◌ {A = Result Taken ActFault} (Err (fault.Full bytes)) (Err fault.DiskFault) → ⊥
+    no : (bytes : ℕ) → ◌≡◌ {A = Result Reply ActFault} (Err (fault.Full bytes)) (Err fault.DiskFault) → ⊥
     no bytes is = cc
 disk_fault_is engine.OutOfMemory is = absurd (memory is)
 disk_fault_is engine.NotJournal is = absurd (memory is)
@@ -250,11 +231,20 @@ module _ {D : Type 0} (images : D → List ℕ → Type 0) (moment : D → ℕ) 
   behind_disk h is history each =
       disk_kept images moment images_since old new (kept_of e) h (begun_of e) (is ∙ sym (kept_and_begun e)) (subst IsHistory (sym is) history) each along
 
-  pub taken_disk : (Behind : Type 0) → (Behind → kept_of e' ≡ e.history) → (Alone : Type 0) → (Alone → kept_of e' ≡ e.history) → (t : Taken) (said : Judgement)
-      → WasTaken said t ((e' ≡ e) × (new ≡ old)) Behind Alone → IsHistory e.history → IsRunning (images new) e' → OnDisk images moment images_since old new (kept_of e) (kept_of e') []
-  taken_disk Behind behind Alone alone (taken.Settled reply) j was history runs' = kept_disk was.1
-  taken_disk Behind behind Alone alone (taken.Begun reply) j was history runs' = behind_disk (kept_of e') (behind was.1) history (running_whole (images new) e' runs')
-  taken_disk Behind behind Alone alone taken.Withdrawn j was history runs' = behind_disk (kept_of e') (alone was.1) history (running_whole (images new) e' runs')
+  pub taken_disk : (Behind : Type 0) → (Behind → kept_of e' ≡ e.history) → (t : Taken) (said : Judgement) → WasTaken said t ((e' ≡ e) × (new ≡ old)) Behind → IsHistory e.history → IsRunning (images new) e'
+      → OnDisk images moment images_since old new (kept_of e) (kept_of e') []
+  taken_disk Behind behind (taken.Settled reply) j was history runs' = kept_disk was.1
+  taken_disk Behind behind (taken.Begun reply) j was history runs' = behind_disk (kept_of e') (behind was.1) history (running_whole (images new) e' runs')
+
+  -- the disk failed as a command was begun: behind all that is kept it was perhaps being appended
+  pub stopped_disk : (a : Accepted) → kept_of e ≡ e.history → begun_of e ≡ [] → IsHistory (e.history ++ a ∷ [])
+      → ((form : Form) → IsRunningIn form (images old) e → Each (images new) (IsAroundFor form (kept_of e) (begun_of e))) → OnDisk images moment images_since old new e.history e.history (a ∷ [])
+  stopped_disk a all none history good =
+      let calm : (c : List ℕ) → IsAroundFor runs.form (kept_of e) (begun_of e) c → IsGoodFound e.history a c =
+      λ c around. good_for e.history a c
+      (subst (λ h. IsAlong h [] c) all (subst (λ l. IsAlong (kept_of e) l c) none (around_along runs.form (kept_of e) (begun_of e) c runs.kept.stands.is_form around))) in
+      disk_stopped images moment images_since old new e.history e.history a refl (λ _. history) (λ c image. calm c (good runs.form runs.kept c image))
+      (weaker moment images_since old new (IsAroundFor runs.form (kept_of e) (begun_of e)) (IsGoodFound e.history a) (moments runs.form runs.kept) calm)
 
   pub torn_disk : (behind all : List Accepted) → all ≡ e.history ++ behind → (begun_of e ++ behind ≡ [] → ⊥) → IsHistory all
       → ((form : Form) → IsRunningIn form (images old) e → Each (images new) (IsAroundFor form (kept_of e) (begun_of e))) → IsTorn images moment images_since old new (kept_of e) all

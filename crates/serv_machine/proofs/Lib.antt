@@ -1,5 +1,6 @@
 pub mod OnDiskLemmas
 pub mod NextLemmas
+pub mod NearLemmas
 pub mod MemoryLemmas
 pub mod EngineLemmas
 pub mod UpheldLemmas

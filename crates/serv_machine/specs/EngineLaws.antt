@@ -1,5 +1,5 @@
 -- What a durable engine leaves on the disk, and one that has begun a command.
-use Rattle.std.proofs.Common.{◌≡◌, ℕ, ◌-◌, List, ap}
+use Rattle.std.proofs.Common.{◌≡◌, ℕ, ◌-◌, ◌≤◌, List, ap, arith}
 use Rattle.serv_disk.specs.Disks.{Each}
 use Rattle.serv_engine.specs.Engines.{EngineState, IsDurable, IsRunning, kept_of, begun_of}
 use Rattle.serv_engine.proofs.RunningLemmas as running
@@ -24,3 +24,7 @@ durable_kept images e durable = ap (λ h. in_journal (e.journal.size - lengths_o
 
 pub durable_runs : (images : List ℕ → Type 0) (e : EngineState) → IsDurable images e → IsRunning images e
 durable_runs images e durable = running.durable_running images e durable
+
+-- what is so much is no more than that
+pub no_more : (n : ℕ) → n ≤ n
+no_more n = omega arith

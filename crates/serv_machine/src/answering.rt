@@ -1,18 +1,16 @@
 //! The reply to a request, as text.
 
-ghost use Rattle.std.specs.Prelude.{◌≡◌, ◌≢◌, ◌+◌, ◌≤◌, ◌++◌, [], Err, Ok, OnErr, OnOk, IfOk};
+ghost use Rattle.std.specs.Prelude.{◌≡◌, ◌≢◌, ◌+◌, ◌≤◌, ◌++◌, [], Err, OnErr, OnOk};
 ghost use Rattle.svc_types.specs.Requests.{IsCommand, IsQuery, IsRequest};
 ghost use Rattle.svc_types.specs.declared.requests.Request.TheVariants as request;
 ghost use Rattle.serv_disk.specs.Faults.{HasRisen};
 ghost use Rattle.serv_machine.specs.Replies.{bound_of_request, commands_in, history_after_request, reply_to_request, IsAppending};
-ghost use Rattle.serv_machine.specs.Stages.{IsNear, IsStaged};
-ghost use Rattle.serv_machine.specs.OnDisk.{IsTorn, OnDisk};
+ghost use Rattle.serv_machine.specs.Stages.{IsKeptBut, IsNear};
+ghost use Rattle.serv_machine.specs.OnDisk.{OnDisk};
 
 use crate::faults::{ActFault, Halt};
 use crate::machine::Machine;
-use crate::stage::Stage;
-use serv_disk::{CalmSink, Disk};
-use serv_engine::Taken;
+use serv_disk::Disk;
 use serv_line::{push_full, push_refusal, push_reply};
 use serv_report::push_answer;
 use std::sync::ledger::Ledger;
@@ -28,27 +26,27 @@ pub fn answer_request<D: Disk, M: Machine<D>, L: Ledger>(
     request: &Request,
     out: &mut Vec<u8>,
     steps: &mut Steps<L>,
-) -> Result<Stage, Halt>
+) -> Result<(), Halt>
     requires request { IsRequest request.now }
-    requires running { M.running machine.old disk.old }
+    requires ready { M.ready machine.old disk.old }
     ensures reply { OnOk result
         (out.new.items ≡ out.old.items ++ reply_to_request (M.history machine.old) request.now) }
     ensures kept { OnErr result (out.new.items ≡ out.old.items) }
-    ensures history { OnOk result
-        (M.history machine.new ≡ history_after_request (M.history machine.old) request.now) }
-    ensures stage { IfOk result (λ stage. IsStaged stage (M.history machine.old) (M.kept machine.old)
-        (M.history machine.new) (M.kept machine.new)) }
-    ensures begun { result ≡ Ok Stage.Begun → IsAppending (M.history machine.old) request.now }
-    ensures near { result ≡ Err Halt.OutOfMemory → IsNear (M.history machine.old) (M.kept machine.old)
+    ensures history { OnOk result (M.history machine.new
+        ≡ history_after_request (M.history machine.old) request.now) }
+    ensures held { OnOk result (IsKeptBut (IsAppending (M.history machine.old) request.now)
+        (M.history machine.old) (M.history machine.new) (M.kept machine.new)) }
+    ensures near { result ≡ Err Halt.OutOfMemory → IsNear (M.history machine.old)
         (history_after_request (M.history machine.old) request.now) (M.kept machine.new) }
-    ensures stopped { result ≡ Err Halt.DiskFault → (M.kept machine.new ≡ M.kept machine.old)
+    ensures stopped { result ≡ Err Halt.DiskFault → (M.kept machine.new ≡ M.history machine.old)
         × HasRisen (D.faults disk.old) (D.faults disk.new) }
     ensures appending { result ≡ Err Halt.DiskFault → IsAppending (M.history machine.old) request.now }
     ensures disk { result ≢ Err Halt.DiskFault → OnDisk D.images D.moment D.images_since disk.old disk.new
-        (M.kept machine.old).commands (M.kept machine.new).commands [] }
-    ensures torn { result ≡ Err Halt.DiskFault → IsTorn D.images D.moment D.images_since disk.old disk.new
-        (M.kept machine.old).commands ((M.history machine.old).commands ++ commands_in request.now) }
+        (M.history machine.old).commands (M.kept machine.new).commands [] }
+    ensures torn { result ≡ Err Halt.DiskFault → OnDisk D.images D.moment D.images_since disk.old disk.new
+        (M.history machine.old).commands (M.history machine.old).commands (commands_in request.now) }
     ensures running { result ≢ Err Halt.DiskFault → M.running machine.new disk.new }
+    ensures failed { result ≡ Err Halt.DiskFault → M.failed machine.new }
     ensures faults { D.faults disk.old ≤ D.faults disk.new }
     ensures steps { steps.new ≤ steps.old + bound_of_request (M.history machine.old) request.now }
 {
@@ -56,13 +54,13 @@ pub fn answer_request<D: Disk, M: Machine<D>, L: Ledger>(
         Request::Do(key, command) => answer_command(machine, disk, key, command, out, steps),
         Request::Ask(query) => {
             answer_query(machine, query, out, steps)?;
-            Ok(Stage::Settled)
+            Ok(())
         }
     }
 }
 
 /// Acts on a command, and appends its reply.
-#[tactic(auto, using(serv_engine::proofs::EnteringLemmas::no_part), unfolding(crate::specs::Replies::reply_to_request, crate::specs::Replies::history_after_request, crate::specs::Replies::bound_of_request))]
+#[tactic(auto, using(crate::proofs::NearLemmas::near_by), unfolding(crate::specs::Replies::reply_to_request, crate::specs::Replies::history_after_request, crate::specs::Replies::bound_of_request))]
 fn answer_command<D: Disk, M: Machine<D>, L: Ledger>(
     machine: &mut M,
     disk: &mut D,
@@ -70,52 +68,42 @@ fn answer_command<D: Disk, M: Machine<D>, L: Ledger>(
     command: &Command,
     out: &mut Vec<u8>,
     steps: &mut Steps<L>,
-) -> Result<Stage, Halt>
+) -> Result<(), Halt>
     requires command { IsCommand command.now }
-    requires running { M.running machine.old disk.old }
+    requires ready { M.ready machine.old disk.old }
     ensures reply { OnOk result (out.new.items
         ≡ out.old.items ++ reply_to_request (M.history machine.old) (request.Do key.now command.now)) }
     ensures kept { OnErr result (out.new.items ≡ out.old.items) }
     ensures history { OnOk result (M.history machine.new
         ≡ history_after_request (M.history machine.old) (request.Do key.now command.now)) }
-    ensures stage { IfOk result (λ stage. IsStaged stage (M.history machine.old) (M.kept machine.old)
-        (M.history machine.new) (M.kept machine.new)) }
-    ensures begun { result ≡ Ok Stage.Begun
-        → IsAppending (M.history machine.old) (request.Do key.now command.now) }
-    ensures near { result ≡ Err Halt.OutOfMemory → IsNear (M.history machine.old) (M.kept machine.old)
+    ensures held { OnOk result (IsKeptBut (IsAppending (M.history machine.old) (request.Do key.now command.now))
+        (M.history machine.old) (M.history machine.new) (M.kept machine.new)) }
+    ensures near { result ≡ Err Halt.OutOfMemory → IsNear (M.history machine.old)
         (history_after_request (M.history machine.old) (request.Do key.now command.now)) (M.kept machine.new) }
-    ensures stopped { result ≡ Err Halt.DiskFault → (M.kept machine.new ≡ M.kept machine.old)
+    ensures stopped { result ≡ Err Halt.DiskFault → (M.kept machine.new ≡ M.history machine.old)
         × HasRisen (D.faults disk.old) (D.faults disk.new) }
-    ensures appending { result ≡ Err Halt.DiskFault
-        → IsAppending (M.history machine.old) (request.Do key.now command.now) }
+    ensures appending { result ≡ Err Halt.DiskFault → IsAppending (M.history machine.old) (request.Do key.now command.now) }
     ensures disk { result ≢ Err Halt.DiskFault → OnDisk D.images D.moment D.images_since disk.old disk.new
-        (M.kept machine.old).commands (M.kept machine.new).commands [] }
-    ensures torn { result ≡ Err Halt.DiskFault → IsTorn D.images D.moment D.images_since disk.old disk.new
-        (M.kept machine.old).commands
-        ((M.history machine.old).commands ++ commands_in (request.Do key.now command.now)) }
+        (M.history machine.old).commands (M.kept machine.new).commands [] }
+    ensures torn { result ≡ Err Halt.DiskFault → OnDisk D.images D.moment D.images_since disk.old disk.new
+        (M.history machine.old).commands (M.history machine.old).commands (commands_in (request.Do key.now command.now)) }
     ensures running { result ≢ Err Halt.DiskFault → M.running machine.new disk.new }
+    ensures failed { result ≡ Err Halt.DiskFault → M.failed machine.new }
     ensures faults { D.faults disk.old ≤ D.faults disk.new }
-    ensures steps { steps.new ≤ steps.old
-        + bound_of_request (M.history machine.old) (request.Do key.now command.now) }
+    ensures steps { steps.new ≤ steps.old + bound_of_request (M.history machine.old) (request.Do key.now command.now) }
 {
-    let mut sink = CalmSink::new();
-    match machine.begin(disk, key, command, &mut sink, &[], steps) {
-        Ok(Taken::Settled(reply)) => {
+    match machine.begin(disk, key, command, steps) {
+        Ok(reply) => {
             push_reply(out, &reply)?;
-            Ok(Stage::Settled)
+            Ok(())
         }
-        Ok(Taken::Begun(reply)) => {
-            push_reply(out, &reply)?;
-            Ok(Stage::Begun)
-        }
-        Ok(Taken::Withdrawn) => unreachable!(),
         Err(ActFault::Refused(why)) => {
             push_refusal(out, &why)?;
-            Ok(Stage::Settled)
+            Ok(())
         }
         Err(ActFault::Full(bytes)) => {
             push_full(out, bytes)?;
-            Ok(Stage::Settled)
+            Ok(())
         }
         Err(ActFault::DiskFault) => Err(Halt::DiskFault),
         Err(ActFault::OutOfMemory) => Err(Halt::OutOfMemory),

@@ -3,13 +3,12 @@
 use crate::faults::ActFault;
 use crate::machine::Machine;
 use crate::nowhere::Nowhere;
-use serv_disk::{Failed, Sink};
-use serv_engine::Taken;
+use serv_disk::Failed;
 use std::sync::ledger::Ledger;
 use svc_base::Steps;
 use svc_checkpoint::Checked;
 use svc_core::{Core, CoreFault};
-use svc_types::{Command, Key, Query};
+use svc_types::{Command, Key, Query, Reply};
 use svc_world::Answer;
 
 impl Machine<Nowhere> for Core<Checked> {
@@ -26,24 +25,22 @@ impl Machine<Nowhere> for Core<Checked> {
 
     ghost failed = { λ _. ⊥ };
 
-    fn begin<K: Sink, L: Ledger>(
+    fn begin<L: Ledger>(
         &mut self,
         _: &mut Nowhere,
         key: &Key,
         command: &Command,
-        _: &mut K,
-        _: &[u8],
         steps: &mut Steps<L>,
-    ) -> Result<Taken, ActFault> {
+    ) -> Result<Reply, ActFault> {
         let _ = key.bytes();
         match self.submit(key, command, steps) {
-            Ok(reply) => Ok(Taken::Settled(reply)),
+            Ok(reply) => Ok(reply),
             Err(CoreFault::Refused(why)) => Err(ActFault::Refused(why)),
             Err(CoreFault::OutOfMemory) => Err(ActFault::OutOfMemory),
         }
     }
 
-    fn commit(&mut self, _: &mut Nowhere) -> Result<(), Failed> {
+    fn commit(&mut self, _: &mut Nowhere, _: Option<(&Key, &Command)>) -> Result<(), Failed> {
         Ok(())
     }
 

@@ -3,14 +3,14 @@
 
 mod answering;
 mod faults;
+mod frugal;
 mod in_memory;
 mod machine;
 mod nowhere;
 mod over_journal;
-mod stage;
 
 pub use answering::answer_request;
 pub use faults::{ActFault, Halt};
+pub use frugal::Frugal;
 pub use machine::Machine;
 pub use nowhere::Nowhere;
-pub use stage::Stage;

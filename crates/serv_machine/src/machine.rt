@@ -1,6 +1,6 @@
 //! The books of a servicer, wherever they are kept.
 
-ghost use Rattle.std.specs.Prelude.{◌≡◌, ◌≢◌, ◌+◌, ◌≤◌, ◌++◌, ◌∷◌, [], None, Some, Err, length, IfErr, IfOk, OnErr, OnOk, ℕ, List};
+ghost use Rattle.std.specs.Prelude.{◌≡◌, ◌≢◌, ◌+◌, ◌≤◌, ◌++◌, ◌∷◌, [], None, Some, Err, IfErr, IfOk, IfSome, OnErr, OnOk};
 ghost use Rattle.svc_types.specs.Requests.{IsCommand, IsQuery};
 ghost use Rattle.svc_world.specs.World.{accepted, world};
 ghost use Rattle.svc_world.specs.Answers.{answer_to, query_refusal};
@@ -9,23 +9,19 @@ ghost use Rattle.svc_core.specs.Asking.{WantsMemory};
 ghost use Rattle.svc_core.specs.Bound.{query_bound, step_bound};
 ghost use Rattle.svc_core.specs.Core.{IsQueryFault};
 ghost use Rattle.serv_disk.specs.Disks.{Each};
-ghost use Rattle.std.specs.Io.KnownBytes.{Appends};
-ghost use Rattle.serv_disk.specs.Faults.{AppendsPart, HasCause, HasRisen};
-ghost use Rattle.serv_disk.specs.Stamps.{Notes};
-ghost use Rattle.serv_engine.specs.Engines.{LetsOut, Replies, history_by};
+ghost use Rattle.serv_disk.specs.Faults.{HasCause};
 ghost use Rattle.serv_report.specs.AnswerTexts.{IsSpellable};
 ghost use Rattle.serv_machine.specs.History.{History, Fresh, decided, after_decision};
 ghost use Rattle.serv_machine.specs.Replies.{IsReplyBy, IsFaultBy};
-ghost use Rattle.serv_machine.specs.Stages.{IfBegun, IsStagedBy};
+ghost use Rattle.serv_machine.specs.Stages.{IsKeptBut};
 ghost use Rattle.serv_machine.specs.OnDisk.{HasHistory, IsTorn, OnDisk};
 
 use crate::faults::ActFault;
-use serv_disk::{Disk, Failed, Sink};
-use serv_engine::Taken;
+use serv_disk::{Disk, Failed};
 use std::sync::ledger::Ledger;
 use svc_base::Steps;
 use svc_core::CoreFault;
-use svc_types::{Command, Key, Query};
+use svc_types::{Command, Key, Query, Reply};
 use svc_world::Answer;
 
 /// The books of a servicer: they act on commands, once for each key, and answer queries. The disk that they
@@ -47,57 +43,40 @@ pub trait Machine<D: Disk> {
     ghost failed: { Self → Type 0 };
 
     /// Acts on a command, and replies to it: with the reply that was kept for its key, or, where it is fresh and there is
-    /// room for it, as the next command of the history. Then it is begun: the disk has it after the next call of `begin`
-    /// that begins another, or of `commit`. After `Begun` it has all commands before it; what waits for them is written to the
-    /// sink before the command is accepted, and where that fails, it is withdrawn.
-    fn begin<K: Sink, L: Ledger>(
+    /// room for it, as the next command of the history. Then it is begun: the disk has it after the next call of `commit`.
+    fn begin<L: Ledger>(
         &mut self,
         disk: &mut D,
         key: &Key,
         command: &Command,
-        sink: &mut K,
-        waiting: &[u8],
         steps: &mut Steps<L>,
-    ) -> Result<Taken, ActFault>
+    ) -> Result<Reply, ActFault>
         requires command { IsCommand command.now }
-        requires running { running self.old disk.old }
-        ensures reply { IfOk result (λ taken. Replies taken (IsReplyBy (history self.old) command.now
-            (decided (history self.old) key.now command.now))) }
+        requires ready { ready self.old disk.old }
+        ensures reply { IfOk result (IsReplyBy (history self.old) command.now
+            (decided (history self.old) key.now command.now)) }
         ensures fault { IfErr result (IsFaultBy (decided (history self.old) key.now command.now)
             (D.faults disk.old) (D.faults disk.new)) }
-        ensures after { IfOk result (λ taken. history self.new ≡ history_by taken (history self.old)
-            (after_decision (history self.old) (accepted key.now command.now)
-            (decided (history self.old) key.now command.now))) }
-        ensures stage { IfOk result (λ taken. IsStagedBy taken
-            (history self.old) (kept self.old) (history self.new) (kept self.new)) }
-        ensures fresh { IfOk result (λ taken. IfBegun taken
-            (decided (history self.old) key.now command.now ≡ Fresh)) }
-        ensures same { OnErr result ((history self.new ≡ history self.old) × (kept self.new ≡ kept self.old)) }
-        // What a crash leaves, now and at each moment: the kept commands; after a fault of the disk perhaps the next one too.
+        ensures after { OnOk result (history self.new ≡ after_decision (history self.old)
+            (accepted key.now command.now) (decided (history self.old) key.now command.now)) }
+        ensures kept { OnOk result (IsKeptBut (decided (history self.old) key.now command.now ≡ Fresh)
+            (history self.old) (history self.new) (kept self.new)) }
+        ensures same { OnErr result ((history self.new ≡ history self.old) × (kept self.new ≡ history self.old)) }
+        // What a crash leaves, now and at each moment: the kept commands; after a fault of the disk perhaps this one too.
         ensures disk { result ≢ Err ActFault.DiskFault → OnDisk D.images D.moment D.images_since disk.old disk.new
-            (kept self.old).commands (kept self.new).commands [] }
-        ensures torn { result ≡ Err ActFault.DiskFault → IsTorn D.images D.moment D.images_since disk.old disk.new
-            (kept self.old).commands ((history self.old).commands ++ accepted key.now command.now ∷ []) }
+            (history self.old).commands (kept self.new).commands [] }
+        ensures torn { result ≡ Err ActFault.DiskFault → OnDisk D.images D.moment D.images_since disk.old disk.new
+            (history self.old).commands (history self.old).commands (accepted key.now command.now ∷ []) }
         ensures running { result ≢ Err ActFault.DiskFault → running self.new disk.new }
-        ensures withdrawn { IfOk result (λ taken. taken ≡ Taken.Withdrawn → ready self.new disk.new) }
         ensures failed { result ≡ Err ActFault.DiskFault → failed self.new }
         ensures faults { D.faults disk.old ≤ D.faults disk.new }
-        // What waits is written where the command is fresh, and counts from then on.
-        ensures let_out { IfOk result (λ taken. LetsOut taken (sink.new ≡ sink.old)
-            (Appends (K.held sink.old) (K.held sink.new) waiting.now)
-            (AppendsPart (K.held sink.old) (K.held sink.new) waiting.now)) }
-        ensures silent { OnErr result (sink.new ≡ sink.old) }
-        ensures noted { (s : List ℕ) → K.held sink.old ≡ Some s → Notes (D.moment disk.new)
-            (length s + length waiting.now) (K.log sink.old) (K.log sink.new) }
-        ensures cut { IfOk result (λ taken. taken ≡ Taken.Withdrawn
-            → HasRisen (K.faults sink.old) (K.faults sink.new)) }
-        ensures later { K.faults sink.old ≤ K.faults sink.new }
-        ensures beside { K.beside sink.new ≡ K.beside sink.old }
         ensures steps { steps.new ≤ steps.old
             + step_bound (history self.old).commands key.now command.now };
 
-    /// Leaves no command begun: the disk has all of them then.
-    fn commit(&mut self, disk: &mut D) -> Result<(), Failed>
+    /// Leaves no command begun: the disk has all of them then. The command that comes next may be given: what `begin` would
+    /// write of it may then go to the disk with the same call, so that it needs none of its own.
+    fn commit(&mut self, disk: &mut D, next: Option<(&Key, &Command)>) -> Result<(), Failed>
+        requires next { IfSome next (λ c. IsCommand c.1.now) }
         requires running { running self.old disk.old }
         ensures history { history self.new ≡ history self.old }
         ensures same { OnErr result (kept self.new ≡ kept self.old) }

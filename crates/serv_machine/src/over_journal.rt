@@ -4,14 +4,14 @@ ghost use Rattle.std.specs.Prelude.{◌≡◌};
 ghost use Rattle.serv_machine.specs.Engines.{fault_of};
 
 use crate::faults::ActFault;
+use crate::frugal::Frugal;
 use crate::machine::Machine;
-use serv_disk::{Disk, Failed, Sink};
-use serv_engine::{Engine, EngineFault, Taken};
+use serv_disk::{Disk, Failed};
+use serv_engine::{Engine, EngineFault};
 use std::sync::ledger::Ledger;
 use svc_base::Steps;
-use svc_checkpoint::Checked;
 use svc_core::CoreFault;
-use svc_types::{Command, Key, Query};
+use svc_types::{Command, Key, Query, Reply};
 use svc_world::Answer;
 
 /// Why an engine does not accept a command. It is open, so its journal is one and is not damaged.
@@ -28,7 +28,7 @@ fn act_fault(fault: EngineFault) -> ActFault
     }
 }
 
-impl<D: Disk> Machine<D> for Engine<Checked> {
+impl<D: Disk, B: Frugal> Machine<D> for Engine<B> {
     ghost use Rattle.std.specs.Prelude.{◌≡◌, false, true};
     ghost use Rattle.serv_journal.specs.declared.format.Version.TheVariants.{Two};
     ghost use Rattle.serv_engine.specs.Engines.{IsDurable, IsRunning};
@@ -45,26 +45,24 @@ impl<D: Disk> Machine<D> for Engine<Checked> {
 
     ghost failed = { λ e. e.journal.spent ≡ true };
 
-    fn begin<K: Sink, L: Ledger>(
+    fn begin<L: Ledger>(
         &mut self,
         disk: &mut D,
         key: &Key,
         command: &Command,
-        sink: &mut K,
-        waiting: &[u8],
         steps: &mut Steps<L>,
-    ) -> Result<Taken, ActFault> {
+    ) -> Result<Reply, ActFault> {
         let _ = key.bytes();
         self.core().history_holds();
-        match Engine::<Checked>::begin(self, disk, key, command, sink, waiting, steps) {
-            Ok(taken) => Ok(taken),
+        match Engine::<B>::begin(self, disk, key, command, steps) {
+            Ok(taken) => Ok(taken.reply()),
             Err(fault) => Err(act_fault(fault)),
         }
     }
 
-    fn commit(&mut self, disk: &mut D) -> Result<(), Failed> {
+    fn commit(&mut self, disk: &mut D, next: Option<(&Key, &Command)>) -> Result<(), Failed> {
         self.core().history_holds();
-        match Engine::<Checked>::commit(self, disk) {
+        match Engine::<B>::commit(self, disk, next) {
             Ok(()) => Ok(()),
             Err(fault) => Err(fault),
         }

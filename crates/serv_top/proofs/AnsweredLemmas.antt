@@ -1,5 +1,5 @@
 -- The replies to lines and rows that are written, and the commands that these bring.
-use Rattle.std.proofs.Common.{◌≡◌, ℕ, ◌+◌, Bool, true, false, List, [], ◌∷◌, ◌++◌, length, refl, sym, ap, subst, ◌∙◌, arith, append-nil, append_assoc, length-append}
+use Rattle.std.proofs.Common.{◌≡◌, ℕ, ◌+◌, List, [], ◌∷◌, ◌++◌, length, refl, sym, ap, subst, ◌∙◌, arith, append-nil, append_assoc, length-append}
 use Rattle.std.specs.Prelude.{Option, Some, Result, Ok, Err, OnOk, IfErr}
 use Rattle.std.specs.Io.KnownBytes.{Appends}
 use Rattle.std.proofs.KnownBytes.{Appends-nil}
@@ -8,7 +8,6 @@ use Rattle.serv_disk.specs.Disks.{Each}
 use Rattle.serv_disk.specs.Stamps.{Stamp, Notes}
 use Rattle.serv_machine.specs.declared.faults.Halt.{Halt}
 use Rattle.serv_machine.specs.declared.faults.Halt.TheVariants as halt
-use Rattle.serv_machine.specs.declared.stage.Stage.TheVariants.{Settled, Begun}
 use Rattle.serv_machine.specs.History.{History}
 use Rattle.serv_machine.specs.OnDisk.{HasHistory, OnDisk}
 use Rattle.serv_machine.specs.Upheld.{HasCommands, Upholds}
@@ -16,13 +15,13 @@ use Rattle.serv_machine.proofs.UpheldLemmas.{commands_kept, commands_left, uphel
 use Rattle.serv_top.specs.declared.serving.Stop.{Stop}
 use Rattle.serv_top.specs.Lines.{ended_lines, open_line}
 use Rattle.serv_machine.specs.Stands.{Stand, stand, Running}
-use Rattle.serv_top.specs.Machine.{Said}
+use Rattle.serv_top.specs.declared.said.Said.{Said}
+use Rattle.serv_top.specs.Machine.{commands_of}
 use Rattle.serv_top.specs.Replies.{replies_to, history_after_all}
-use Rattle.serv_top.specs.Serving.{Gathered, IsHalted, IsReplied, IsWaiting, Stops}
+use Rattle.serv_top.specs.Serving.{Gathered, IsHalted, Stops}
 use Rattle.serv_top.specs.Imported.{AreFirstIn, FileSays}
 use Rattle.serv_top.specs.Upheld.{Say, AreFirst, AreSaidFirst, AreReplies}
 use Rattle.serv_top.proofs.Cutting.{ended_from, ended_lines-append}
-use Rattle.serv_top.proofs.GatheredLemmas.{after_with, text_with}
 
 -- of more requests these are the first too
 pub replies_wider : (First Wider : List Said → Type 0) (moment : ℕ) (since : ℕ → List ℕ → Type 0) (now : List Accepted) (h : History) (held : Option (List ℕ)) (log log' : Option (List Stamp))
@@ -33,6 +32,10 @@ replies_wider First Wider moment since now h held log log' then up =
 
 pub all_first : (saids : List Said) → AreFirst saids saids
 all_first saids = record { others = []; saids_are = sym (append-nil saids) }
+
+-- the first of these are the first of these and one more
+pub first_push : (said : List Said) (last : Said) (first : List Said) → AreFirst said first → AreFirst (said ++ last ∷ []) first
+first_push said last first is = record { others = is.others ++ last ∷ []; saids_are = ap (λ l. l ++ last ∷ []) is.saids_are ∙ append_assoc first is.others (last ∷ []) }
 
 -- ---- the writes of a call
 
@@ -57,44 +60,21 @@ module _ {D : Type 0} (images : D → List ℕ → Type 0) (moment : D → ℕ) 
   kept_written d only First h kept said held held' written text log log' first stands has wrote gathered notes =
       replies_written d only First h kept said kept.commands [] held held' written text log log' first stands (sym (append-nil kept.commands)) (commands_kept (images d) kept.commands has) wrote gathered notes
 
-  module _ {waiting : ℕ} {said : List Said} {s : Stand} {t : Running} {held held' : Option (List ℕ)} {begun : Bool} {front : List ℕ} (g : Gathered waiting said s t held held' begun front)
-      {log log' : Option (List Stamp)} where
-    -- those of what stands before the reply to a command that is begun
-    pub writes_back : (d : D) (only : (c : List ℕ) → images_since d (moment d) c → images d c) (last : Said) (t' : Running) (text : List ℕ) → IsReplied last Begun t t' front text → Each (images d) (HasHistory t'.kept.commands)
-        → ((x : List ℕ) → held' ≡ Some x → Notes (moment d) (length x + length front) log log')
-        → Upholds (AreReplies (AreFirst (said ++ last ∷ [])) s.history) (moment d) (images_since d) t'.kept.commands held log log'
-    writes_back d only last t' text replied has notes =
-        kept_written d only (AreFirst (said ++ last ∷ [])) s.history t'.kept said held held' g.written front log log' (record { others = last ∷ []; saids_are = refl }) (replied.staged ∙ g.after) has g.wrote g.gathered notes
-
-    -- those of all, after the reply to another request
-    pub writes_on : (d : D) (only : (c : List ℕ) → images_since d (moment d) c → images d c) (last : Said) (t' : Running) (kept : History) (text : List ℕ) → IsReplied last Settled t t' front text → kept ≡ t'.held
-        → Each (images d) (HasHistory kept.commands) → ((x : List ℕ) → held' ≡ Some x → Notes (moment d) (length x + length text) log log')
-        → Upholds (AreReplies (AreFirst (said ++ last ∷ [])) s.history) (moment d) (images_since d) kept.commands held log log'
-    writes_on d only last t' kept text replied same has notes =
-        kept_written d only (AreFirst (said ++ last ∷ [])) s.history kept (said ++ last ∷ []) held held' g.written text log log' (all_first (said ++ last ∷ [])) (same ∙ after_with waiting said s g last t'.held replied.after) has
-        g.wrote (text_with waiting said s g last text replied.added) notes
-
-    -- those of all, after no request more
+  module _ {waiting : ℕ} {said : List Said} {s : Stand} {t : Running} {held held' : Option (List ℕ)} {text : List ℕ} (g : Gathered waiting said s t held held' text) {log log' : Option (List Stamp)} where
+    -- those of all, once all is kept
     pub writes_all : (d : D) (only : (c : List ℕ) → images_since d (moment d) c → images d c) (kept : History) → kept ≡ t.held → Each (images d) (HasHistory kept.commands)
-        → ((x : List ℕ) → held' ≡ Some x → Notes (moment d) (length x + length front) log log')
+        → ((x : List ℕ) → held' ≡ Some x → Notes (moment d) (length x + length text) log log')
         → Upholds (AreReplies (AreFirst said) s.history) (moment d) (images_since d) kept.commands held log log'
     writes_all d only kept same has notes =
-        kept_written d only (AreFirst said) s.history kept said held held' g.written front log log' (all_first said) (same ∙ g.after) has g.wrote g.gathered notes
+        kept_written d only (AreFirst said) s.history kept said held held' g.written text log log' (all_first said) (same ∙ g.after) has g.wrote g.gathered notes
 
-    -- those of all that are written where a request has no reply
-    pub writes_given_up : (old new : D) (only : (c : List ℕ) → images_since new (moment new) c → images new c) (now pending : List Accepted) → OnDisk images moment images_since old new t.kept.commands now pending
-        → (begun ≡ true → log' ≡ log) → ((x : List ℕ) → held' ≡ Some x → Notes (moment new) (length x + length front) log log')
+    -- those of all, after a request that has no reply
+    pub writes_given_up : (old new : D) (only : (c : List ℕ) → images_since new (moment new) c → images new c) (now pending : List Accepted) → OnDisk images moment images_since old new t.held.commands now pending
+        → ((x : List ℕ) → held' ≡ Some x → Notes (moment new) (length x + length text) log log')
         → Upholds (AreReplies (AreFirst said) s.history) (moment new) (images_since new) now held log log'
-    writes_given_up old new only now pending disk quiet notes = by_case begun refl g.waits
-      where
-        by_case : (b : Bool) → begun ≡ b → IsWaiting b waiting said s.history t g.written front → Upholds (AreReplies (AreFirst said) s.history) (moment new) (images_since new) now held log log'
-        by_case false e waits =
-            replies_written new only (AreFirst said) s.history t.held said now disk.list held held' g.written front log log' (all_first said) g.after
-            (disk.accepted ∙ ap (λ (h : History). h.commands ++ disk.list) waits.0)
-            (subst (λ (h : History). Each (images new) (HasCommands h.commands)) waits.0 (commands_left (images new) t.kept.commands now disk.list pending disk.accepted disk.left)) g.wrote g.gathered notes
-        by_case true e back =
-            subst (λ x. Upholds (AreReplies (AreFirst said) s.history) (moment new) (images_since new) now held log x) (sym (quiet e))
-            (upheld_none (AreReplies (AreFirst said) s.history) (moment new) (images_since new) now held log)
+    writes_given_up old new only now pending disk notes =
+        replies_written new only (AreFirst said) s.history t.held said now disk.list held held' g.written text log log' (all_first said) g.after disk.accepted
+        (commands_left (images new) t.held.commands now disk.list pending disk.accepted disk.left) g.wrote g.gathered notes
 
   -- what was upheld before a call, and the writes of the call
   pub upheld_call : (old new : D) (now now' pending : List Accepted) → OnDisk images moment images_since old new now now' pending → (First Wider : List Said → Type 0) (h : History) (held : Option (List ℕ))
@@ -117,21 +97,28 @@ module _ {D : Type 0} (images : D → List ℕ → Type 0) (moment : D → ℕ) 
       upheld_call old new kept.commands kept'.commands stops.pending stops.disk First Wider s.history held log log' log'' then up writes
 
   -- where a request has no reply
-  pub upheld_halted : {waiting : ℕ} {said : List Said} {s : Stand} {t : Running} {held held' : Option (List ℕ)} {begun : Bool} {front : List ℕ} (g : Gathered waiting said s t held held' begun front) {log' log'' : Option (List Stamp)}
-      (old new : D) (only : (c : List ℕ) → images_since new (moment new) c → images new c) (last : Said) (t' : Running) (Wider : List Said → Type 0) → ((first : List Said) → AreFirst said first → Wider first) → (begun ≡ true → log'' ≡ log')
-      → ((x : List ℕ) → held' ≡ Some x → Notes (moment new) (length x + length front) log' log'') → (log : Option (List Stamp)) → Upholds (AreReplies Wider s.history) (moment old) (images_since old) t.kept.commands held log log'
-      → (why : Halt) → IsHalted images moment images_since old new why last t t' → Upholds (AreReplies Wider s.history) (moment new) (images_since new) t'.kept.commands held log log''
-  upheld_halted {waiting} {said} {s} {t} {held} {held'} {begun} {front} g {log'} {log''} old new only last t' Wider then quiet notes log up why is = by_halt why is
+  pub upheld_halted : {waiting : ℕ} {said : List Said} {s : Stand} {t : Running} {held held' : Option (List ℕ)} {text : List ℕ} (g : Gathered waiting said s t held held' text) {log' log'' : Option (List Stamp)}
+      (old new : D) (only : (c : List ℕ) → images_since new (moment new) c → images new c) (last : Said) (t' : Running)
+      → ((x : List ℕ) → held' ≡ Some x → Notes (moment new) (length x + length text) log' log'') → (log : Option (List Stamp)) → Upholds (AreReplies (AreFirst said) s.history) (moment old) (images_since old) t.held.commands held log log'
+      → (why : Halt) → IsHalted images moment images_since old new why last t t' → Upholds (AreReplies (AreFirst (said ++ last ∷ [])) s.history) (moment new) (images_since new) t'.kept.commands held log log''
+  upheld_halted {waiting} {said} {s} {t} {held} {held'} {text} g {log'} {log''} old new only last t' notes log up why is = by_halt why is
     where
-      by_run : (pending : List Accepted) → OnDisk images moment images_since old new t.kept.commands t'.kept.commands pending → Upholds (AreReplies Wider s.history) (moment new) (images_since new) t'.kept.commands held log log''
+      by_run : (pending : List Accepted) → OnDisk images moment images_since old new t.held.commands t'.kept.commands pending → Upholds (AreReplies (AreFirst (said ++ last ∷ [])) s.history) (moment new) (images_since new) t'.kept.commands held log log''
       by_run pending disk =
-          upheld_call old new t.kept.commands t'.kept.commands pending disk (AreFirst said) Wider s.history held log log' log'' then up
-          (writes_given_up g old new only t'.kept.commands pending disk quiet notes)
+          replies_wider (AreFirst said) (AreFirst (said ++ last ∷ [])) (moment new) (images_since new) t'.kept.commands s.history held log log'' (first_push said last)
+          (upheld_call old new t.held.commands t'.kept.commands pending disk (AreFirst said) (AreFirst said) s.history held log log' log'' (λ said first. first) up
+          (writes_given_up g old new only t'.kept.commands pending disk notes))
 
-      by_halt : (why : Halt) → IsHalted images moment images_since old new why last t t' → Upholds (AreReplies Wider s.history) (moment new) (images_since new) t'.kept.commands held log log''
+      by_halt : (why : Halt) → IsHalted images moment images_since old new why last t t' → Upholds (AreReplies (AreFirst (said ++ last ∷ [])) s.history) (moment new) (images_since new) t'.kept.commands held log log''
       by_halt halt.OutOfMemory is = by_run [] is.disk
-      by_halt halt.DiskFault is =
-          by_run (is.torn.next ∷ []) (subst (λ (h : History). OnDisk images moment images_since old new t.kept.commands h.commands (is.torn.next ∷ [])) (sym is.same) is.torn.disk)
+      by_halt halt.DiskFault is = by_run (commands_of last) is.disk
+
+  -- after a request more
+  pub upheld_more : (old new : D) (now now' : List Accepted) → OnDisk images moment images_since old new now now' [] → (said : List Said) (last : Said) (h : History) (held : Option (List ℕ)) (log log' : Option (List Stamp))
+      → Upholds (AreReplies (AreFirst said) h) (moment old) (images_since old) now held log log' → Upholds (AreReplies (AreFirst (said ++ last ∷ [])) h) (moment new) (images_since new) now' held log log'
+  upheld_more old new now now' disk said last h held log log' up =
+      replies_wider (AreFirst said) (AreFirst (said ++ last ∷ [])) (moment new) (images_since new) now' h held log log' (first_push said last)
+      (upheld_later images moment images_since old new now now' [] disk (AreReplies (AreFirst said) h) held log log' up)
 
 -- ---- lines
 

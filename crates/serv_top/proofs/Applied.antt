@@ -26,7 +26,9 @@ use Rattle.serv_machine.proofs.EngineLemmas.{long_enough}
 use Rattle.serv_top.specs.declared.status.Status.{Status}
 use Rattle.serv_top.specs.declared.status.Status.TheVariants as status
 use Rattle.serv_machine.specs.Stands.{Stand, stand}
-use Rattle.serv_top.specs.Machine.{Said, Asks, Faulty, Unfit, history_after}
+use Rattle.serv_top.specs.declared.said.Said.{Said}
+use Rattle.serv_top.specs.declared.said.Said.TheVariants.{Asks, Faulty, Unfit}
+use Rattle.serv_top.specs.Machine.{history_after}
 use Rattle.serv_top.specs.Replies.{IsBegun, IsCutIn, IsHeldUp, IsMaybeNext, MovesAll, history_after_all}
 use Rattle.serv_top.specs.Outcome.{Ended, Ends, IsOutput, input_limit}
 use Rattle.serv_top.specs.Stop.{status_of_fault}

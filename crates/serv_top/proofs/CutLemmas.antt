@@ -5,7 +5,8 @@ use Rattle.std.proofs.lemmas.List.{length-drop, take_at, drop_at, take-append-le
 use Rattle.serv_disk.specs.Faults.{IsProperPrefix}
 use Rattle.serv_machine.specs.History.{History}
 use Rattle.serv_machine.specs.Stands.{Stand}
-use Rattle.serv_top.specs.Machine.{Said, reply_to, history_after}
+use Rattle.serv_top.specs.declared.said.Said.{Said}
+use Rattle.serv_top.specs.Machine.{reply_to, history_after}
 use Rattle.serv_top.specs.Replies.{history_after_all, replies_to, IsCutIn, IsCutAt}
 use Rattle.serv_top.specs.Upheld.{AreSaidFirst}
 use Rattle.serv_top.proofs.AnsweredLemmas.{first_lines}
@@ -75,12 +76,11 @@ pub cut_in_one : (waiting : ℕ) (lines : List (List ℕ)) (s s' : Stand) (writt
 cut_in_one waiting lines s s' written cut =
     let at = ends_in cut.done s.history written cut.cut.rest cut.cut.some cut.cut.joined in
     let front : List Said = at.said ++ at.last ∷ [] in
-    let all : cut.done ++ cut.ahead ≡ front ++ (at.others ++ cut.ahead) =
-    ap (λ ss. ss ++ cut.ahead) (at.saids_are ∙ sym (append_assoc at.said (at.last ∷ []) at.others)) ∙ append_assoc front at.others cut.ahead in
     record {
       said = at.said;
       last = at.last;
-      first = first_lines lines cut.first.acted cut.first.others (cut.done ++ cut.ahead) cut.first.lines_are cut.first.say front (record { others = at.others ++ cut.ahead; saids_are = all });
+      first = first_lines lines cut.first.acted cut.first.others cut.done cut.first.lines_are cut.first.say front
+          (record { others = at.others; saids_are = at.saids_are ∙ sym (append_assoc at.said (at.last ∷ []) at.others) });
       part = at.part;
       text = at.text;
       partial = at.partial;

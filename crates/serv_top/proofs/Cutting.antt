@@ -3,7 +3,8 @@ use Rattle.std.proofs.Common.{◌≡◌, ℕ, ◌+◌, arith, List, [], ◌∷�
 use Rattle.std.specs.Prelude.{◌==◌, if◌then◌else◌, true, false}
 use Rattle.serv_top.specs.Lines.{onto_first, onto_ended, lines_of, ended_lines, open_from, open_line}
 use Rattle.serv_machine.specs.History.{History}
-use Rattle.serv_top.specs.Machine.{Said, Says, reply_to, history_after, bound_of}
+use Rattle.serv_top.specs.declared.said.Said.{Said}
+use Rattle.serv_top.specs.Machine.{Says, reply_to, history_after, bound_of}
 use Rattle.serv_top.specs.Replies.{history_after_all, replies_to, bound_of_all}
 use Rattle.serv_top.specs.Upheld.{Say}
 

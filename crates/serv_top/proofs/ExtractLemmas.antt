@@ -17,7 +17,9 @@ use Rattle.serv_machine.specs.History.{Store, Memory, Journal, History, Full, Fr
 use Rattle.serv_machine.specs.Replies.{text_of_decision, reply_to_request, history_after_request}
 use Rattle.serv_top.specs.Lines.{IsPlain, onto_first, onto_ended, lines_of, ended_lines}
 use Rattle.serv_machine.specs.Stands.{Stand}
-use Rattle.serv_top.specs.Machine.{Said, Asks, asks}
+use Rattle.serv_top.specs.declared.said.Said.{Said}
+use Rattle.serv_top.specs.declared.said.Said.TheVariants.{Asks}
+use Rattle.serv_top.specs.Machine.{asks}
 use Rattle.serv_top.specs.Replies.{Answers, history_after_all, replies_to}
 use Rattle.serv_top.specs.Upheld.{Say}
 use Rattle.serv_top.specs.Extracts.{lines_of_commands, HasRoomFor, replies_after, AreTakenOn}

@@ -5,7 +5,9 @@ use Rattle.svc_world.specs.World.{Accepted, accepted}
 use Rattle.serv_machine.specs.History.{History, Decision, after_decision}
 use Rattle.serv_machine.specs.Replies.{history_after_request}
 use Rattle.serv_machine.proofs.NextLemmas.{next_is as it_is_next}
-use Rattle.serv_top.specs.Machine.{Said, Asks, Faulty, Unfit, history_after, commands_of, IsFresh}
+use Rattle.serv_top.specs.declared.said.Said.{Said}
+use Rattle.serv_top.specs.declared.said.Said.TheVariants.{Asks, Faulty, Unfit}
+use Rattle.serv_top.specs.Machine.{history_after, commands_of, IsFresh}
 
 pub fresh_grows : (h : History) (said : Said) → IsFresh h said → (history_after h said).commands ≡ h.commands ++ commands_of said
 unfolding history_after_request

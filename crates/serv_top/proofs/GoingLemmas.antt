@@ -1,5 +1,5 @@
 -- Lines that are answered to the end of a stream: what was answered stays on the disk.
-use Rattle.std.proofs.Common.{◌≡◌, ℕ, ◌+◌, Bool, List, ◌++◌, length, sym, subst, arith, length-append}
+use Rattle.std.proofs.Common.{◌≡◌, ℕ, ◌+◌, List, ◌++◌, length, sym, subst, arith, length-append}
 use Rattle.std.specs.Prelude.{Option}
 use Rattle.std.specs.Io.KnownBytes.{Consumes}
 use Rattle.std.proofs.KnownBytes.{Consumes-trans}
@@ -16,8 +16,8 @@ use Rattle.serv_top.proofs.Running.{Course}
 use Rattle.serv_top.proofs.AnsweredLemmas.{replies_wider, first_of_more}
 
 -- the bytes taken are served, and what was answered of their lines is upheld
-pub record Going (moment : ℕ) (since : ℕ → List ℕ → Type 0) (waiting : ℕ) (s : Stand) (t : Running) (left left' held held' : Option (List ℕ)) (begun : Bool) (line text : List ℕ) (count : ℕ) (log log' : Option (List Stamp)) : Type 0 where
-  pub run : Course waiting s t left left' held held' begun line text count
+pub record Going (moment : ℕ) (since : ℕ → List ℕ → Type 0) (waiting : ℕ) (s : Stand) (t : Running) (left left' held held' : Option (List ℕ)) (line text : List ℕ) (count : ℕ) (log log' : Option (List Stamp)) : Type 0 where
+  pub run : Course waiting s t left left' held held' line text count
   pub upheld : Upholds (AreReplies (AreSaidFirst (ended_lines run.taken)) s.history) moment since t.kept.commands held log log'
 
 module _ (moment : ℕ) (since : ℕ → List ℕ → Type 0) (now : List Accepted) (h : History) (held : Option (List ℕ)) (log log' : Option (List Stamp)) where
@@ -41,12 +41,12 @@ module _ (moment : ℕ) (since : ℕ → List ℕ → Type 0) (now : List Accept
   acknowledged left left' taken took up = record { taken = taken; took = took; upheld = up }
 
 -- more bytes are taken and served
-pub going_more : {moment : ℕ} {since : ℕ → List ℕ → Type 0} {waiting : ℕ} {s : Stand} {t : Running} {left left' held held' : Option (List ℕ)} {begun : Bool} {line text : List ℕ} {count : ℕ} {log log' : Option (List Stamp)}
-    (going : Going moment since waiting s t left left' held held' begun line text count log log') (bytes : List ℕ) (n : ℕ) (t' : Running) (left'' held'' : Option (List ℕ)) (begun' : Bool) (line' text' : List ℕ)
-    (later : ℕ) (since' : ℕ → List ℕ → Type 0) (log'' : Option (List Stamp)) → length bytes ≡ n → Consumes left' left'' bytes → Served waiting (going.run.taken ++ bytes) s t' held held'' begun' line' text'
+pub going_more : {moment : ℕ} {since : ℕ → List ℕ → Type 0} {waiting : ℕ} {s : Stand} {t : Running} {left left' held held' : Option (List ℕ)} {line text : List ℕ} {count : ℕ} {log log' : Option (List Stamp)}
+    (going : Going moment since waiting s t left left' held held' line text count log log') (bytes : List ℕ) (n : ℕ) (t' : Running) (left'' held'' : Option (List ℕ)) (line' text' : List ℕ)
+    (later : ℕ) (since' : ℕ → List ℕ → Type 0) (log'' : Option (List Stamp)) → length bytes ≡ n → Consumes left' left'' bytes → Served waiting (going.run.taken ++ bytes) s t' held held'' line' text'
     → Upholds (AreReplies (AreSaidFirst (ended_lines (going.run.taken ++ bytes))) s.history) later since' t'.kept.commands held log log''
-    → Going later since' waiting s t' left left'' held held'' begun' line' text' (count + n) log log''
-going_more {left} {left'} going bytes n t' left'' held'' begun' line' text' later since' log'' long took served up =
+    → Going later since' waiting s t' left left'' held held'' line' text' (count + n) log log''
+going_more {left} {left'} going bytes n t' left'' held'' line' text' later since' log'' long took served up =
     let counted = going.run.count_is in
     let joined = length-append going.run.taken bytes in
     record {

@@ -1,5 +1,5 @@
 -- The rows of a file, one after another.
-use Rattle.std.proofs.Common.{◌≡◌, ◌⊎◌, ℕ, ◌+◌, ◌-◌, ◌<◌, ◌≤◌, false, List, [], ◌∷◌, ◌++◌, length, take, drop, get_or, map, refl, sym, ap, subst, ◌∙◌, inl, inr, ⊎_elim, arith, append-nil, append_assoc, zero, suc, add-one}
+use Rattle.std.proofs.Common.{◌≡◌, ◌⊎◌, ℕ, ◌+◌, ◌-◌, ◌<◌, ◌≤◌, List, [], ◌∷◌, ◌++◌, length, take, drop, get_or, map, refl, sym, ap, subst, ◌∙◌, inl, inr, ⊎_elim, arith, append-nil, append_assoc, zero, suc, add-one}
 use Rattle.std.specs.Prelude.{Option, Some}
 use Rattle.std.specs.Io.KnownBytes.{Consumes}
 use Rattle.std.proofs.KnownBytes.{Appends-nil}
@@ -22,7 +22,8 @@ use Rattle.serv_top.specs.declared.serving.Stop.TheVariants as stop
 use Rattle.serv_top.specs.declared.status.Status.{Status}
 use Rattle.serv_top.specs.declared.status.Status.TheVariants as status
 use Rattle.serv_machine.specs.Stands.{Stand, stand, Running}
-use Rattle.serv_top.specs.Machine.{Said, Unfit}
+use Rattle.serv_top.specs.declared.said.Said.{Said}
+use Rattle.serv_top.specs.declared.said.Said.TheVariants.{Unfit}
 use Rattle.serv_top.specs.Replies.{IsStopped}
 use Rattle.serv_top.specs.Serving.{Gathered, Stops}
 use Rattle.serv_top.specs.Outcome.{input_limit}
@@ -32,6 +33,7 @@ use Rattle.serv_top.specs.Imported.{AreFirstIn, FileSays, said_of, IsRow, AreRow
 use Rattle.serv_top.specs.Journal.{IsOpened, IsUnopened, journal_limit}
 use Rattle.serv_top.proofs.Applied.{run_over, unopened_ends, few_taken, store_of, store_moves, store_cut, store_begun, store_held_up}
 use Rattle.serv_top.proofs.GatheredLemmas.{stopped_wider}
+use Rattle.serv_top.proofs.ServedLemmas.{none_more}
 use Rattle.serv_top.specs.Ends.{Completes}
 
 -- ---- rows that ask commands
@@ -74,9 +76,9 @@ module _ {D : Type 0} (images : D → List ℕ → Type 0) (moment : D → ℕ) 
       }
 
   -- all are answered
-  pub rows_settled : (t : Running) → s' ≡ stand t.kept t.steps → Gathered 0 all s t held held' false [] → OnDisk images moment images_since mid new kept.commands s'.history.commands []
+  pub rows_settled : (t : Running) (text : List ℕ) → s' ≡ stand t.kept t.steps → t.kept ≡ t.held → length text ≤ 0 → Gathered 0 all s t held held' text → OnDisk images moment images_since mid new kept.commands s'.history.commands []
       → RowsEnd images moment images_since old new status.Done all s s' held held'
-  rows_settled t is g second = record {
+  rows_settled t text is same few g second = record {
     pending = [];
     written = g.written;
     wrote = g.wrote;
@@ -85,8 +87,8 @@ module _ {D : Type 0} (images : D → List ℕ → Type 0) (moment : D → ℕ) 
       record {
         said = all;
         whole = refl;
-        text = sym (append-nil g.written) ∙ g.gathered;
-        moved = (ap (λ (x : Stand). x.history) is ∙ g.waits.0 ∙ g.after, omega (arith, ap (λ (x : Stand). x.steps) is, g.cost));
+        text = sym (append-nil g.written) ∙ ap (λ x. g.written ++ x) (sym (none_more text few)) ∙ g.gathered;
+        moved = (ap (λ (x : Stand). x.history) is ∙ same ∙ g.after, omega (arith, ap (λ (x : Stand). x.steps) is, g.cost));
       },
     );
     disk = disk_more images moment images_since old mid new s.history.commands kept.commands s'.history.commands [] first second;
@@ -97,12 +99,6 @@ pub first_rows : (all done others : List Said) (said : Said) → all ≡ done ++
 first_rows all done others said is saids first = record {
   others = first.others ++ others;
   saids_are = is ∙ sym (append_assoc done (said ∷ []) others) ∙ ap (λ ss. ss ++ others) first.saids_are ∙ append_assoc saids first.others others;
-}
-
-pub rows_before : (all done others : List Said) (said : Said) → all ≡ done ++ said ∷ others → (saids : List Said) → AreFirst done saids → AreFirst all saids
-rows_before all done others said is saids first = record {
-  others = first.others ++ said ∷ others;
-  saids_are = is ∙ ap (λ ss. ss ++ said ∷ others) first.saids_are ∙ append_assoc saids first.others (said ∷ others);
 }
 
 -- rows up to a place, the row there, and the rows behind it

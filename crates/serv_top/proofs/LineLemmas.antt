@@ -7,7 +7,9 @@ use Rattle.serv_line.specs.LineFaults.{IsFault, too_long, misfit}
 use Rattle.serv_line.proofs.LineLemmas.{line_short, no_fault, same_line}
 use Rattle.serv_line.proofs.FaultLemmas.{one_fault}
 use Rattle.serv_machine.specs.Stands.{Stand}
-use Rattle.serv_top.specs.Machine.{Said, Asks, Faulty, Says, asks, errs}
+use Rattle.serv_top.specs.declared.said.Said.{Said}
+use Rattle.serv_top.specs.declared.said.Said.TheVariants.{Asks, Faulty}
+use Rattle.serv_top.specs.Machine.{Says, asks, errs}
 use Rattle.serv_top.specs.Replies.{Answers, replies_to, history_after_all}
 use Rattle.serv_top.specs.Upheld.{Say}
 

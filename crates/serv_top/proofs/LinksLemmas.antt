@@ -18,7 +18,8 @@ use Rattle.serv_links.specs.declared.link_end.LinkEnd.TheVariants as link_end
 use Rattle.serv_links.specs.declared.outcome.Outcome.{Outcome}
 use Rattle.serv_links.specs.declared.outcome.Outcome.TheVariants as outcome
 use Rattle.serv_links.specs.declared.summary.Summary.{Summary}
-use Rattle.serv_links.specs.Meanings.{Meaning, Asks, Faulty}
+use Rattle.serv_links.specs.declared.meaning.Meaning.{Meaning}
+use Rattle.serv_links.specs.declared.meaning.Meaning.TheVariants.{Asks, Faulty}
 use Rattle.serv_links.specs.Responses as links
 use Rattle.serv_links.specs.Outcomes.{IsAnswered, IsCut, IsCutOff, IsOne, IsStopped, IsTriedAs}
 use Rattle.serv_links.specs.Links.{IsDiskEnd, IsServed, IsStarved, Serves, link_limit}
@@ -54,16 +55,16 @@ store_tried a s s' is =
 store_cut : (a : Ask) (s s' : Stand) (wrote : List ℕ) → IsCut a s s' wrote → s'.history.store ≡ s.history.store
 store_cut a s s' wrote is = ap store_of is.moved.0 ∙ store_meant s.history is.meant
 
-store_one : (cut : Type 0) (o : Outcome) (a : Ask) (rest : List Ask) (s s' : Stand) (pending : List Accepted) (wrote : List ℕ) → IsOne cut o a rest s s' pending wrote → s'.history.store ≡ s.history.store
-store_one cut outcome.Answered a rest s s' pending wrote is = absurd is
-store_one cut outcome.Broken a rest s s' pending wrote (none, (t, is, next)) = ap store_of next.0 ∙ store_cut a s t wrote is
-store_one cut outcome.Disk a rest s s' pending wrote (is, front) = ap store_of is.same
-store_one cut outcome.NoMemory a rest s s' pending wrote is = store_tried a s s' is.1
+store_one : (cut : Type 0) (o : Outcome) (a : Ask) (s s' : Stand) (pending : List Accepted) (wrote : List ℕ) → IsOne cut o a s s' pending wrote → s'.history.store ≡ s.history.store
+store_one cut outcome.Answered a s s' pending wrote is = absurd is
+store_one cut outcome.Broken a s s' pending wrote (none, is) = store_cut a s s' wrote is
+store_one cut outcome.Disk a s s' pending wrote (is, front) = ap store_of is.same
+store_one cut outcome.NoMemory a s s' pending wrote is = store_tried a s s' is.1
 
 store_stopped : (cut : Type 0) (o : Outcome) (n : ℕ) (asks : List Ask) (s s' : Stand) (pending : List Accepted) (wrote : List ℕ) → IsStopped cut o n asks s s' pending wrote
     → s'.history.store ≡ s.history.store
 store_stopped cut o n asks s s' pending wrote is =
-    store_one cut o is.ask is.rest is.mid s' pending is.part is.one ∙ store_answered n is.done s is.mid is.before is.answered
+    store_one cut o is.ask is.mid s' pending is.part is.one ∙ store_answered n is.done s is.mid is.before is.answered
 
 store_cut_off : (cut : Type 0) (o : Outcome) (n : ℕ) (bytes : List ℕ) (s s' : Stand) (pending : List Accepted) (wrote : List ℕ) → IsCutOff cut o n bytes s s' pending wrote
     → s'.history.store ≡ s.history.store

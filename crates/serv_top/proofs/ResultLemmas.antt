@@ -1,5 +1,5 @@
 -- What is known of a result.
-use Rattle.std.proofs.Common.{◌≡◌, ◌≢◌, ℕ, Bool, false, List, [], OnOk, sym, subst}
+use Rattle.std.proofs.Common.{◌≢◌, OnOk}
 use Rattle.std.specs.Prelude.{Result, Ok, Err}
 
 -- what holds of each result but one fault
@@ -7,7 +7,6 @@ pub ok_unless : {T E A : Type 0} (r : Result T E) (fault : E) → (r ≢ Err fau
 ok_unless (Ok x) fault then = then (λ same. cc)
 ok_unless (Err e) fault then = tt
 
--- where no command is begun and no reply waits
-pub settled_as : {T E : Type 0} (r : Result T E) (P : Bool → List ℕ → Type 0) (begun : Bool) (text : List ℕ) → OnOk r (P false []) → OnOk r (begun ≡ false) → OnOk r (text ≡ []) → OnOk r (P begun text)
-settled_as (Ok x) P begun text is none empty = subst (λ b. P b text) (sym none) (subst (P false) (sym empty) is)
-settled_as (Err e) P begun text is none empty = tt
+pub on_ok_both : {T E : Type 0} (A B : Type 0) (r : Result T E) → OnOk r A → OnOk r B → OnOk r (A × B)
+on_ok_both A B (Ok x) one other = (one, other)
+on_ok_both A B (Err e) one other = tt

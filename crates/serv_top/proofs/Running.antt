@@ -1,5 +1,5 @@
 -- A run in its course: what it has taken, accepted and written so far, and what that is where it ends.
-use Rattle.std.proofs.Common.{◌≡◌, ◌≢◌, ℕ, ◌+◌, ◌<◌, ◌≤◌, Bool, false, List, [], ◌++◌, length, refl, sym, ap, subst, ◌∙◌, arith, inl, inr, append-nil, length-append}
+use Rattle.std.proofs.Common.{◌≡◌, ◌≢◌, ℕ, ◌+◌, ◌<◌, ◌≤◌, List, [], ◌++◌, length, refl, sym, ap, subst, ◌∙◌, arith, inl, inr, append-nil, length-append}
 use Rattle.std.specs.Prelude.{Option}
 use Rattle.std.specs.Io.KnownBytes.{Consumes, IsAtEnd}
 use Rattle.std.proofs.KnownBytes.{Consumes-nil, Consumes-trans, Appends-nil}
@@ -24,19 +24,19 @@ use Rattle.serv_top.proofs.ServedLemmas.{served_none}
 use Rattle.serv_top.proofs.SoundLemmas.{nothing_sound, begun_sound}
 
 -- the bytes taken are served
-pub record Course (waiting : ℕ) (s : Stand) (t : Running) (left left' held held' : Option (List ℕ)) (begun : Bool) (line text : List ℕ) (count : ℕ) : Type 0 where
+pub record Course (waiting : ℕ) (s : Stand) (t : Running) (left left' held held' : Option (List ℕ)) (line text : List ℕ) (count : ℕ) : Type 0 where
   pub taken : List ℕ
   pub took : Consumes left left' taken
-  pub served : Served waiting taken s t held held' begun line text
+  pub served : Served waiting taken s t held held' line text
   pub count_is : count ≡ length taken
 
-pub course_none : (waiting : ℕ) (s : Stand) (t : Running) (left held : Option (List ℕ)) (begun : Bool) (line text : List ℕ) → line ≡ [] → text ≡ [] → begun ≡ false → t.held ≡ s.history → t.kept ≡ t.held → t.steps ≤ s.steps
-    → Course waiting s t left left held held begun line text 0
-course_none waiting s t left held begun line text no_line no_text none same kept cost =
-    record { taken = []; took = Consumes-nil left; served = served_none waiting s t held begun line text no_line no_text none same kept cost; count_is = refl }
+pub course_none : (waiting : ℕ) (s : Stand) (t : Running) (left held : Option (List ℕ)) (line text : List ℕ) → line ≡ [] → text ≡ [] → t.held ≡ s.history → t.kept ≡ t.held → t.steps ≤ s.steps
+    → Course waiting s t left left held held line text 0
+course_none waiting s t left held line text no_line no_text same kept cost =
+    record { taken = []; took = Consumes-nil left; served = served_none waiting s t held line text no_line no_text same kept cost; count_is = refl }
 
 -- the end of the input
-pub end_took : {waiting : ℕ} {s : Stand} {t : Running} {left left' held held' : Option (List ℕ)} {begun : Bool} {line text : List ℕ} {count : ℕ} (run : Course waiting s t left left' held held' begun line text count)
+pub end_took : {waiting : ℕ} {s : Stand} {t : Running} {left left' held held' : Option (List ℕ)} {line text : List ℕ} {count : ℕ} (run : Course waiting s t left left' held held' line text count)
     (left'' : Option (List ℕ)) → Consumes left' left'' [] → Consumes left left'' run.taken
 end_took {left} {left'} run left'' took = subst (Consumes left left'') (append-nil run.taken) (Consumes-trans left left' left'' run.taken [] run.took took)
 
@@ -60,14 +60,14 @@ stopped_last waiting stop.OutOfMemory bytes s s' pending left left' held held' t
     record { taken = bytes; written = stopped.written; took = took; wrote = stopped.wrote; says = (stopped.says.0, within, inr (end, stopped.says.1)) }
 
 -- all lines that ended are answered, where no reply waits
-all_answered : {waiting : ℕ} {bytes : List ℕ} {s : Stand} {t : Running} {held held' : Option (List ℕ)} {begun : Bool} {line text : List ℕ} (run : Served waiting bytes s t held held' begun line text) → text ≡ [] → t.kept ≡ t.held
+all_answered : {waiting : ℕ} {bytes : List ℕ} {s : Stand} {t : Running} {held held' : Option (List ℕ)} {line text : List ℕ} (run : Served waiting bytes s t held held' line text) → text ≡ [] → t.kept ≡ t.held
     → Answers (Say (ended_lines bytes)) s (stand t.kept t.steps) run.gathers.written
 all_answered {text = text} run none kept =
     let g = run.gathers in
     record { said = run.said; whole = run.say; text = sym (append-nil g.written) ∙ ap (λ x. g.written ++ x) (sym none) ∙ g.gathered; moved = (kept ∙ g.after, g.cost) }
 
 module _ {D : Type 0} (images : D → List ℕ → Type 0) (moment : D → ℕ) (images_since : D → ℕ → List ℕ → Type 0) (old mid new : D) {waiting : ℕ} {s : Stand} {t : Running}
-    {left left' held held' : Option (List ℕ)} {begun : Bool} {line text : List ℕ} {count : ℕ} (run : Course waiting s t left left' held held' begun line text count) (s' : Stand) (left'' held'' : Option (List ℕ)) where
+    {left left' held held' : Option (List ℕ)} {line text : List ℕ} {count : ℕ} (run : Course waiting s t left left' held held' line text count) (s' : Stand) (left'' held'' : Option (List ℕ)) where
   -- it stops at one of the bytes that were taken last
   pub ends_at_bytes : (bytes : List ℕ) (n : ℕ) → length bytes ≡ n → count + n ≤ input_limit → Consumes left' left'' bytes → OnDisk images moment images_since old mid s.history.commands t.kept.commands []
       → (why : Stop) → Stops images moment images_since mid new why (AreSaidFirst (ended_lines (run.taken ++ bytes))) waiting s t.kept s' held held''
@@ -108,7 +108,7 @@ module _ {D : Type 0} (images : D → List ℕ → Type 0) (moment : D → ℕ) 
       }
 
 module _ {D : Type 0} (images : D → List ℕ → Type 0) (moment : D → ℕ) (images_since : D → ℕ → List ℕ → Type 0) (old new : D) {waiting : ℕ} {s : Stand} {t : Running}
-    {left left' held held' : Option (List ℕ)} {begun : Bool} {line text : List ℕ} {count : ℕ} (run : Course waiting s t left left' held held' begun line text count) (none : text ≡ []) (kept : t.kept ≡ t.held)
+    {left left' held held' : Option (List ℕ)} {line text : List ℕ} {count : ℕ} (run : Course waiting s t left left' held held' line text count) (none : text ≡ []) (kept : t.kept ≡ t.held)
     (disk : OnDisk images moment images_since old new s.history.commands t.kept.commands []) where
   -- a read failed: what was taken before is served
   pub ends_unread : (left'' : Option (List ℕ)) → count < input_limit → left'' ≡ left' → Ends images moment images_since old new waiting status.ReadFault s (stand t.kept t.steps) left left'' held held'

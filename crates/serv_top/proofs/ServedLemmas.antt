@@ -1,30 +1,26 @@
 -- Bytes that are fed one after the other, and the replies to the lines that they end.
-use Rattle.std.proofs.Common.{◌≡◌, ℕ, ◌+◌, ◌≤◌, ◌⊎◌, Bool, true, false, List, [], ◌∷◌, ◌++◌, length, take, refl, sym, ap, subst, ◌∙◌, arith, inl, inr, append-nil}
-use Rattle.std.specs.Prelude.{Option, Some}
+use Rattle.std.proofs.Common.{◌≡◌, ℕ, ◌≤◌, ◌⊎◌, List, [], ◌∷◌, ◌++◌, length, take, refl, sym, ap, subst, ◌∙◌, arith, inl, inr, append-nil}
+use Rattle.std.specs.Prelude.{Option}
 use Rattle.std.proofs.lemmas.List.{length-take-le, take_at, take_all, take-append-le}
 use Rattle.std.proofs.lemmas.Bool.{cases_lt}
-use Rattle.serv_disk.specs.Disks.{Each}
-use Rattle.serv_disk.specs.Stamps.{Stamp, Notes}
-use Rattle.serv_machine.specs.OnDisk.{HasHistory, OnDisk}
-use Rattle.serv_machine.specs.Upheld.{Upholds}
-use Rattle.serv_machine.proofs.OnDiskLemmas.{disk_none}
 use Rattle.serv_top.specs.Lines.{IsPlain, lines_of, ended_lines, open_line}
 use Rattle.serv_machine.specs.Stands.{Stand, stand, Running}
-use Rattle.serv_top.specs.Machine.{Said, Says}
+use Rattle.serv_top.specs.declared.said.Said.{Said}
+use Rattle.serv_top.specs.Machine.{Says}
 use Rattle.serv_top.specs.Serving.{AllServed, Gathered, Served}
-use Rattle.serv_top.specs.Upheld.{Say, AreFirst, AreSaidFirst, AreReplies}
-use Rattle.serv_top.proofs.AnsweredLemmas.{first_lines, first_of_more, upheld_call, writes_given_up}
+use Rattle.serv_top.specs.Upheld.{Say, AreFirst, AreSaidFirst}
+use Rattle.serv_top.proofs.AnsweredLemmas.{first_lines, first_of_more}
 use Rattle.serv_top.proofs.GatheredLemmas.{gathered_none}
 use Rattle.serv_top.proofs.LineLemmas.{says_whole}
 use Rattle.serv_top.proofs.PlainLemmas.{ended_plain, open_plain}
 use Rattle.serv_top.proofs.Cutting.{unended, ended_from, open_from-push, ended_lines-push, ended_lines-append, lines_of-from, say-push}
 
-pub served_none : (waiting : ℕ) (s : Stand) (t : Running) (held : Option (List ℕ)) (begun : Bool) (line text : List ℕ) → line ≡ [] → text ≡ [] → begun ≡ false → t.held ≡ s.history → t.kept ≡ t.held → t.steps ≤ s.steps
-    → Served waiting [] s t held held begun line text
-served_none waiting s t held begun line text no_line no_text none same kept cost = record {
+pub served_none : (waiting : ℕ) (s : Stand) (t : Running) (held : Option (List ℕ)) (line text : List ℕ) → line ≡ [] → text ≡ [] → t.held ≡ s.history → t.kept ≡ t.held → t.steps ≤ s.steps
+    → Served waiting [] s t held held line text
+served_none waiting s t held line text no_line no_text same kept cost = record {
   said = [];
   say = tt;
-  gathers = subst (λ b. Gathered waiting [] s t held held b text) (sym none) (gathered_none waiting s t held text no_text same kept cost);
+  gathers = gathered_none waiting s t held text no_text same kept cost;
   line_is = no_line;
 }
 
@@ -48,7 +44,7 @@ pub first_further : (bytes more : List ℕ) (said : List Said) → AreSaidFirst 
 first_further bytes more said is =
     subst (λ ls. AreSaidFirst ls said) (sym (ended_lines-append bytes more)) (first_of_more (ended_lines bytes) (ended_from (open_line bytes) more) said is)
 
-module _ (waiting : ℕ) (bytes : List ℕ) {s : Stand} {t : Running} {held held' : Option (List ℕ)} {begun : Bool} {line text : List ℕ} (run : Served waiting bytes s t held held' begun line text) where
+module _ (waiting : ℕ) (bytes : List ℕ) {s : Stand} {t : Running} {held held' : Option (List ℕ)} {line text : List ℕ} (run : Served waiting bytes s t held held' line text) where
   abbrev ended : List (List ℕ)
   ended = ended_lines bytes
 
@@ -56,7 +52,7 @@ module _ (waiting : ℕ) (bytes : List ℕ) {s : Stand} {t : Running} {held held
   piece = open_line bytes
 
   -- bytes without a line feed are added to the line, as far as it is kept
-  pub served_plain : (p line' : List ℕ) → IsPlain p → line' ≡ take 513 (line ++ p) → Served waiting (bytes ++ p) s t held held' begun line' text
+  pub served_plain : (p line' : List ℕ) → IsPlain p → line' ≡ take 513 (line ++ p) → Served waiting (bytes ++ p) s t held held' line' text
   served_plain p line' plain kept = record {
     said = run.said;
     say = subst (λ ls. Say ls run.said) (sym (ended_plain bytes p plain)) run.say;
@@ -84,9 +80,9 @@ module _ (waiting : ℕ) (bytes : List ℕ) {s : Stand} {t : Running} {held held
   say_more last says =
       subst (λ ls. Say ls (run.said ++ last ∷ [])) (sym ended_more) (say-push ended run.said piece last run.say (says_whole piece last (subst (λ l. Says l last) run.line_is says)))
 
-  pub served_line : (last : Said) → Says line last → (t' : Running) (held'' : Option (List ℕ)) (begun' : Bool) (line' text' : List ℕ) → line' ≡ []
-      → Gathered waiting (run.said ++ last ∷ []) s t' held held'' begun' text' → Served waiting (bytes ++ 10 ∷ []) s t' held held'' begun' line' text'
-  served_line last says t' held'' begun' line' text' none gathers = record {
+  pub served_line : (last : Said) → Says line last → (t' : Running) (held'' : Option (List ℕ)) (line' text' : List ℕ) → line' ≡ []
+      → Gathered waiting (run.said ++ last ∷ []) s t' held held'' text' → Served waiting (bytes ++ 10 ∷ []) s t' held held'' line' text'
+  served_line last says t' held'' line' text' none gathers = record {
     said = run.said ++ last ∷ [];
     say = say_more last says;
     gathers = gathers;
@@ -96,9 +92,9 @@ module _ (waiting : ℕ) (bytes : List ℕ) {s : Stand} {t : Running} {held held
   pub first_line : (last : Said) → Says line last → (lines others : List (List ℕ)) → lines ≡ ended_lines (bytes ++ 10 ∷ []) ++ others → (said : List Said) → AreFirst (run.said ++ last ∷ []) said → AreSaidFirst lines said
   first_line last says lines others is = first_lines lines (ended_lines (bytes ++ 10 ∷ [])) others (run.said ++ last ∷ []) is (say_more last says)
 
-  -- all replies are written
-  pub served_settled : (t' : Running) (held'' : Option (List ℕ)) → Gathered waiting run.said s t' held held'' false [] → Served waiting bytes s t' held held'' false line []
-  served_settled t' held'' gathers = record { said = run.said; say = run.say; gathers = gathers; line_is = run.line_is }
+  -- replies are written
+  pub served_gone : (t' : Running) (held'' : Option (List ℕ)) (text' : List ℕ) → Gathered waiting run.said s t' held held'' text' → Served waiting bytes s t' held held'' line text'
+  served_gone t' held'' text' gathers = record { said = run.said; say = run.say; gathers = gathers; line_is = run.line_is }
 
   -- it is as if a line feed had ended the last piece
   no_line : piece ≡ [] → line ≡ []
@@ -118,26 +114,20 @@ module _ (waiting : ℕ) (bytes : List ℕ) {s : Stand} {t : Running} {held held
   ]
 
 -- all lines are answered
-pub all_served : (waiting : ℕ) (bytes : List ℕ) (s : Stand) (t : Running) (held held' : Option (List ℕ)) (line : List ℕ) (lines : List (List ℕ)) → lines ≡ ended_lines bytes → Served waiting bytes s t held held' false line []
-    → AllServed lines s (stand t.kept t.steps) held held'
-all_served waiting bytes s t held held' line lines is run = record {
+pub all_served : (waiting : ℕ) (bytes : List ℕ) (s : Stand) (t : Running) (held held' : Option (List ℕ)) (line text : List ℕ) (lines : List (List ℕ)) → lines ≡ ended_lines bytes → t.kept ≡ t.held → text ≡ []
+    → Served waiting bytes s t held held' line text → AllServed lines s (stand t.kept t.steps) held held'
+all_served waiting bytes s t held held' line text lines is all none run = record {
   written = run.gathers.written;
   wrote = run.gathers.wrote;
   answers = record {
     said = run.said;
     whole = subst (λ ls. Say ls run.said) (sym is) run.say;
-    text = sym (append-nil run.gathers.written) ∙ run.gathers.gathered;
-    moved = (run.gathers.waits.0 ∙ run.gathers.after, run.gathers.cost);
+    text = sym (append-nil run.gathers.written) ∙ ap (λ x. run.gathers.written ++ x) (sym none) ∙ run.gathers.gathered;
+    moved = (all ∙ run.gathers.after, run.gathers.cost);
   };
 }
 
--- where no request more has a reply, of the replies to lines a front part is written
-pub lines_given_up : {D : Type 0} (images : D → List ℕ → Type 0) (moment : D → ℕ) (images_since : D → ℕ → List ℕ → Type 0) (d : D) (only : (c : List ℕ) → images_since d (moment d) c → images d c)
-    {waiting : ℕ} (bytes : List ℕ) {s : Stand} {t : Running} {held held' : Option (List ℕ)} {begun : Bool} {line text : List ℕ} (run : Served waiting bytes s t held held' begun line text)
-    (lines others : List (List ℕ)) → lines ≡ ended_lines bytes ++ others → Each (images d) (HasHistory t.kept.commands) → {log' log'' : Option (List Stamp)} → (begun ≡ true → log'' ≡ log')
-    → ((x : List ℕ) → held' ≡ Some x → Notes (moment d) (length x + length text) log' log'') → (log : Option (List Stamp))
-    → Upholds (AreReplies (AreSaidFirst lines) s.history) (moment d) (images_since d) t.kept.commands held log log' → Upholds (AreReplies (AreSaidFirst lines) s.history) (moment d) (images_since d) t.kept.commands held log log''
-lines_given_up images moment images_since d only {waiting} bytes {s} {t} {held} run lines others is has {log'} {log''} quiet notes log up =
-    let none : OnDisk images moment images_since d d t.kept.commands t.kept.commands [] = disk_none images moment images_since d t.kept.commands t.kept.commands refl has only in
-    upheld_call images moment images_since d d t.kept.commands t.kept.commands [] none (AreFirst run.said) (AreSaidFirst lines) s.history held log log' log'' (first_here waiting bytes run lines others is) up
-    (writes_given_up images moment images_since run.gathers d d only t.kept.commands [] none quiet notes)
+-- nothing is left where no more than nothing is
+pub none_more : (text : List ℕ) → length text ≤ 0 → text ≡ []
+none_more [] few = refl
+none_more (b ∷ text) few = absurd (omega (arith, few))

@@ -1,9 +1,10 @@
 -- Where no reply may wait, all replies but the last are whole.
-use Rattle.std.proofs.Common.{◌≡◌, ℕ, ◌+◌, ◌<◌, ◌≤◌, List, [], ◌∷◌, ◌++◌, length, take, drop, arith, refl, sym, ap, subst, ◌∙◌, length-append, append_assoc, append-nil, take-append-drop}
+use Rattle.std.proofs.Common.{◌≡◌, ℕ, ◌+◌, ◌<◌, ◌≤◌, List, [], ◌∷◌, ◌++◌, length, take, drop, arith, refl, sym, ap, subst, ◌∙◌, length-append, append-nil, take-append-drop}
 use Rattle.std.proofs.lemmas.List.{take_at, take-append-le, drop_at, drop-append-le}
 use Rattle.serv_machine.specs.History.{History}
 use Rattle.serv_machine.specs.Stands.{Stand}
-use Rattle.serv_top.specs.Machine.{Said, reply_to}
+use Rattle.serv_top.specs.declared.said.Said.{Said}
+use Rattle.serv_top.specs.Machine.{reply_to}
 use Rattle.serv_top.specs.Replies.{replies_to, history_after_all, bound_of_all, before_last, IsCutIn}
 use Rattle.serv_top.specs.Whole.{IsCutOff}
 use Rattle.serv_top.proofs.Cutting.{replies_to-push}
@@ -56,15 +57,12 @@ cut_off First s s' written c =
     sym (replies_to-push s.history front end.last) ∙ ap (replies_to s.history) (sym end.saids_are) ∙ c.cut.joined in
     let few : length (replies_to s.history front) ≤ length written = omega (arith, c.late) in
     let a = ahead (replies_to s.history front) (reply_to (history_after_all s.history front) end.last) written c.cut.rest text few in
-    let all : c.done ++ c.ahead ≡ front ++ end.last ∷ c.ahead = ap (λ ss. ss ++ c.ahead) end.saids_are ∙ append_assoc front (end.last ∷ []) c.ahead in
     record {
       answered = front;
       next = end.last;
-      ahead = c.ahead;
-      first = subst First all c.first;
-      near = c.near;
+      first = subst First end.saids_are c.first;
       after = c.after ∙ ap (history_after_all s.history) end.saids_are;
-      cost = subst (λ ss. s'.steps ≤ s.steps + bound_of_all s.history ss) all c.cost;
+      cost = subst (λ ss. s'.steps ≤ s.steps + bound_of_all s.history ss) end.saids_are c.cost;
       part = a.part;
       text = a.text;
       partial = record { rest = c.cut.rest; some = c.cut.some; joined = a.left };

@@ -12,7 +12,8 @@ use Rattle.serv_machine.specs.OnDisk.{OnDisk}
 use Rattle.serv_top.specs.declared.status.Status.{Status}
 use Rattle.serv_top.specs.declared.status.Status.TheVariants.{Done, ReadFault, WriteFault, DiskFault, TooMuch, OutOfMemory}
 use Rattle.serv_machine.specs.Stands.{Stand, Stays}
-use Rattle.serv_top.specs.Machine.{Said, Asks, Unfit}
+use Rattle.serv_top.specs.declared.said.Said.{Said}
+use Rattle.serv_top.specs.declared.said.Said.TheVariants.{Asks, Unfit}
 use Rattle.serv_top.specs.Replies.{Answers, IsBegun, IsCutIn, IsHeldUp}
 use Rattle.serv_top.specs.Outcome.{input_limit}
 use Rattle.serv_top.specs.Journal.{IsRunOver}

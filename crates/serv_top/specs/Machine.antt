@@ -1,6 +1,8 @@
 -- What a line says to the machine, its reply, what is held after it, and how many steps it may take.
-use Rattle.std.specs.Prelude.{◌≡◌, ℕ, List, []}
+use Rattle.std.specs.Prelude.{◌≡◌, ℕ, List, [], ⊤}
 use Rattle.svc_types.specs.declared.requests.Request.{Request}
+use Rattle.serv_top.specs.declared.said.Said.{Said}
+use Rattle.serv_top.specs.declared.said.Said.TheVariants.{Asks, Faulty, Unfit}
 use Rattle.svc_types.specs.Requests.{IsRequest}
 use Rattle.svc_world.specs.World.{Accepted}
 use Rattle.serv_line.specs.Lines.{line_of}
@@ -9,13 +11,6 @@ use Rattle.serv_line.specs.Replies.{text_of_bad}
 use Rattle.serv_rows.specs.Texts.{text_of_bad_row}
 use Rattle.serv_machine.specs.History.{History}
 use Rattle.serv_machine.specs.Replies.{reply_to_request, history_after_request, bound_of_request, commands_in, IsAppending}
-
--- what a line says: it asks something, or its fault stands at a place; and what a row of a file says: it asks something, or
--- the row with this number goes wrong in a column
-pub data Said : Type 0 where
-  Asks : Request → Said
-  Faulty : ℕ → Said
-  Unfit : ℕ → ℕ → Said
 
 -- a line asks a request exactly where it is that request's line; any other line has a fault
 pub data Says (line : List ℕ) : Said → Type 0 where
@@ -45,6 +40,12 @@ abbrev pub commands_of : Said → List Accepted
 commands_of (Asks r) = commands_in r
 commands_of (Faulty place) = []
 commands_of (Unfit number column) = []
+
+-- what it asks is of a form that can be asked
+abbrev pub IsFormed : Said → Type 0
+IsFormed (Asks r) = IsRequest r
+IsFormed (Faulty place) = ⊤
+IsFormed (Unfit number column) = ⊤
 
 -- it brings a command that is fresh, and for which there is room
 abbrev pub IsFresh : History → Said → Type 0

@@ -7,7 +7,8 @@ use Rattle.serv_machine.specs.History.{History}
 use Rattle.serv_top.specs.declared.serving.Stop.{Stop}
 use Rattle.serv_top.specs.declared.serving.Stop.TheVariants.{WriteFault, DiskFault, OutOfMemory}
 use Rattle.serv_machine.specs.Stands.{Stand}
-use Rattle.serv_top.specs.Machine.{Said, reply_to, history_after, bound_of, commands_of, IsFresh}
+use Rattle.serv_top.specs.declared.said.Said.{Said}
+use Rattle.serv_top.specs.Machine.{reply_to, history_after, bound_of, commands_of, IsFresh}
 
 -- the history after all of it
 abbrev pub history_after_all : History → List Said → History
@@ -42,15 +43,13 @@ pub record Answers (Whole : List Said → Type 0) (s s' : Stand) (written : List
   pub text : written ≡ replies_to s.history said
   pub moved : MovesAll said s s'
 
--- Of the replies to what was acted on a front part that is not all of it is written: whole replies, and at most a part of one; of
--- those to all but the last, at most this many bytes are missing. Steps may have been taken for the next one.
+-- of the replies to what was acted on a front part that is not all of it is written: whole replies, and at most a part of one; of
+-- those to all but the last, at most this many bytes are missing
 pub record IsCutIn (First : List Said → Type 0) (waiting : ℕ) (s s' : Stand) (written : List ℕ) : Type 0 where
   pub done : List Said
-  pub ahead : List Said
-  pub first : First (done ++ ahead)
-  pub near : length ahead ≤ 1
+  pub first : First done
   pub after : s'.history ≡ history_after_all s.history done
-  pub cost : s'.steps ≤ s.steps + bound_of_all s.history (done ++ ahead)
+  pub cost : s'.steps ≤ s.steps + bound_of_all s.history done
   pub cut : IsProperPrefix written (replies_to s.history done)
   pub late : length (replies_to s.history (before_last done)) ≤ length written + waiting
 
@@ -69,31 +68,29 @@ abbrev pub IsMaybeNext : History → List Said → History → Type 0
 IsMaybeNext h [] h' = h' ≡ h
 IsMaybeNext h (said ∷ ahead) h' = (h' ≡ h) ⊎ (h' ≡ history_after h said)
 
--- The replies to some first ones are written, but for at most this many bytes at the end. The next one may have been accepted, and
--- steps may have been taken for the next two.
+-- The replies to some first ones are written, but for at most this many bytes at the end. No memory was there for the next one, if
+-- there is one: it may have been accepted.
 pub record IsBegun (First : List Said → Type 0) (waiting : ℕ) (s s' : Stand) (written : List ℕ) : Type 0 where
   pub done : List Said
   pub ahead : List Said
   pub first : First (done ++ ahead)
-  pub near : length ahead ≤ 2
+  pub near : length ahead ≤ 1
   pub after : IsMaybeNext (history_after_all s.history done) ahead s'.history
   pub cost : s'.steps ≤ s.steps + bound_of_all s.history (done ++ ahead)
   pub rest : List ℕ
   pub text : replies_to s.history done ≡ written ++ rest
   pub few : length rest ≤ waiting
 
--- The replies to some first ones are written, but for at most this many bytes at the end; the disk failed while the command of the
--- next one, which is fresh, was being appended. Steps may have been taken for the one after it.
+-- the replies to some first ones are written, but for at most this many bytes at the end; the disk failed while the command of the
+-- next one, which is fresh, was being appended
 pub record IsHeldUp (First : List Said → Type 0) (waiting : ℕ) (s s' : Stand) (pending : List Accepted) (written : List ℕ) : Type 0 where
   pub done : List Said
   pub next : Said
-  pub ahead : List Said
-  pub first : First (done ++ next ∷ ahead)
-  pub near : length ahead ≤ 1
+  pub first : First (done ++ next ∷ [])
   pub after : s'.history ≡ history_after_all s.history done
   pub fresh : IsFresh s'.history next
   pub pending_is : pending ≡ commands_of next
-  pub cost : s'.steps ≤ s.steps + bound_of_all s.history (done ++ next ∷ ahead)
+  pub cost : s'.steps ≤ s.steps + bound_of_all s.history (done ++ next ∷ [])
   pub rest : List ℕ
   pub text : replies_to s.history done ≡ written ++ rest
   pub few : length rest ≤ waiting

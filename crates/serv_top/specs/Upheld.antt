@@ -4,7 +4,8 @@ use Rattle.svc_world.specs.World.{Accepted}
 use Rattle.serv_disk.specs.Stamps.{Stamp}
 use Rattle.serv_machine.specs.History.{History}
 use Rattle.serv_machine.specs.Upheld as upheld
-use Rattle.serv_top.specs.Machine.{Said, Says}
+use Rattle.serv_top.specs.declared.said.Said.{Said}
+use Rattle.serv_top.specs.Machine.{Says}
 use Rattle.serv_top.specs.Replies.{replies_to, history_after_all}
 
 -- what the lines say, each in turn

@@ -4,35 +4,30 @@ ghost use Rattle.std.specs.Prelude.{◌≡◌, ℕ, ◌<◌, ◌≤◌, ◌^◌,
 ghost use Rattle.std.specs.Io.KnownBytes.{Consumes, IsAtEnd};
 ghost use Rattle.serv_disk.specs.Faults.{HasRisen};
 ghost use Rattle.serv_disk.specs.Stamps.{Stamp};
-ghost use Rattle.serv_machine.specs.OnDisk.{OnDisk};
 ghost use Rattle.serv_machine.specs.Upheld.{Upholds};
 ghost use Rattle.serv_top.specs.Journal.{HasFileFaults, IsUnopened};
-ghost use Rattle.serv_machine.specs.Stands.{Stand, running, stand};
-ghost use Rattle.serv_top.specs.Machine.{Said};
+ghost use Rattle.serv_machine.specs.Stands.{stand};
 ghost use Rattle.serv_top.specs.Outcome.{input_limit};
-ghost use Rattle.serv_top.specs.Serving.{Gathered, IsHalted, IsReplied, Stops};
 ghost use Rattle.serv_top.specs.Upheld.{AreFirst, AreReplies, IsAcknowledged};
-ghost use Rattle.serv_top.specs.Imported.{AreFirstIn, AreRows, FileEnds, ImportEnds, IsImported, IsRow, IsUnread, RowsEnd, said_of};
+ghost use Rattle.serv_top.specs.Imported.{AreFirstIn, AreRows, FileEnds, ImportEnds, IsImported, IsUnread, RowsEnd, said_of};
 
 use crate::over_journal::open_journal;
 use crate::replies::Replies;
-use crate::serving::{Stop, stop_at};
+use crate::said::said_of;
 use crate::status::Status;
 use crate::stream::INPUT_LIMIT;
 use serv_disk::{Disk, Sink, Source, read_some};
 use serv_import::{ImportFault, RowRequest, batch};
-use serv_machine::{Halt, Machine, Stage, answer_request};
-use serv_rows::push_bad_row;
+use serv_machine::Machine;
 use std::alloc::Global;
 use std::sync::ledger::Ledger;
 use svc_base::Steps;
-use svc_types::Request;
 
 /// How many bytes are asked for at a time.
 const ROOM: usize = 1 << 16;
 
 /// Opens the journal of the disk, reads the whole source, and answers its rows. Each reply is written once
-/// the disk has its command, before the row after the next is acted on.
+/// the disk has its command, before the next row is acted on.
 pub(crate) fn import<S: Source, K: Sink, D: Disk, L: Ledger>(
     alloc: Global,
     src: &mut S,
@@ -168,100 +163,13 @@ fn answer_rows<D: Disk, M: Machine<D>, K: Sink, L: Ledger>(
 {
     let mut replies = Replies::new(alloc, 0);
     for row in rows {
-        match answer_row(row, &mut replies, machine, disk, snk, steps) {
+        match replies.act(&said_of(row), machine, disk, snk, steps) {
             Ok(()) => {}
             Err(stop) => return stop.status(),
         }
     }
-    match replies.settle(machine, disk, snk) {
+    match replies.let_go(None, 0, machine, disk, snk) {
         Ok(()) => Status::Done,
         Err(stop) => stop.status(),
-    }
-}
-
-/// Acts on a row, and writes the replies before its own, and its own once the disk has all that it brings.
-fn answer_row<D: Disk, M: Machine<D>, K: Sink, L: Ledger>(
-    row: &RowRequest,
-    replies: &mut Replies,
-    machine: &mut M,
-    disk: &mut D,
-    snk: &mut K,
-    steps: &mut Steps<L>,
-) -> Result<(), Stop>
-    requires row { IsRow row.now }
-    requires running { M.running machine.old disk.old }
-    ensures gathered { (said : List Said) (s : Stand) (held : Option (List ℕ))
-        → Gathered replies.old.waiting said s
-        (running (M.history machine.old) (M.kept machine.old) steps.old) held (K.held snk.old)
-        replies.old.begun replies.old.text.items
-        → OnOk result (Gathered replies.old.waiting (said ++ said_of row.now ∷ []) s
-        (running (M.history machine.new) (M.kept machine.new) steps.new) held (K.held snk.new)
-        replies.new.begun replies.new.text.items) }
-    ensures stopped { (said : List Said) (s : Stand) (held : Option (List ℕ))
-        → Gathered replies.old.waiting said s
-        (running (M.history machine.old) (M.kept machine.old) steps.old) held (K.held snk.old)
-        replies.old.begun replies.old.text.items
-        → IfErr result (λ why. Stops D.images D.moment D.images_since disk.old disk.new why
-        (AreFirst (said ++ said_of row.now ∷ [])) replies.old.waiting s (M.kept machine.old)
-        (stand (M.kept machine.new) steps.new) held (K.held snk.new)) }
-    ensures upheld { (said others saids : List Said) (s : Stand) (held : Option (List ℕ)) (log : Option (List Stamp))
-        → saids ≡ said ++ said_of row.now ∷ others
-        → Gathered replies.old.waiting said s
-        (running (M.history machine.old) (M.kept machine.old) steps.old) held (K.held snk.old)
-        replies.old.begun replies.old.text.items
-        → Upholds (AreReplies (AreFirst saids) s.history) (D.moment disk.old) (D.images_since disk.old)
-        (M.kept machine.old).commands held log (K.log snk.old)
-        → Upholds (AreReplies (AreFirst saids) s.history) (D.moment disk.new) (D.images_since disk.new)
-        (M.kept machine.new).commands held log (K.log snk.new) }
-    ensures waiting { replies.new.waiting ≡ replies.old.waiting }
-    ensures disk { OnOk result (OnDisk D.images D.moment D.images_since disk.old disk.new
-        (M.kept machine.old).commands (M.kept machine.new).commands []) }
-    ensures running { OnOk result (M.running machine.new disk.new) }
-    ensures later { K.faults snk.old ≤ K.faults snk.new }
-    ensures cause { result ≡ Err Stop.WriteFault → HasRisen (K.faults snk.old) (K.faults snk.new) }
-    ensures disk_later { D.faults disk.old ≤ D.faults disk.new }
-    ensures disk_cause { result ≡ Err Stop.DiskFault → HasRisen (D.faults disk.old) (D.faults disk.new) }
-{
-    let before = replies.text.len();
-    match reply_to_row(row, &mut replies.text, machine, disk, steps) {
-        Ok(stage) => replies.advance(before, stage, machine, disk, snk),
-        Err(halt) => {
-            replies.give_up(disk, snk);
-            Err(stop_at(halt))
-        }
-    }
-}
-
-/// Acts on a row, and appends its reply; a fresh command is begun. Where it halts nothing is appended.
-fn reply_to_row<D: Disk, M: Machine<D>, L: Ledger>(
-    row: &RowRequest,
-    out: &mut Vec<u8>,
-    machine: &mut M,
-    disk: &mut D,
-    steps: &mut Steps<L>,
-) -> Result<Stage, Halt>
-    requires row { IsRow row.now }
-    requires running { M.running machine.old disk.old }
-    ensures replied { IfOk result (λ stage. IsReplied (said_of row.now) stage
-        (running (M.history machine.old) (M.kept machine.old) steps.old)
-        (running (M.history machine.new) (M.kept machine.new) steps.new) out.old.items out.new.items) }
-    ensures kept { OnErr result (out.new.items ≡ out.old.items) }
-    ensures halts { IfErr result (λ why. IsHalted D.images D.moment D.images_since disk.old disk.new why
-        (said_of row.now) (running (M.history machine.old) (M.kept machine.old) steps.old)
-        (running (M.history machine.new) (M.kept machine.new) steps.new)) }
-    ensures disk { OnOk result (OnDisk D.images D.moment D.images_since disk.old disk.new
-        (M.kept machine.old).commands (M.kept machine.new).commands []) }
-    ensures running { OnOk result (M.running machine.new disk.new) }
-    ensures stopped { result ≡ Err Halt.DiskFault → HasRisen (D.faults disk.old) (D.faults disk.new) }
-    ensures faults { D.faults disk.old ≤ D.faults disk.new }
-{
-    match row {
-        RowRequest::Row(key, command) => {
-            answer_request(machine, disk, &Request::Do(*key, *command), out, steps)
-        }
-        RowRequest::Bad(number, column) => match push_bad_row(out, *number, *column) {
-            Ok(()) => Ok(Stage::Settled),
-            Err(_) => Err(Halt::OutOfMemory),
-        },
     }
 }

@@ -12,7 +12,8 @@ ghost use Rattle.serv_top.specs.Extracts.{lines_of_commands, AreTakenOn, HasRoom
 ghost use Rattle.serv_top.specs.Imported.{FileSays};
 ghost use Rattle.serv_top.specs.Words.{month_in};
 ghost use Rattle.serv_machine.specs.Stands.{Stand};
-ghost use Rattle.serv_top.specs.Machine.{Said, Says};
+ghost use Rattle.serv_top.specs.declared.said.Said.{Said};
+ghost use Rattle.serv_top.specs.Machine.{Says};
 ghost use Rattle.serv_top.specs.Replies.{Answers, IsBegun, IsCutAt, IsCutIn, IsHeldUp, replies_to};
 ghost use Rattle.serv_top.specs.Upheld.{AreFirst, AreSaidFirst, Say};
 ghost use Rattle.serv_top.specs.Whole.{IsCutOff};

@@ -1,7 +1,6 @@
 //! The program's top call: request lines from a source, replies to a sink, and the status of the run.
 #![tactic(auto)]
 
-mod answering;
 mod asking;
 mod drilling;
 mod extracts;
@@ -13,6 +12,7 @@ mod over_journal;
 mod query_words;
 mod replies;
 mod reviews;
+mod said;
 mod serving;
 mod showing;
 mod status;

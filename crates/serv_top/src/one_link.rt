@@ -12,16 +12,16 @@ ghost use Rattle.serv_links.specs.Links.{IsDiskEnd, Serves, link_limit, number_i
 use serv_disk::{Disk, Link};
 use serv_engine::Engine;
 use serv_links::{LinkEnd, serve_link};
+use serv_machine::Frugal;
 use std::alloc::Global;
 use std::sync::ledger::Ledger;
 use svc_base::Steps;
-use svc_checkpoint::Checked;
 
 /// Serves a link to its end over the engine: each request is acted on in its order, its response is written once the
 /// disk has its command, and what is said is that of the bytes, whatever the pieces in which they come.
-pub fn serve_one<D: Disk, C: Link, L: Ledger>(
+pub fn serve_one<B: Frugal, D: Disk, C: Link, L: Ledger>(
     alloc: Global,
-    engine: &mut Engine<Checked>,
+    engine: &mut Engine<B>,
     disk: &mut D,
     link: &mut C,
     steps: &mut Steps<L>,

@@ -3,22 +3,21 @@
 ghost use Rattle.std.specs.Prelude.{◌≡◌, ℕ, ◌+◌, ◌<◌, ◌≤◌, ◌==◌, ◌++◌, List, [], ◌∷◌, Option, Some, Err, false, true, OnErr, OnOk, IfErr, IfOk, length, take, vec_len};
 ghost use Rattle.std.specs.List.{position};
 ghost use Rattle.serv_disk.specs.Faults.{HasRisen};
-ghost use Rattle.serv_disk.specs.Stamps.{Notes, Stamp};
+ghost use Rattle.serv_disk.specs.Stamps.{Stamp};
 ghost use Rattle.serv_machine.specs.OnDisk.{OnDisk};
-ghost use Rattle.serv_top.specs.declared.serving.Stop.TheVariants as stop;
-ghost use Rattle.serv_machine.specs.Stands.{Running, Stand, running, stand};
-ghost use Rattle.serv_top.specs.Serving.{AllServed, ByLine, IsHalted, IsReplied, Served, Stopped, Stops};
+ghost use Rattle.serv_machine.specs.Stands.{Stand, running, stand};
+ghost use Rattle.serv_top.specs.Serving.{AllServed, Served, Stops};
 ghost use Rattle.serv_top.specs.Lines.{IsPlain, ended_lines, lines_of};
 ghost use Rattle.serv_top.specs.Stop.{status_of, stop_of};
 ghost use Rattle.serv_machine.specs.Upheld.{Upholds};
 ghost use Rattle.serv_top.specs.Upheld.{AreReplies, AreSaidFirst};
 
-use crate::answering::answer_line;
 use crate::replies::Replies;
+use crate::said::said_in;
 use crate::status::Status;
 use memchr::memchr;
 use serv_disk::{Disk, Sink};
-use serv_machine::{Halt, Machine, Stage};
+use serv_machine::{Halt, Machine};
 use std::alloc::Global;
 use std::sync::ledger::Ledger;
 use svc_base::{OutOfMemory, Steps};
@@ -78,7 +77,6 @@ impl Serving {
         ensures line { result.line.items ≡ [] }
         ensures replies { result.replies.text.items ≡ [] }
         ensures waiting { result.replies.waiting ≡ waiting }
-        ensures begun { result.replies.begun ≡ false }
     {
         Serving {
             line: Vec::new(alloc),
@@ -98,18 +96,17 @@ impl Serving {
     ) -> Result<(), Stop>
         requires ready { M.ready machine.old disk.old }
         requires empty { self.old.replies.text.items ≡ [] }
-        requires settled { self.old.replies.begun ≡ false }
         ensures fed { (before : List ℕ) (s : Stand) (held : Option (List ℕ))
             → Served self.old.replies.waiting before s
             (running (M.history machine.old) (M.kept machine.old) steps.old) held (K.held snk.old)
-            self.old.replies.begun self.old.line.items self.old.replies.text.items
+            self.old.line.items self.old.replies.text.items
             → OnOk result (Served self.old.replies.waiting (before ++ bytes.now) s
             (running (M.history machine.new) (M.kept machine.new) steps.new) held (K.held snk.new)
-            self.new.replies.begun self.new.line.items self.new.replies.text.items) }
+            self.new.line.items self.new.replies.text.items) }
         ensures stopped { (before : List ℕ) (s : Stand) (held : Option (List ℕ))
             → Served self.old.replies.waiting before s
             (running (M.history machine.old) (M.kept machine.old) steps.old) held (K.held snk.old)
-            self.old.replies.begun self.old.line.items self.old.replies.text.items
+            self.old.line.items self.old.replies.text.items
             → IfErr result (λ why. Stops D.images D.moment D.images_since disk.old disk.new why
             (AreSaidFirst (ended_lines (before ++ bytes.now))) self.old.replies.waiting s (M.kept machine.old)
             (stand (M.kept machine.new) steps.new) held (K.held snk.new)) }
@@ -117,13 +114,12 @@ impl Serving {
             (lines others : List (List ℕ)) → lines ≡ ended_lines (before ++ bytes.now) ++ others
             → Served self.old.replies.waiting before s
             (running (M.history machine.old) (M.kept machine.old) steps.old) held (K.held snk.old)
-            self.old.replies.begun self.old.line.items self.old.replies.text.items
+            self.old.line.items self.old.replies.text.items
             → Upholds (AreReplies (AreSaidFirst lines) s.history) (D.moment disk.old)
             (D.images_since disk.old) (M.kept machine.old).commands held log (K.log snk.old)
             → Upholds (AreReplies (AreSaidFirst lines) s.history) (D.moment disk.new)
             (D.images_since disk.new) (M.kept machine.new).commands held log (K.log snk.new) }
         ensures empty { OnOk result (self.new.replies.text.items ≡ []) }
-        ensures settled { OnOk result (self.new.replies.begun ≡ false) }
         ensures waiting { self.new.replies.waiting ≡ self.old.replies.waiting }
         ensures disk { OnOk result (OnDisk D.images D.moment D.images_since disk.old disk.new
             (M.kept machine.old).commands (M.kept machine.new).commands []) }
@@ -140,7 +136,7 @@ impl Serving {
                 Err(stop) => return Err(stop),
             }
         }
-        self.replies.settle(machine, disk, snk)
+        self.replies.let_go(None, 0, machine, disk, snk)
     }
 
     /// Takes the bytes up to the first line feed, which ends a line, or all of them where there is none; so
@@ -157,14 +153,14 @@ impl Serving {
         ensures fed { (before : List ℕ) (s : Stand) (held : Option (List ℕ))
             → Served self.old.replies.waiting before s
             (running (M.history machine.old) (M.kept machine.old) steps.old) held (K.held snk.old)
-            self.old.replies.begun self.old.line.items self.old.replies.text.items
+            self.old.line.items self.old.replies.text.items
             → IfOk result (λ n. Served self.old.replies.waiting (before ++ take n bytes.now) s
             (running (M.history machine.new) (M.kept machine.new) steps.new) held (K.held snk.new)
-            self.new.replies.begun self.new.line.items self.new.replies.text.items) }
+            self.new.line.items self.new.replies.text.items) }
         ensures stopped { (before : List ℕ) (s : Stand) (held : Option (List ℕ))
             → Served self.old.replies.waiting before s
             (running (M.history machine.old) (M.kept machine.old) steps.old) held (K.held snk.old)
-            self.old.replies.begun self.old.line.items self.old.replies.text.items
+            self.old.line.items self.old.replies.text.items
             → IfErr result (λ why. Stops D.images D.moment D.images_since disk.old disk.new why
             (AreSaidFirst (ended_lines (before ++ bytes.now))) self.old.replies.waiting s (M.kept machine.old)
             (stand (M.kept machine.new) steps.new) held (K.held snk.new)) }
@@ -172,7 +168,7 @@ impl Serving {
             (lines others : List (List ℕ)) → lines ≡ ended_lines (before ++ bytes.now) ++ others
             → Served self.old.replies.waiting before s
             (running (M.history machine.old) (M.kept machine.old) steps.old) held (K.held snk.old)
-            self.old.replies.begun self.old.line.items self.old.replies.text.items
+            self.old.line.items self.old.replies.text.items
             → Upholds (AreReplies (AreSaidFirst lines) s.history) (D.moment disk.old)
             (D.images_since disk.old) (M.kept machine.old).commands held log (K.log snk.old)
             → Upholds (AreReplies (AreSaidFirst lines) s.history) (D.moment disk.new)
@@ -193,7 +189,7 @@ impl Serving {
                 Ok(()) => Ok(at + 1),
                 Err(stop) => Err(stop),
             },
-            None => match self.feed_piece(bytes, disk, snk) {
+            None => match self.feed_piece(bytes, machine, disk, snk) {
                 Ok(()) => Ok(bytes.len()),
                 Err(stop) => Err(stop),
             },
@@ -214,14 +210,14 @@ impl Serving {
         ensures fed { (before : List ℕ) (s : Stand) (held : Option (List ℕ))
             → Served self.old.replies.waiting before s
             (running (M.history machine.old) (M.kept machine.old) steps.old) held (K.held snk.old)
-            self.old.replies.begun self.old.line.items self.old.replies.text.items
+            self.old.line.items self.old.replies.text.items
             → OnOk result (Served self.old.replies.waiting (before ++ (piece.now ++ 10 ∷ [])) s
             (running (M.history machine.new) (M.kept machine.new) steps.new) held (K.held snk.new)
-            self.new.replies.begun self.new.line.items self.new.replies.text.items) }
+            self.new.line.items self.new.replies.text.items) }
         ensures stopped { (before : List ℕ) (s : Stand) (held : Option (List ℕ))
             → Served self.old.replies.waiting before s
             (running (M.history machine.old) (M.kept machine.old) steps.old) held (K.held snk.old)
-            self.old.replies.begun self.old.line.items self.old.replies.text.items
+            self.old.line.items self.old.replies.text.items
             → IfErr result (λ why. Stops D.images D.moment D.images_since disk.old disk.new why
             (AreSaidFirst (ended_lines (before ++ (piece.now ++ 10 ∷ [])))) self.old.replies.waiting s (M.kept machine.old)
             (stand (M.kept machine.new) steps.new) held (K.held snk.new)) }
@@ -229,7 +225,7 @@ impl Serving {
             (lines others : List (List ℕ)) → lines ≡ ended_lines (before ++ (piece.now ++ 10 ∷ [])) ++ others
             → Served self.old.replies.waiting before s
             (running (M.history machine.old) (M.kept machine.old) steps.old) held (K.held snk.old)
-            self.old.replies.begun self.old.line.items self.old.replies.text.items
+            self.old.line.items self.old.replies.text.items
             → Upholds (AreReplies (AreSaidFirst lines) s.history) (D.moment disk.old)
             (D.images_since disk.old) (M.kept machine.old).commands held log (K.log snk.old)
             → Upholds (AreReplies (AreSaidFirst lines) s.history) (D.moment disk.new)
@@ -243,50 +239,66 @@ impl Serving {
         ensures disk_later { D.faults disk.old ≤ D.faults disk.new }
         ensures disk_cause { result ≡ Err Stop.DiskFault → HasRisen (D.faults disk.old) (D.faults disk.new) }
     {
-        match self.feed_piece(piece, disk, snk) {
+        match self.feed_piece(piece, machine, disk, snk) {
             Ok(()) => self.end_line(machine, disk, snk, steps),
             Err(stop) => Err(stop),
         }
     }
 
-    /// Takes bytes without a line feed. Where memory is short, the replies that are not written yet are,
-    /// unless the disk may lack a command of theirs.
-    fn feed_piece<D: Disk, K: Sink>(
+    /// Takes bytes without a line feed. Where memory is short, what is begun is committed and all replies are written.
+    fn feed_piece<D: Disk, M: Machine<D>, K: Sink>(
         &mut self,
         piece: &[u8],
-        disk: &D,
+        machine: &mut M,
+        disk: &mut D,
         snk: &mut K,
     ) -> Result<(), Stop>
         requires plain { IsPlain piece.now }
-        ensures fed { (before : List ℕ) (s : Stand) (t : Running) (held : Option (List ℕ))
-            → Served self.old.replies.waiting before s t held (K.held snk.old)
-            self.old.replies.begun self.old.line.items self.old.replies.text.items
-            → OnOk result (Served self.old.replies.waiting (before ++ piece.now) s t held (K.held snk.new)
-            self.new.replies.begun self.new.line.items self.new.replies.text.items) }
-        ensures stopped { (before : List ℕ) (s : Stand) (t : Running) (held : Option (List ℕ))
-            → Served self.old.replies.waiting before s t held (K.held snk.old)
-            self.old.replies.begun self.old.line.items self.old.replies.text.items
-            → OnErr result (Stopped stop.OutOfMemory (AreSaidFirst (ended_lines (before ++ piece.now)))
-            self.old.replies.waiting s (stand t.kept t.steps) [] held (K.held snk.new)) }
-        ensures memory { IfErr result (λ why. why ≡ Stop.OutOfMemory) }
-        ensures replies { OnOk result (self.new.replies ≡ self.old.replies) }
-        ensures unwritten { OnOk result (snk.new ≡ snk.old) }
-        ensures begun { self.old.replies.begun ≡ true → snk.new ≡ snk.old }
-        ensures noted { (s : List ℕ) → K.held snk.old ≡ Some s → Notes (D.moment disk.now)
-            (length s + length self.old.replies.text.items) (K.log snk.old) (K.log snk.new) }
+        requires running { M.running machine.old disk.old }
+        ensures fed { (before : List ℕ) (s : Stand) (steps : ℕ) (held : Option (List ℕ))
+            → Served self.old.replies.waiting before s
+            (running (M.history machine.old) (M.kept machine.old) steps) held (K.held snk.old)
+            self.old.line.items self.old.replies.text.items
+            → OnOk result (Served self.old.replies.waiting (before ++ piece.now) s
+            (running (M.history machine.new) (M.kept machine.new) steps) held (K.held snk.new)
+            self.new.line.items self.new.replies.text.items) }
+        ensures stopped { (before : List ℕ) (s : Stand) (steps : ℕ) (held : Option (List ℕ))
+            → Served self.old.replies.waiting before s
+            (running (M.history machine.old) (M.kept machine.old) steps) held (K.held snk.old)
+            self.old.line.items self.old.replies.text.items
+            → IfErr result (λ why. Stops D.images D.moment D.images_since disk.old disk.new why
+            (AreSaidFirst (ended_lines (before ++ piece.now))) self.old.replies.waiting s (M.kept machine.old)
+            (stand (M.kept machine.new) steps) held (K.held snk.new)) }
+        ensures upheld { (before : List ℕ) (s : Stand) (steps : ℕ) (held : Option (List ℕ))
+            (log : Option (List Stamp)) (lines others : List (List ℕ))
+            → lines ≡ ended_lines (before ++ piece.now) ++ others
+            → Served self.old.replies.waiting before s
+            (running (M.history machine.old) (M.kept machine.old) steps) held (K.held snk.old)
+            self.old.line.items self.old.replies.text.items
+            → Upholds (AreReplies (AreSaidFirst lines) s.history) (D.moment disk.old)
+            (D.images_since disk.old) (M.kept machine.old).commands held log (K.log snk.old)
+            → Upholds (AreReplies (AreSaidFirst lines) s.history) (D.moment disk.new)
+            (D.images_since disk.new) (M.kept machine.new).commands held log (K.log snk.new) }
+        ensures same { OnOk result ((machine.new ≡ machine.old) × (disk.new ≡ disk.old) × (snk.new ≡ snk.old)) }
         ensures waiting { self.new.replies.waiting ≡ self.old.replies.waiting }
+        ensures disk { OnOk result (OnDisk D.images D.moment D.images_since disk.old disk.new
+            (M.kept machine.old).commands (M.kept machine.new).commands []) }
+        ensures running { OnOk result (M.running machine.new disk.new) }
         ensures later { K.faults snk.old ≤ K.faults snk.new }
+        ensures cause { result ≡ Err Stop.WriteFault → HasRisen (K.faults snk.old) (K.faults snk.new) }
+        ensures disk_later { D.faults disk.old ≤ D.faults disk.new }
+        ensures disk_cause { result ≡ Err Stop.DiskFault → HasRisen (D.faults disk.old) (D.faults disk.new) }
     {
         match self.keep_all(piece) {
             Ok(()) => Ok(()),
-            Err(_) => {
-                self.replies.give_up(disk, snk);
-                Err(Stop::OutOfMemory)
-            }
+            Err(_) => match self.replies.let_go(None, 0, machine, disk, snk) {
+                Ok(()) => Err(Stop::OutOfMemory),
+                Err(stop) => Err(stop),
+            },
         }
     }
 
-    /// Answers a line that has come, and writes the replies that may not wait.
+    /// Answers a line that has come, once the replies before it are written, unless they may wait.
     fn end_line<D: Disk, M: Machine<D>, K: Sink, L: Ledger>(
         &mut self,
         machine: &mut M,
@@ -298,14 +310,14 @@ impl Serving {
         ensures fed { (before : List ℕ) (s : Stand) (held : Option (List ℕ))
             → Served self.old.replies.waiting before s
             (running (M.history machine.old) (M.kept machine.old) steps.old) held (K.held snk.old)
-            self.old.replies.begun self.old.line.items self.old.replies.text.items
+            self.old.line.items self.old.replies.text.items
             → OnOk result (Served self.old.replies.waiting (before ++ 10 ∷ []) s
             (running (M.history machine.new) (M.kept machine.new) steps.new) held (K.held snk.new)
-            self.new.replies.begun self.new.line.items self.new.replies.text.items) }
+            self.new.line.items self.new.replies.text.items) }
         ensures stopped { (before : List ℕ) (s : Stand) (held : Option (List ℕ))
             → Served self.old.replies.waiting before s
             (running (M.history machine.old) (M.kept machine.old) steps.old) held (K.held snk.old)
-            self.old.replies.begun self.old.line.items self.old.replies.text.items
+            self.old.line.items self.old.replies.text.items
             → IfErr result (λ why. Stops D.images D.moment D.images_since disk.old disk.new why
             (AreSaidFirst (ended_lines (before ++ 10 ∷ []))) self.old.replies.waiting s (M.kept machine.old)
             (stand (M.kept machine.new) steps.new) held (K.held snk.new)) }
@@ -313,7 +325,7 @@ impl Serving {
             (lines others : List (List ℕ)) → lines ≡ ended_lines (before ++ 10 ∷ []) ++ others
             → Served self.old.replies.waiting before s
             (running (M.history machine.old) (M.kept machine.old) steps.old) held (K.held snk.old)
-            self.old.replies.begun self.old.line.items self.old.replies.text.items
+            self.old.line.items self.old.replies.text.items
             → Upholds (AreReplies (AreSaidFirst lines) s.history) (D.moment disk.old)
             (D.images_since disk.old) (M.kept machine.old).commands held log (K.log snk.old)
             → Upholds (AreReplies (AreSaidFirst lines) s.history) (D.moment disk.new)
@@ -327,13 +339,13 @@ impl Serving {
         ensures disk_later { D.faults disk.old ≤ D.faults disk.new }
         ensures disk_cause { result ≡ Err Stop.DiskFault → HasRisen (D.faults disk.old) (D.faults disk.new) }
     {
-        let before = self.replies.text.len();
-        match self.answer(machine, disk, steps) {
-            Ok(stage) => self.replies.advance(before, stage, machine, disk, snk),
-            Err(halt) => {
-                self.replies.give_up(disk, snk);
-                Err(stop_at(halt))
+        let said = said_in(&self.line);
+        match self.replies.act(&said, machine, disk, snk, steps) {
+            Ok(()) => {
+                self.line.clear();
+                Ok(())
             }
+            Err(stop) => Err(stop),
         }
     }
 
@@ -348,17 +360,16 @@ impl Serving {
     ) -> Result<(), Stop>
         requires ready { M.ready machine.old disk.old }
         requires empty { self.old.replies.text.items ≡ [] }
-        requires settled { self.old.replies.begun ≡ false }
         ensures served { (bytes : List ℕ) (s : Stand) (held : Option (List ℕ))
             → Served self.old.replies.waiting bytes s
             (running (M.history machine.old) (M.kept machine.old) steps.old) held (K.held snk.old)
-            self.old.replies.begun self.old.line.items self.old.replies.text.items
+            self.old.line.items self.old.replies.text.items
             → OnOk result (AllServed (lines_of bytes) s (stand (M.kept machine.new) steps.new)
             held (K.held snk.new)) }
         ensures stopped { (bytes : List ℕ) (s : Stand) (held : Option (List ℕ))
             → Served self.old.replies.waiting bytes s
             (running (M.history machine.old) (M.kept machine.old) steps.old) held (K.held snk.old)
-            self.old.replies.begun self.old.line.items self.old.replies.text.items
+            self.old.line.items self.old.replies.text.items
             → IfErr result (λ why. Stops D.images D.moment D.images_since disk.old disk.new why
             (AreSaidFirst (lines_of bytes)) self.old.replies.waiting s (M.kept machine.old)
             (stand (M.kept machine.new) steps.new) held (K.held snk.new)) }
@@ -366,7 +377,7 @@ impl Serving {
             (lines others : List (List ℕ)) → lines ≡ lines_of before ++ others
             → Served self.old.replies.waiting before s
             (running (M.history machine.old) (M.kept machine.old) steps.old) held (K.held snk.old)
-            self.old.replies.begun self.old.line.items self.old.replies.text.items
+            self.old.line.items self.old.replies.text.items
             → Upholds (AreReplies (AreSaidFirst lines) s.history) (D.moment disk.old)
             (D.images_since disk.old) (M.kept machine.old).commands held log (K.log snk.old)
             → Upholds (AreReplies (AreSaidFirst lines) s.history) (D.moment disk.new)
@@ -382,43 +393,8 @@ impl Serving {
             return Ok(());
         }
         match self.end_line(machine, disk, snk, steps) {
-            Ok(()) => self.replies.settle(machine, disk, snk),
+            Ok(()) => self.replies.let_go(None, 0, machine, disk, snk),
             Err(stop) => Err(stop),
-        }
-    }
-
-    /// Acts on the line, and begins the next line. The reply is not written yet.
-    fn answer<D: Disk, M: Machine<D>, L: Ledger>(
-        &mut self,
-        machine: &mut M,
-        disk: &mut D,
-        steps: &mut Steps<L>,
-    ) -> Result<Stage, Halt>
-        requires { M.running machine.old disk.old }
-        ensures line { OnOk result (self.new.line.items ≡ []) }
-        ensures replied { IfOk result (λ stage. ByLine self.old.line.items (λ said. IsReplied said stage
-            (running (M.history machine.old) (M.kept machine.old) steps.old)
-            (running (M.history machine.new) (M.kept machine.new) steps.new)
-            self.old.replies.text.items self.new.replies.text.items)) }
-        ensures halts { IfErr result (λ why. ByLine self.old.line.items (λ said. IsHalted D.images D.moment
-            D.images_since disk.old disk.new why said
-            (running (M.history machine.old) (M.kept machine.old) steps.old)
-            (running (M.history machine.new) (M.kept machine.new) steps.new))) }
-        ensures kept { OnErr result (self.new.replies.text.items ≡ self.old.replies.text.items) }
-        ensures waiting { self.new.replies.waiting ≡ self.old.replies.waiting }
-        ensures begun { self.new.replies.begun ≡ self.old.replies.begun }
-        ensures disk { OnOk result (OnDisk D.images D.moment D.images_since disk.old disk.new
-            (M.kept machine.old).commands (M.kept machine.new).commands []) }
-        ensures running { OnOk result (M.running machine.new disk.new) }
-        ensures stopped { result ≡ Err Halt.DiskFault → HasRisen (D.faults disk.old) (D.faults disk.new) }
-        ensures faults { D.faults disk.old ≤ D.faults disk.new }
-    {
-        match answer_line(machine, disk, &self.line, &mut self.replies.text, steps) {
-            Ok(stage) => {
-                self.line.clear();
-                Ok(stage)
-            }
-            Err(halt) => Err(halt),
         }
     }
 

@@ -14,10 +14,15 @@ const LINES: &[u8] = b"k1 day 2024-02-01\nk1 day 2024-02-01\n\n";
 /// What is said to them.
 const SAID: &[u8] = b"ok 1\nok 1\nbad 0\n";
 
-/// Whether these are two writes that count from this moment: one of the first two replies, of which the first waited for
-/// its command, and one of the third.
+/// Whether these are three writes that count from this moment, one of each reply.
 fn are_noted(writes: &[Noted], at: u64) -> bool {
-    writes == [Noted { at, upto: 10 }, Noted { at, upto: 16 }].as_slice()
+    writes
+        == [
+            Noted { at, upto: 5 },
+            Noted { at, upto: 10 },
+            Noted { at, upto: 16 },
+        ]
+        .as_slice()
 }
 
 /// Whether each of the three replies counts from the moment at which the command's last sync had been made: no further call

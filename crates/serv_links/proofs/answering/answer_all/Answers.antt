@@ -1,15 +1,15 @@
-use Rattle.std.proofs.Common.{◌≡◌, ◌+◌, [], ◌∷◌, ◌++◌, take, drop, refl, sym, ap, inl, ◌∙◌, arith, append-nil, append_assoc}
+use Rattle.std.proofs.Common.{◌≡◌, ◌+◌, [], ◌∷◌, ◌++◌, take, drop, sym, ap, refl, subst, ◌∙◌, arith, append-nil, append_assoc}
 use Rattle.std.proofs.lemmas.List.{take_all, take_more}
 use Rattle.serv_disk.specs.Faults.{HasRisen}
 use Rattle.serv_machine.specs.History.{History}
+use Rattle.serv_machine.specs.OnDisk.{OnDisk}
 use Rattle.serv_machine.specs.Stands.{running, stand}
 use Rattle.serv_machine.proofs.OnDiskLemmas.{disk_more, disk_none}
 use Rattle.serv_machine.proofs.UpheldLemmas.{upheld_none}
 use Rattle.serv_links.specs.Answered.{AreAnswers}
 use Rattle.serv_links.proofs.AnsweredLemmas.{call_upheld}
-use Rattle.serv_links.proofs.GatheredLemmas.{gathered_none, round_done, settled_stops}
+use Rattle.serv_links.proofs.GatheredLemmas.{gathered_none, round_done}
 use Rattle.serv_links.proofs.RoundLemmas.{parted, risen_last, round_stops}
-use Rattle.serv_links.proofs.UpheldLemmas.{commands_in, committed_disk, ended_upheld, grown_none, waiting_upheld}
 use Rattle.serv_links.proofs.answering.answer_all.Goals as goal
 
 pub loop-ask-init : goal.loop-ask-init
@@ -18,7 +18,7 @@ loop-ask-init g c =
     record {
       gathered = rw (c.new-responses.ensures.answered, c.new-responses.ensures.waits)
           (gathered_none _ (stand (g.M.Machine.kept c.args.machine.now) c.args.steps.now) (running (g.M.Machine.history c.args.machine.now) (g.M.Machine.kept c.args.machine.now) c.args.steps.now) (g.K.Sink.held c.args.link.now)
-          refl (sym settled.1) (omega arith));
+          (sym settled.1) settled.1 (omega arith));
       upheld = upheld_none (AreAnswers c.args.asks.now (g.M.Machine.kept c.args.machine.now)) (g.D.Disk.moment c.args.disk.now) (g.D.Disk.images_since c.args.disk.now) _ _ _;
       disk = disk_none g.D.Disk.images g.D.Disk.moment g.D.Disk.images_since c.args.disk.now _ _ refl (g.met.M.Machine.keeps_running c.args.machine.now c.args.disk.now settled.0) (g.met.D.Disk.only_now c.args.disk.now);
       count = rw (c.new-responses.ensures.answered, c.new-responses.ensures.waits) refl;
@@ -73,46 +73,42 @@ returns-in-Err-clause-upheld g c =
 
 pub returns-in-Ok-settle-clause-round : goal.returns-in-Ok-settle-clause-round
 returns-in-Ok-settle-clause-round g c =
-    let all : take c.loop-ask.ask-index c.args.asks.now ≡ c.args.asks.now = take_all c.loop-ask.ask-index c.args.asks.now (omega (arith, c.loop-ask-test.false)) in
+    let asks = c.args.asks.now in
+    let all : take c.loop-ask.ask-index asks ≡ asks = take_all c.loop-ask.ask-index asks (omega (arith, c.loop-ask-test.false)) in
     let gathered = rw all at c.loop-ask.invariant.gathered in
-    rw c.in-Ok-settle.ensures.count
-    (round_done gathered g.D.Disk.images g.D.Disk.moment g.D.Disk.images_since c.args.disk.now c.loop-ask.disk c.settle.new.disk (HasRisen (g.K.Sink.faults c.args.link.now) (g.K.Sink.faults c.settle.new.link)) _
-    (g.M.Machine.kept c.settle.new.machine) (g.K.Sink.held c.settle.new.link) c.loop-ask.invariant.disk c.in-Ok-settle.ensures.disk c.in-Ok-settle.ensures.kept c.in-Ok-settle.ensures.written)
+    round_done (c.in-Ok-settle.ensures.gathered asks (stand (g.M.Machine.kept c.args.machine.now) c.args.steps.now) c.loop-ask.steps (g.K.Sink.held c.args.link.now) gathered) g.D.Disk.images g.D.Disk.moment g.D.Disk.images_since
+    c.args.disk.now c.settle.new.disk (HasRisen (g.K.Sink.faults c.args.link.now) (g.K.Sink.faults c.settle.new.link)) _
+    (disk_more g.D.Disk.images g.D.Disk.moment g.D.Disk.images_since c.args.disk.now c.loop-ask.disk c.settle.new.disk _ _ _ [] c.loop-ask.invariant.disk c.in-Ok-settle.ensures.disk)
 
 pub returns-in-Ok-settle-clause-upheld : goal.returns-in-Ok-settle-clause-upheld
 returns-in-Ok-settle-clause-upheld g c =
     let asks = c.args.asks.now in
     let all : take c.loop-ask.ask-index asks ≡ asks = take_all c.loop-ask.ask-index asks (omega (arith, c.loop-ask-test.false)) in
     let gathered = rw all at c.loop-ask.invariant.gathered in
-    let kept = ap (λ (h : History). h.commands) c.in-Ok-settle.ensures.kept ∙ sym (append-nil (g.M.Machine.history c.loop-ask.machine).commands) in
-    let whole = g.met.M.Machine.keeps_running c.settle.new.machine c.settle.new.disk (g.met.M.Machine.settled c.settle.new.machine c.settle.new.disk c.in-Ok-settle.ensures.ready).0 in
-    call_upheld g.D.Disk.images g.D.Disk.moment g.D.Disk.images_since c.loop-ask.disk c.settle.new.disk _ _ [] c.in-Ok-settle.ensures.disk (g.M.Machine.kept c.args.machine.now)
-    (asks ++ []) [] asks (sym (append-nil (asks ++ []) ∙ append-nil asks)) (g.K.Sink.held c.args.link.now) _ _ _ c.loop-ask.invariant.upheld
-    (waiting_upheld g.D.Disk.images g.D.Disk.moment g.D.Disk.images_since gathered c.settle.new.disk (g.met.D.Disk.only_now c.settle.new.disk) [] (g.M.Machine.kept c.settle.new.machine).commands [] _ _ kept
-    (commands_in (g.D.Disk.images c.settle.new.disk) (g.M.Machine.history c.loop-ask.machine).commands (g.M.Machine.kept c.settle.new.machine).commands [] kept whole) c.in-Ok-settle.ensures.noted)
+    let kept = (g.met.M.Machine.settled c.settle.new.machine c.settle.new.disk c.in-Ok-settle.ensures.ready).1 in
+    let run = subst (λ (h : History). OnDisk g.D.Disk.images g.D.Disk.moment g.D.Disk.images_since c.loop-ask.disk c.settle.new.disk (g.M.Machine.kept c.loop-ask.machine).commands h.commands []) (sym kept) c.in-Ok-settle.ensures.disk in
+    call_upheld g.D.Disk.images g.D.Disk.moment g.D.Disk.images_since c.loop-ask.disk c.settle.new.disk _ _ [] run (g.M.Machine.kept c.args.machine.now)
+    asks [] asks (sym (append-nil asks)) (g.K.Sink.held c.args.link.now) _ _ _ c.loop-ask.invariant.upheld
+    (c.settle.ensures.upheld asks (stand (g.M.Machine.kept c.args.machine.now) c.args.steps.now) c.loop-ask.steps (g.K.Sink.held c.args.link.now) gathered)
 
 pub returns-clause-round : goal.returns-clause-round
 returns-clause-round g c =
     let asks = c.args.asks.now in
+    let s = stand (g.M.Machine.kept c.args.machine.now) c.args.steps.now in
     let all : take c.loop-ask.ask-index asks ≡ asks = take_all c.loop-ask.ask-index asks (omega (arith, c.loop-ask-test.false)) in
     let gathered = rw all at c.loop-ask.invariant.gathered in
-    let t = running (g.M.Machine.history c.loop-ask.machine) (g.M.Machine.kept c.loop-ask.machine) c.loop-ask.steps in
-    rw c.in-Err-settle.ensures.same
-    (round_stops g.D.Disk.images g.D.Disk.moment g.D.Disk.images_since (HasRisen (g.K.Sink.faults c.loop-ask.link) (g.K.Sink.faults c.settle.new.link)) (HasRisen (g.K.Sink.faults c.args.link.now) (g.K.Sink.faults c.settle.new.link))
-    c.in-Err-settle.outcome c.args.disk.now c.loop-ask.disk c.settle.new.disk c.loop-ask.responses.answered asks (asks ++ []) [] (stand (g.M.Machine.kept c.args.machine.now) c.args.steps.now) (stand (g.M.Machine.kept c.settle.new.machine) c.loop-ask.steps) _ _ _ _
-    (risen_last _ _ _ c.loop-ask.invariant.later c.settle.ensures.later) (sym (append-nil (asks ++ []) ∙ append-nil asks)) c.loop-ask.invariant.disk
-    (settled_stops gathered g.D.Disk.images g.D.Disk.moment g.D.Disk.images_since c.loop-ask.disk c.settle.new.disk (HasRisen (g.K.Sink.faults c.loop-ask.link) (g.K.Sink.faults c.settle.new.link)) [] t
-    (g.M.Machine.kept c.settle.new.machine) (g.K.Sink.held c.settle.new.link) (inl (refl, refl)) (omega arith) c.in-Err-settle.outcome c.in-Err-settle.ensures.memory c.in-Err-settle.ensures.committed c.in-Err-settle.ensures.left))
+    round_stops g.D.Disk.images g.D.Disk.moment g.D.Disk.images_since (HasRisen (g.K.Sink.faults c.loop-ask.link) (g.K.Sink.faults c.settle.new.link)) (HasRisen (g.K.Sink.faults c.args.link.now) (g.K.Sink.faults c.settle.new.link))
+    c.in-Err-settle.outcome c.args.disk.now c.loop-ask.disk c.settle.new.disk c.settle.new.self.answered asks asks [] s (stand (g.M.Machine.kept c.settle.new.machine) c.loop-ask.steps) _ _ _ _
+    (risen_last _ _ _ c.loop-ask.invariant.later c.settle.ensures.later) (sym (append-nil asks)) c.loop-ask.invariant.disk
+    (c.in-Err-settle.ensures.stopped asks s c.loop-ask.steps (g.K.Sink.held c.args.link.now) gathered)
 
 pub returns-clause-upheld : goal.returns-clause-upheld
 returns-clause-upheld g c =
     let asks = c.args.asks.now in
+    let s = stand (g.M.Machine.kept c.args.machine.now) c.args.steps.now in
+    let held = g.K.Sink.held c.args.link.now in
     let all : take c.loop-ask.ask-index asks ≡ asks = take_all c.loop-ask.ask-index asks (omega (arith, c.loop-ask-test.false)) in
     let gathered = rw all at c.loop-ask.invariant.gathered in
-    let t = running (g.M.Machine.history c.loop-ask.machine) (g.M.Machine.kept c.loop-ask.machine) c.loop-ask.steps in
-    let run = committed_disk g.D.Disk.images g.D.Disk.moment g.D.Disk.images_since c.loop-ask.disk c.settle.new.disk c.in-Err-settle.outcome _ _ _ c.in-Err-settle.ensures.committed in
-    call_upheld g.D.Disk.images g.D.Disk.moment g.D.Disk.images_since c.loop-ask.disk c.settle.new.disk _ _ run.0 run.1 (g.M.Machine.kept c.args.machine.now)
-    (asks ++ []) [] asks (sym (append-nil (asks ++ []) ∙ append-nil asks)) (g.K.Sink.held c.args.link.now) _ _ _ c.loop-ask.invariant.upheld
-    (ended_upheld g.D.Disk.images g.D.Disk.moment g.D.Disk.images_since gathered c.settle.new.disk (g.met.D.Disk.only_now c.settle.new.disk) c.loop-ask.disk [] t (g.M.Machine.kept c.settle.new.machine)
-    (HasRisen (g.K.Sink.faults c.loop-ask.link) (g.K.Sink.faults c.settle.new.link)) (g.K.Sink.held c.settle.new.link) _ _ (inl (refl, refl)) (grown_none (g.M.Machine.history c.loop-ask.machine) (g.M.Machine.history c.loop-ask.machine) refl)
-    c.in-Err-settle.outcome c.in-Err-settle.ensures.committed c.in-Err-settle.ensures.left c.in-Err-settle.ensures.ended)
+    let stops = c.in-Err-settle.ensures.stopped asks s c.loop-ask.steps held gathered in
+    call_upheld g.D.Disk.images g.D.Disk.moment g.D.Disk.images_since c.loop-ask.disk c.settle.new.disk _ _ stops.pending stops.disk (g.M.Machine.kept c.args.machine.now)
+    asks [] asks (sym (append-nil asks)) held _ _ _ c.loop-ask.invariant.upheld (c.settle.ensures.upheld asks s c.loop-ask.steps held gathered)

@@ -1,34 +1,25 @@
-use Rattle.std.proofs.Common.{ap, inl, refl, arith, Err}
+use Rattle.std.proofs.Common.{ap, refl}
+use Rattle.serv_machine.specs.History.{History}
 use Rattle.serv_machine.proofs.OnDiskLemmas.{disk_none}
-use Rattle.serv_machine.specs.Stands.{running}
-use Rattle.serv_links.proofs.VerdictLemmas.{no_body_decided, fault_decided}
+use Rattle.serv_links.specs.Responses.{response_to}
+use Rattle.serv_links.specs.Verdicts.{response_of}
 use Rattle.serv_links.proofs.deciding.decide.Goals as goal
 
-pub returns-in-Err-NotRequest-clause-decided : goal.returns-in-Err-NotRequest-clause-decided
-returns-in-Err-NotRequest-clause-decided g c =
-    rw c.in-Post.is
-    (no_body_decided (running (g.M.Machine.history c.args.machine.now) (g.M.Machine.kept c.args.machine.now) c.args.steps.now) _ (refl, refl) (omega arith) _ _
-    (rw c.bytes.ensures at (c.in-Err-NotRequest.ensures.refused (ap Err c.in-Err-NotRequest.field-0-is))))
+pub returns-in-Ok-clause-disk : goal.returns-in-Ok-clause-disk
+returns-in-Ok-clause-disk g c = λ other.
+    disk_none g.D.Disk.images g.D.Disk.moment g.D.Disk.images_since c.args.disk.now _ _ (ap (λ (h : History). h.commands) (g.met.M.Machine.settled c.args.machine.now c.args.disk.now c.requires.ready).1)
+    (g.met.M.Machine.keeps c.args.machine.now c.args.disk.now c.requires.ready) (g.met.D.Disk.only_now c.args.disk.now)
 
-pub returns-in-Err-NotRequest-clause-disk : goal.returns-in-Err-NotRequest-clause-disk
-returns-in-Err-NotRequest-clause-disk g c =
-    disk_none g.D.Disk.images g.D.Disk.moment g.D.Disk.images_since c.args.disk.now _ _ refl
-    (g.met.M.Machine.keeps_running c.args.machine.now c.args.disk.now c.requires.running) (g.met.D.Disk.only_now c.args.disk.now)
+pub returns-in-Err-clause-disk : goal.returns-in-Err-clause-disk
+returns-in-Err-clause-disk g c = λ other.
+    disk_none g.D.Disk.images g.D.Disk.moment g.D.Disk.images_since c.args.disk.now _ _ (ap (λ (h : History). h.commands) (g.met.M.Machine.settled c.args.machine.now c.args.disk.now c.requires.ready).1)
+    (g.met.M.Machine.keeps c.args.machine.now c.args.disk.now c.requires.ready) (g.met.D.Disk.only_now c.args.disk.now)
 
-pub returns-in-Err-OutOfMemory-clause-halted : goal.returns-in-Err-OutOfMemory-clause-halted
-returns-in-Err-OutOfMemory-clause-halted g c = (
-  refl,
-  inl (omega arith),
-  disk_none g.D.Disk.images g.D.Disk.moment g.D.Disk.images_since c.args.disk.now _ _ refl
-      (g.met.M.Machine.keeps_running c.args.machine.now c.args.disk.now c.requires.running) (g.met.D.Disk.only_now c.args.disk.now),
-)
+pub returns-in-Faulty-clause-response : goal.returns-in-Faulty-clause-response
+unfolding response_of response_to
+returns-in-Faulty-clause-response g c = rw c.in-Faulty.is refl
 
-pub returns-in-Fault-clause-decided : goal.returns-in-Fault-clause-decided
-returns-in-Fault-clause-decided g c =
-    rw c.in-Fault.is
-    (fault_decided (running (g.M.Machine.history c.args.machine.now) (g.M.Machine.kept c.args.machine.now) c.args.steps.now) _ (refl, refl) (omega arith) _ _ _)
-
-pub returns-in-Fault-clause-disk : goal.returns-in-Fault-clause-disk
-returns-in-Fault-clause-disk g c =
-    disk_none g.D.Disk.images g.D.Disk.moment g.D.Disk.images_since c.args.disk.now _ _ refl
-    (g.met.M.Machine.keeps_running c.args.machine.now c.args.disk.now c.requires.running) (g.met.D.Disk.only_now c.args.disk.now)
+pub returns-in-Faulty-clause-disk : goal.returns-in-Faulty-clause-disk
+returns-in-Faulty-clause-disk g c = λ other.
+    disk_none g.D.Disk.images g.D.Disk.moment g.D.Disk.images_since c.args.disk.now _ _ (ap (λ (h : History). h.commands) (g.met.M.Machine.settled c.args.machine.now c.args.disk.now c.requires.ready).1)
+    (g.met.M.Machine.keeps c.args.machine.now c.args.disk.now c.requires.ready) (g.met.D.Disk.only_now c.args.disk.now)

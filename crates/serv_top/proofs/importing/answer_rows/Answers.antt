@@ -1,4 +1,4 @@
-use Rattle.std.proofs.Common.{take, drop, map, refl, ap, arith, suc, false, []}
+use Rattle.std.proofs.Common.{take, drop, map, refl, ap, arith, suc, []}
 use Rattle.std.proofs.lemmas.List.{take_all}
 use Rattle.serv_machine.specs.History.{History}
 use Rattle.serv_machine.proofs.OnDiskLemmas.{disk_none, disk_more}
@@ -15,7 +15,7 @@ pub loop-row-init : goal.loop-row-init
 loop-row-init g c =
     let settled = g.met.M.Machine.settled c.args.machine.now c.args.disk.now c.requires.ready in
     record {
-      gathers = rw c.new-replies.ensures.begun (gathered_none 0 _ _ _ _ c.new-replies.ensures.text refl settled.1 (omega arith));
+      gathers = gathered_none 0 _ _ _ _ c.new-replies.ensures.text refl settled.1 (omega arith);
       upheld = upheld_none _ _ _ _ _ _;
       disk = disk_none g.D.Disk.images g.D.Disk.moment g.D.Disk.images_since c.args.disk.now _ _ (ap (λ (h : History). h.commands) settled.1)
           (g.met.M.Machine.keeps c.args.machine.now c.args.disk.now c.requires.ready) (g.met.D.Disk.only_now c.args.disk.now);
@@ -25,8 +25,8 @@ loop-row-init g c =
       disk_later = omega arith;
     }
 
-pub answer_row-requires-clause-row : goal.answer_row-requires-clause-row
-answer_row-requires-clause-row g c = is_row c.args.rows.now c.loop-row.row-index c.row-item.result c.row-item.is c.requires.rows c.loop-row-test.true
+pub said_of-requires : goal.said_of-requires
+said_of-requires g c = is_row c.args.rows.now c.loop-row.row-index c.row-item.result c.row-item.is c.requires.rows c.loop-row-test.true
 
 pub loop-row-preserved : goal.loop-row-preserved
 loop-row-preserved g c =
@@ -34,16 +34,18 @@ loop-row-preserved g c =
     let i = c.loop-row.row-index in
     let item = c.row-item.result in
     let inv = c.loop-row.invariant in
-    let said = rw inv.waiting at c.answer_row.ensures in
-    let next = rw inv.waiting at c.in-Ok.ensures in
+    let said = rw (inv.waiting, c.said_of.ensures.said) at c.act.ensures in
+    let next = rw (inv.waiting, c.said_of.ensures.said) at c.in-Ok.ensures in
     record {
       gathers = rw (next_item list i item c.row-item.is c.loop-row-test.true) (next.gathered (map said_of (take i list)) _ _ inv.gathers);
-      upheld = said.upheld (map said_of (take i list)) (map said_of (drop (suc i) list)) (map said_of list) _ _ _ (item_at list i item c.row-item.is c.loop-row-test.true) inv.gathers inv.upheld;
+      upheld = upheld_call g.D.Disk.images g.D.Disk.moment g.D.Disk.images_since c.loop-row.disk c.act.new.disk _ _ [] c.in-Ok.ensures.disk (AreFirst _) (AreFirst (map said_of list)) _ _ _ _ _
+          (first_rows (map said_of list) (map said_of (take i list)) (map said_of (drop (suc i) list)) (said_of item) (item_at list i item c.row-item.is c.loop-row-test.true)) inv.upheld
+          (said.upheld (map said_of (take i list)) _ _ inv.gathers);
       disk = disk_more g.D.Disk.images g.D.Disk.moment g.D.Disk.images_since _ _ _ _ _ _ _ inv.disk c.in-Ok.ensures.disk;
       running = c.in-Ok.ensures.running;
-      waiting = rw c.answer_row.ensures.waiting inv.waiting;
-      write_later = omega (arith, inv.write_later, c.answer_row.ensures.later);
-      disk_later = omega (arith, inv.disk_later, c.answer_row.ensures.disk_later);
+      waiting = rw c.act.ensures.waiting inv.waiting;
+      write_later = omega (arith, inv.write_later, c.act.ensures.later);
+      disk_later = omega (arith, inv.disk_later, c.act.ensures.disk_later);
     }
 
 pub returns-in-Err-clause-ends : goal.returns-in-Err-clause-ends
@@ -52,50 +54,55 @@ returns-in-Err-clause-ends g c =
     let i = c.loop-row.row-index in
     let item = c.row-item.result in
     let inv = c.loop-row.invariant in
-    let stops = (rw inv.waiting at c.in-Err.ensures.stopped) (map said_of (take i list)) _ _ inv.gathers in
+    let stops = (rw (inv.waiting, c.said_of.ensures.said) at c.in-Err.ensures.stopped) (map said_of (take i list)) _ _ inv.gathers in
     rw c.status.ensures
-    (rows_stopped g.D.Disk.images g.D.Disk.moment g.D.Disk.images_since c.args.disk.now c.loop-row.disk c.answer_row.new.disk (map said_of list) _ _ _ _ _ inv.disk c.in-Err.stop _
+    (rows_stopped g.D.Disk.images g.D.Disk.moment g.D.Disk.images_since c.args.disk.now c.loop-row.disk c.act.new.disk (map said_of list) _ _ _ _ _ inv.disk c.in-Err.stop _
     (first_rows (map said_of list) (map said_of (take i list)) (map said_of (drop (suc i) list)) (said_of item) (item_at list i item c.row-item.is c.loop-row-test.true)) stops)
 
 pub returns-in-Err-clause-upheld : goal.returns-in-Err-clause-upheld
 returns-in-Err-clause-upheld g c =
     let list = c.args.rows.now in
     let i = c.loop-row.row-index in
+    let item = c.row-item.result in
     let inv = c.loop-row.invariant in
-    (rw inv.waiting at c.answer_row.ensures.upheld) (map said_of (take i list)) (map said_of (drop (suc i) list)) (map said_of list) _ _ _
-    (item_at list i c.row-item.result c.row-item.is c.loop-row-test.true) inv.gathers inv.upheld
+    let said = rw (inv.waiting, c.said_of.ensures.said) at c.act.ensures in
+    let stops = (rw (inv.waiting, c.said_of.ensures.said) at c.in-Err.ensures.stopped) (map said_of (take i list)) _ _ inv.gathers in
+    upheld_call g.D.Disk.images g.D.Disk.moment g.D.Disk.images_since c.loop-row.disk c.act.new.disk _ _ stops.pending stops.disk (AreFirst _) (AreFirst (map said_of list)) _ _ _ _ _
+    (first_rows (map said_of list) (map said_of (take i list)) (map said_of (drop (suc i) list)) (said_of item) (item_at list i item c.row-item.is c.loop-row-test.true)) inv.upheld
+    (said.upheld (map said_of (take i list)) _ _ inv.gathers)
 
-pub returns-in-Ok-settle-clause-ends : goal.returns-in-Ok-settle-clause-ends
-returns-in-Ok-settle-clause-ends g c =
+pub returns-in-Ok-let_go-clause-ends : goal.returns-in-Ok-let_go-clause-ends
+returns-in-Ok-let_go-clause-ends g c =
     let list = c.args.rows.now in
     let inv = c.loop-row.invariant in
     let all = rw (take_all c.loop-row.row-index list (omega (arith, c.loop-row-test.false))) at inv.gathers in
-    rows_settled g.D.Disk.images g.D.Disk.moment g.D.Disk.images_since c.args.disk.now c.loop-row.disk c.settle.new.disk (map said_of list) _ _ (g.M.Machine.kept c.loop-row.machine) _ _ inv.disk
-    (running (g.M.Machine.history c.settle.new.machine) (g.M.Machine.kept c.settle.new.machine) c.loop-row.steps) refl
-    ((rw inv.waiting at c.in-Ok-settle.ensures.gathered) (map said_of list) _ _ _ all) c.in-Ok-settle.ensures.disk
+    rows_settled g.D.Disk.images g.D.Disk.moment g.D.Disk.images_since c.args.disk.now c.loop-row.disk c.let_go.new.disk (map said_of list) _ _ (g.M.Machine.kept c.loop-row.machine) _ _ inv.disk
+    (running (g.M.Machine.history c.let_go.new.machine) (g.M.Machine.kept c.let_go.new.machine) c.loop-row.steps) _ refl
+    (g.met.M.Machine.settled c.let_go.new.machine c.let_go.new.disk c.in-Ok-let_go.ensures.ready).1 c.in-Ok-let_go.ensures.few
+    ((rw inv.waiting at c.in-Ok-let_go.ensures.gathered) (map said_of list) _ _ _ all) c.in-Ok-let_go.ensures.disk
 
-pub returns-in-Ok-settle-clause-upheld : goal.returns-in-Ok-settle-clause-upheld
-returns-in-Ok-settle-clause-upheld g c =
+pub returns-in-Ok-let_go-clause-upheld : goal.returns-in-Ok-let_go-clause-upheld
+returns-in-Ok-let_go-clause-upheld g c =
     let list = c.args.rows.now in
     let inv = c.loop-row.invariant in
     let all = rw (take_all c.loop-row.row-index list (omega (arith, c.loop-row-test.false))) at inv.gathers in
-    upheld_call g.D.Disk.images g.D.Disk.moment g.D.Disk.images_since c.loop-row.disk c.settle.new.disk _ _ [] c.in-Ok-settle.ensures.disk (AreFirst (map said_of list)) (AreFirst (map said_of list)) _ _ _ _ _
-    (λ said is. is) inv.upheld ((rw inv.waiting at c.settle.ensures.upheld) (map said_of list) _ _ _ all)
+    upheld_call g.D.Disk.images g.D.Disk.moment g.D.Disk.images_since c.loop-row.disk c.let_go.new.disk _ _ [] c.in-Ok-let_go.ensures.disk (AreFirst (map said_of list)) (AreFirst (map said_of list)) _ _ _ _ _
+    (λ said is. is) inv.upheld ((rw inv.waiting at c.let_go.ensures.upheld) (map said_of list) _ _ _ all)
 
 pub returns-clause-ends : goal.returns-clause-ends
 returns-clause-ends g c =
     let list = c.args.rows.now in
     let inv = c.loop-row.invariant in
     let all = rw (take_all c.loop-row.row-index list (omega (arith, c.loop-row-test.false))) at inv.gathers in
-    rw c.status-in-Err-settle.ensures
-    (rows_stopped g.D.Disk.images g.D.Disk.moment g.D.Disk.images_since c.args.disk.now c.loop-row.disk c.settle.new.disk (map said_of list) _ _ _ _ _ inv.disk c.in-Err-settle.stop (map said_of list) (λ said is. is)
-    ((rw inv.waiting at c.in-Err-settle.ensures.stopped) (map said_of list) _ _ _ all))
+    rw c.status-in-Err-let_go.ensures
+    (rows_stopped g.D.Disk.images g.D.Disk.moment g.D.Disk.images_since c.args.disk.now c.loop-row.disk c.let_go.new.disk (map said_of list) _ _ _ _ _ inv.disk c.in-Err-let_go.stop (map said_of list) (λ said is. is)
+    ((rw inv.waiting at c.in-Err-let_go.ensures.stopped) (map said_of list) _ _ _ all))
 
 pub returns-clause-upheld : goal.returns-clause-upheld
 returns-clause-upheld g c =
     let list = c.args.rows.now in
     let inv = c.loop-row.invariant in
     let all = rw (take_all c.loop-row.row-index list (omega (arith, c.loop-row-test.false))) at inv.gathers in
-    let stops = (rw inv.waiting at c.in-Err-settle.ensures.stopped) (map said_of list) _ _ _ all in
-    upheld_call g.D.Disk.images g.D.Disk.moment g.D.Disk.images_since c.loop-row.disk c.settle.new.disk _ _ stops.pending stops.disk (AreFirst (map said_of list)) (AreFirst (map said_of list)) _ _ _ _ _
-    (λ said is. is) inv.upheld ((rw inv.waiting at c.settle.ensures.upheld) (map said_of list) _ _ _ all)
+    let stops = (rw inv.waiting at c.in-Err-let_go.ensures.stopped) (map said_of list) _ _ _ all in
+    upheld_call g.D.Disk.images g.D.Disk.moment g.D.Disk.images_since c.loop-row.disk c.let_go.new.disk _ _ stops.pending stops.disk (AreFirst (map said_of list)) (AreFirst (map said_of list)) _ _ _ _ _
+    (λ said is. is) inv.upheld ((rw inv.waiting at c.let_go.ensures.upheld) (map said_of list) _ _ _ all)

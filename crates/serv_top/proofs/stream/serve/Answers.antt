@@ -14,7 +14,7 @@ loop-taken-init g c =
     let settled = g.met.M.Machine.settled c.args.machine.now c.args.disk.now c.requires in
     record {
       going = record {
-        run = course_none _ _ _ _ _ _ _ _ c.new-serving.ensures.line c.new-serving.ensures.replies c.new-serving.ensures.begun refl settled.1 (omega arith);
+        run = course_none _ _ _ _ _ _ _ c.new-serving.ensures.line c.new-serving.ensures.replies refl settled.1 (omega arith);
         upheld = upheld_none _ _ _ _ _ _;
       };
       disk = disk_none g.D.Disk.images g.D.Disk.moment g.D.Disk.images_since c.args.disk.now _ _ (ap (λ (h : History). h.commands) settled.1)
@@ -22,7 +22,6 @@ loop-taken-init g c =
       ready = c.requires;
       waiting = c.new-serving.ensures.waiting;
       empty = c.new-serving.ensures.replies;
-      settled = c.new-serving.ensures.begun;
       within = omega arith;
       read_later = omega arith;
       write_later = omega arith;
@@ -81,13 +80,12 @@ loop-taken-preserved g c =
     let bytes = take n c.read_some.new.room in
     let upheld = rw c.loop-taken.invariant.waiting at c.feed_all.ensures.upheld in
     record {
-      going = going_more going bytes n _ _ _ _ _ _ _ _ _ long c.in-Ok.ensures.taken (fed going.run.taken _ _ going.run.served)
+      going = going_more going bytes n _ _ _ _ _ _ _ _ long c.in-Ok.ensures.taken (fed going.run.taken _ _ going.run.served)
           (upheld going.run.taken _ _ _ (ended_lines (going.run.taken ++ bytes)) [] (sym (append-nil _)) going.run.served (upheld_taken _ _ _ _ _ _ _ going.run.taken bytes going.upheld));
       disk = disk_more g.D.Disk.images g.D.Disk.moment g.D.Disk.images_since _ _ _ _ _ _ _ c.loop-taken.invariant.disk c.in-Ok-feed_all.ensures.disk;
       ready = c.in-Ok-feed_all.ensures.ready;
       waiting = rw c.feed_all.ensures.waiting c.loop-taken.invariant.waiting;
       empty = c.in-Ok-feed_all.ensures.empty;
-      settled = c.in-Ok-feed_all.ensures.settled;
       within = within;
       read_later = omega (arith, c.loop-taken.invariant.read_later, c.read_some.ensures.cause.later);
       write_later = omega (arith, c.loop-taken.invariant.write_later, c.feed_all.ensures.later);

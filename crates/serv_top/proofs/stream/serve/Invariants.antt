@@ -1,4 +1,4 @@
-use Rattle.std.proofs.Common.{◌≡◌, ◌-◌, ◌^◌, ◌≤◌, false, []}
+use Rattle.std.proofs.Common.{◌≡◌, ◌-◌, ◌^◌, ◌≤◌, []}
 use Rattle.serv_machine.specs.OnDisk.{OnDisk}
 use Rattle.serv_machine.specs.Stands.{stand, running}
 use Rattle.serv_top.proofs.GoingLemmas.{Going}
@@ -6,12 +6,11 @@ use Rattle.serv_top.proofs.stream.serve.Given as goal
 
 abbrev pub invariant-loop-taken : goal.invariant-loop-taken
 invariant-loop-taken g l = record {
-  going : Going (g.D.Disk.moment l.disk) (g.D.Disk.images_since l.disk) l.waiting (stand (g.M.Machine.history l.fn.machine) l.fn.steps) (running (g.M.Machine.history l.machine) (g.M.Machine.kept l.machine) l.steps) (g.S.Source.left l.fn.src) (g.S.Source.left l.src) (g.K.Sink.held l.fn.snk) (g.K.Sink.held l.snk) l.serving.replies.begun l.serving.line.items l.serving.replies.text.items l.taken (g.K.Sink.log l.fn.snk) (g.K.Sink.log l.snk);
+  going : Going (g.D.Disk.moment l.disk) (g.D.Disk.images_since l.disk) l.waiting (stand (g.M.Machine.history l.fn.machine) l.fn.steps) (running (g.M.Machine.history l.machine) (g.M.Machine.kept l.machine) l.steps) (g.S.Source.left l.fn.src) (g.S.Source.left l.src) (g.K.Sink.held l.fn.snk) (g.K.Sink.held l.snk) l.serving.line.items l.serving.replies.text.items l.taken (g.K.Sink.log l.fn.snk) (g.K.Sink.log l.snk);
   disk : OnDisk g.D.Disk.images g.D.Disk.moment g.D.Disk.images_since l.fn.disk l.disk (g.M.Machine.history l.fn.machine).commands (g.M.Machine.kept l.machine).commands [];
   ready : g.M.Machine.ready l.machine l.disk;
   waiting : l.serving.replies.waiting ≡ l.waiting;
   empty : l.serving.replies.text.items ≡ [];
-  settled : l.serving.replies.begun ≡ false;
   within : l.taken ≤ 2 ^ 26;
   read_later : g.S.Source.faults l.fn.src ≤ g.S.Source.faults l.src;
   write_later : g.K.Sink.faults l.fn.snk ≤ g.K.Sink.faults l.snk;

@@ -9,9 +9,9 @@ use Rattle.serv_engine.specs.Histories.{IsAroundFor}
 use Rattle.serv_engine.specs.Engines.{EngineState, IsRunningIn, IsRunning, kept_of, begun_of}
 use Rattle.serv_engine.specs.Submitting.{HasRoom, IsSubmitFault}
 use Rattle.serv_engine.specs.Entering.{risked, kept_after}
-use Rattle.serv_engine.proofs.DurableLemmas.{durable_in, running_in, good_now}
-use Rattle.serv_engine.proofs.RunningLemmas.{same_parts_of, running_reaches, durable_is_running, none_kept_of, none_begun_of}
-use Rattle.serv_engine.proofs.EnteringLemmas.{enter_running, enter_parts, enter_none, idle_risked, rest_risked, was_begun, withdrawn_durable}
+use Rattle.serv_engine.proofs.DurableLemmas.{running_in, good_now}
+use Rattle.serv_engine.proofs.RunningLemmas.{same_parts_of, running_reaches}
+use Rattle.serv_engine.proofs.EnteringLemmas.{enter_running, enter_parts, enter_none, idle_risked, rest_risked}
 use Rattle.serv_engine.proofs.FaultLemmas.{submit_fault, core_kept, fresh_fault}
 use Rattle.serv_engine.proofs.SubmitLemmas.{kept_reply, kept_history, fresh_reply, fresh_history, one_more, next_same, not_both, length_more, length_same, ok_not_spent, unspent_now, err_not_spent, err_spent, still_same, kept_engine}
 use Rattle.serv_engine.proofs.engine.Engine.enter.Goals as goal
@@ -168,8 +168,8 @@ pub returns-in-Err-clause-spent : goal.returns-in-Err-clause-spent
 returns-in-Err-clause-spent g c =
     err_not_spent c.of_core.result c.self.inside.journal.spent (λ is. core_kept c.in-Err.fault (sym c.of_core.ensures ∙ is)) (ap (λ (s : EngineState). s.journal.spent) c.self.view_is ∙ c.requires.unspent)
 
-pub returns-in-Ok-write_beside-clause-reply : goal.returns-in-Ok-write_beside-clause-reply
-returns-in-Ok-write_beside-clause-reply g c =
+pub returns-in-Ok-put_command-clause-reply : goal.returns-in-Ok-put_command-clause-reply
+returns-in-Ok-put_command-clause-reply g c =
     let h = c.self.inside.core.history in
     let key = c.args.key.now in
     let command = c.args.command.now in
@@ -178,8 +178,8 @@ returns-in-Ok-write_beside-clause-reply g c =
     subst (λ (s : EngineState). IsReplyTo s.history command (judged s.history key command) c.accept.result) c.self.view_is
     (fresh_reply h command said c.accept.result fresh_is (next_same h c.judge.new.self.history command c.accept.result c.judge.ensures.history c.accept.ensures.reply))
 
-pub returns-in-Ok-write_beside-clause-history : goal.returns-in-Ok-write_beside-clause-history
-returns-in-Ok-write_beside-clause-history g c =
+pub returns-in-Ok-put_command-clause-history : goal.returns-in-Ok-put_command-clause-history
+returns-in-Ok-put_command-clause-history g c =
     let h = c.self.inside.core.history in
     let key = c.args.key.now in
     let command = c.args.command.now in
@@ -191,8 +191,8 @@ returns-in-Ok-write_beside-clause-history g c =
     subst (λ (s : EngineState). h_now ≡ history_after s.history key command (judged s.history key command)) c.self.view_is
     (fresh_history h h_now key command said fresh_is more)
 
-pub returns-in-Ok-write_beside-clause-taken : goal.returns-in-Ok-write_beside-clause-taken
-returns-in-Ok-write_beside-clause-taken g c =
+pub returns-in-Ok-put_command-clause-taken : goal.returns-in-Ok-put_command-clause-taken
+returns-in-Ok-put_command-clause-taken g c =
     let images = g.D.Disk.images in
     let h = c.self.inside.core.history in
     let a : Accepted = accepted c.args.key.now c.args.command.now in
@@ -205,8 +205,8 @@ returns-in-Ok-write_beside-clause-taken g c =
     let parts = enter_parts c.args.until form (images c.put_command.new.disk) old now a more (c.in-Ok-put_command.ensures.put form (kept_of old) (begun_of old) e) in
     (subst (λ (s : EngineState). judged s.history c.args.key.now c.args.command.now ≡ Fresh) c.self.view_is fresh_is, (parts.0 ∙ ap (λ (s : EngineState). kept_after c.args.until s.history a) c.self.view_is, parts.1))
 
-pub returns-in-Ok-write_beside-clause-running_in : goal.returns-in-Ok-write_beside-clause-running_in
-returns-in-Ok-write_beside-clause-running_in g c =
+pub returns-in-Ok-put_command-clause-running_in : goal.returns-in-Ok-put_command-clause-running_in
+returns-in-Ok-put_command-clause-running_in g c =
     let images = g.D.Disk.images in
     let h = c.self.inside.core.history in
     let a : Accepted = accepted c.args.key.now c.args.command.now in
@@ -217,8 +217,8 @@ returns-in-Ok-write_beside-clause-running_in g c =
     let e = subst (λ (s : EngineState). IsRunningIn form (images c.args.disk.now) s) (sym c.self.view_is) r in
     enter_running c.args.until form (images c.put_command.new.disk) old now a more (c.in-Ok-put_command.ensures.put form (kept_of old) (begun_of old) e)
 
-pub returns-in-Ok-write_beside-clause-running : goal.returns-in-Ok-write_beside-clause-running
-returns-in-Ok-write_beside-clause-running g c =
+pub returns-in-Ok-put_command-clause-running : goal.returns-in-Ok-put_command-clause-running
+returns-in-Ok-put_command-clause-running g c =
     let images = g.D.Disk.images in
     let h = c.self.inside.core.history in
     let a : Accepted = accepted c.args.key.now c.args.command.now in
@@ -230,20 +230,20 @@ returns-in-Ok-write_beside-clause-running g c =
     running_in form (images c.put_command.new.disk) now
     (enter_running c.args.until form (images c.put_command.new.disk) old now a more (c.in-Ok-put_command.ensures.put form (kept_of old) (begun_of old) e))
 
-pub returns-in-Ok-write_beside-clause-room : goal.returns-in-Ok-write_beside-clause-room
-returns-in-Ok-write_beside-clause-room g c =
+pub returns-in-Ok-put_command-clause-room : goal.returns-in-Ok-put_command-clause-room
+returns-in-Ok-put_command-clause-room g c =
     let key = c.args.key.now in
     let command = c.args.command.now in
     subst (λ (s : EngineState). (judged s.history key command) ≡ Fresh → HasRoom s.journal (accepted key command)) c.self.view_is
     (λ fresh. c.in-Ok-put_command.ensures.room)
 
-pub returns-in-Ok-write_beside-clause-spent : goal.returns-in-Ok-write_beside-clause-spent
-returns-in-Ok-write_beside-clause-spent g c =
+pub returns-in-Ok-put_command-clause-spent : goal.returns-in-Ok-put_command-clause-spent
+returns-in-Ok-put_command-clause-spent g c =
     let j_now = c.put_command.new.journal in
     ok_not_spent _ j_now.spent (unspent_now tt j_now.spent c.in-Ok-put_command.ensures.spent.1)
 
-pub returns-in-Ok-write_beside-clause-length : goal.returns-in-Ok-write_beside-clause-length
-returns-in-Ok-write_beside-clause-length g c =
+pub returns-in-Ok-put_command-clause-length : goal.returns-in-Ok-put_command-clause-length
+returns-in-Ok-put_command-clause-length g c =
     let images = g.D.Disk.images in
     let h = c.self.inside.core.history in
     let a : Accepted = accepted c.args.key.now c.args.command.now in
@@ -257,8 +257,8 @@ returns-in-Ok-write_beside-clause-length g c =
     (enter_running c.args.until form (images c.put_command.new.disk) old now a more (c.in-Ok-put_command.ensures.put form (kept_of old) (begun_of old) e))
     (ap (λ (s : EngineState). s.journal.version) (sym c.self.view_is) ∙ c.self.invariant) (c.put_command.ensures.same_version ∙ c.self.invariant) place is
 
-pub returns-in-Ok-write_beside-clause-bound : goal.returns-in-Ok-write_beside-clause-bound
-returns-in-Ok-write_beside-clause-bound g c =
+pub returns-in-Ok-put_command-clause-bound : goal.returns-in-Ok-put_command-clause-bound
+returns-in-Ok-put_command-clause-bound g c =
     let h = c.self.inside.core.history in
     let key = c.args.key.now in
     let command = c.args.command.now in
@@ -268,130 +268,6 @@ returns-in-Ok-write_beside-clause-bound g c =
     (let within = submitting_within g.B.LoanBooks.cost g.B.LoanBooks.month_cost h key command is free c.history_holds.ensures.history in
     let counted = fresh_counted g.B.LoanBooks.cost g.B.LoanBooks.month_cost h c.judge.new.self.history key command c.args.steps.now c.judge.new.steps c.accept.new.steps fresh_is c.judge.ensures.history c.judge.ensures.steps c.accept.ensures.steps in
     omega (arith, counted, within))
-
-pub returns-in-Err-write_beside-clause-moments : goal.returns-in-Err-write_beside-clause-moments
-returns-in-Err-write_beside-clause-moments g c =
-    let images = g.D.Disk.images in
-    let old : EngineState = record { history = c.self.inside.core.history; journal = c.self.inside.journal } in
-    let disk = c.args.disk.now in
-    let disk_now = c.put_command.new.disk in
-    λ form r.
-    let e = subst (λ (s : EngineState). IsRunningIn form (images c.args.disk.now) s) (sym c.self.view_is) r in
-    subst (λ (s : EngineState). LeavesOnly g.D.Disk.moment g.D.Disk.images_since disk disk_now (IsAroundFor form (kept_of s) (risked c.args.until (begun_of s) (accepted c.args.key.now c.args.command.now)))) c.self.view_is
-    (c.put_command.ensures.moments form (kept_of old) (begun_of old) e)
-
-pub returns-in-Err-write_beside-clause-good : goal.returns-in-Err-write_beside-clause-good
-returns-in-Err-write_beside-clause-good g c =
-    let images = g.D.Disk.images in
-    let old : EngineState = record { history = c.self.inside.core.history; journal = c.self.inside.journal } in
-    let disk = c.args.disk.now in
-    let disk_now = c.put_command.new.disk in
-    λ form r.
-    let e = subst (λ (s : EngineState). IsRunningIn form (images c.args.disk.now) s) (sym c.self.view_is) r in
-    good_now g.D.Disk.moment images g.D.Disk.images_since disk disk_now (IsAroundFor form (kept_of c.args.self.now) (risked c.args.until (begun_of c.args.self.now) (accepted c.args.key.now c.args.command.now))) g.met.D.Disk.counts_now
-    (subst (λ (s : EngineState). LeavesOnly g.D.Disk.moment g.D.Disk.images_since disk disk_now (IsAroundFor form (kept_of s) (risked c.args.until (begun_of s) (accepted c.args.key.now c.args.command.now)))) c.self.view_is
-    (c.put_command.ensures.moments form (kept_of old) (begun_of old) e))
-
-pub returns-in-Err-write_beside-clause-room : goal.returns-in-Err-write_beside-clause-room
-returns-in-Err-write_beside-clause-room g c =
-    let key = c.args.key.now in
-    let command = c.args.command.now in
-    subst (λ (s : EngineState). (judged s.history key command) ≡ Fresh → HasRoom s.journal (accepted key command)) c.self.view_is
-    (λ fresh. c.in-Ok-put_command.ensures.room)
-
-pub returns-in-Err-write_beside-clause-limit : goal.returns-in-Err-write_beside-clause-limit
-returns-in-Err-write_beside-clause-limit g c =
-    c.withdraw.ensures.limit ∙ c.put_command.ensures.limit ∙ ap (λ (s : EngineState). s.journal.limit) c.self.view_is
-
-pub returns-in-Err-write_beside-clause-version : goal.returns-in-Err-write_beside-clause-version
-returns-in-Err-write_beside-clause-version g c =
-    c.withdraw.ensures.same_version ∙ c.put_command.ensures.same_version ∙ c.self.invariant
-
-pub returns-in-Err-write_beside-clause-history : goal.returns-in-Err-write_beside-clause-history
-returns-in-Err-write_beside-clause-history g c = c.judge.ensures.history ∙ ap (λ (s : EngineState). s.history) c.self.view_is
-
-pub returns-in-Err-write_beside-clause-running_in : goal.returns-in-Err-write_beside-clause-running_in
-returns-in-Err-write_beside-clause-running_in g c =
-    let images = g.D.Disk.images in
-    let a : Accepted = accepted c.args.key.now c.args.command.now in
-    let old : EngineState = record { history = c.self.inside.core.history; journal = c.self.inside.journal } in
-    let now : EngineState = record { history = c.judge.new.self.history; journal = c.withdraw.new.self } in
-    let begun = was_begun c.args.until _ _ c.args.waiting.now c.requires.nothing c.in-Err-write_beside.ensures.part in
-    λ form r.
-    let e = subst (λ (s : EngineState). IsRunningIn form (images c.args.disk.now) s) (sym c.self.view_is) r in
-    durable_is_running form (images c.put_command.new.disk) now
-    (withdrawn_durable c.args.until form (images c.put_command.new.disk) old now a c.put_command.new.journal begun c.judge.ensures.history
-    (c.in-Ok-put_command.ensures.put form (kept_of old) (begun_of old) e) (c.withdraw.ensures.withdrawn form))
-
-pub returns-in-Err-write_beside-clause-running : goal.returns-in-Err-write_beside-clause-running
-returns-in-Err-write_beside-clause-running g c =
-    let images = g.D.Disk.images in
-    let a : Accepted = accepted c.args.key.now c.args.command.now in
-    let old : EngineState = record { history = c.self.inside.core.history; journal = c.self.inside.journal } in
-    let now : EngineState = record { history = c.judge.new.self.history; journal = c.withdraw.new.self } in
-    let begun = was_begun c.args.until _ _ c.args.waiting.now c.requires.nothing c.in-Err-write_beside.ensures.part in
-    let form = c.requires.running.form in
-    let e = subst (λ (s : EngineState). IsRunningIn form (images c.args.disk.now) s) (sym c.self.view_is) c.requires.running.kept in
-    running_in form (images c.put_command.new.disk) now (durable_is_running form (images c.put_command.new.disk) now
-    (withdrawn_durable c.args.until form (images c.put_command.new.disk) old now a c.put_command.new.journal begun c.judge.ensures.history
-    (c.in-Ok-put_command.ensures.put form (kept_of old) (begun_of old) e) (c.withdraw.ensures.withdrawn form)))
-
-pub returns-in-Err-write_beside-clause-withdrawn : goal.returns-in-Err-write_beside-clause-withdrawn
-returns-in-Err-write_beside-clause-withdrawn g c = λ is.
-    let images = g.D.Disk.images in
-    let a : Accepted = accepted c.args.key.now c.args.command.now in
-    let old : EngineState = record { history = c.self.inside.core.history; journal = c.self.inside.journal } in
-    let now : EngineState = record { history = c.judge.new.self.history; journal = c.withdraw.new.self } in
-    let begun = was_begun c.args.until _ _ c.args.waiting.now c.requires.nothing c.in-Err-write_beside.ensures.part in
-    let form = c.requires.running.form in
-    let e = subst (λ (s : EngineState). IsRunningIn form (images c.args.disk.now) s) (sym c.self.view_is) c.requires.running.kept in
-    durable_in form (images c.put_command.new.disk) now
-    (withdrawn_durable c.args.until form (images c.put_command.new.disk) old now a c.put_command.new.journal begun c.judge.ensures.history
-    (c.in-Ok-put_command.ensures.put form (kept_of old) (begun_of old) e) (c.withdraw.ensures.withdrawn form))
-
-pub returns-in-Err-write_beside-clause-taken : goal.returns-in-Err-write_beside-clause-taken
-returns-in-Err-write_beside-clause-taken g c =
-    let h = c.self.inside.core.history in
-    let now : EngineState = record { history = c.judge.new.self.history; journal = c.withdraw.new.self } in
-    let begun = was_begun c.args.until _ _ c.args.waiting.now c.requires.nothing c.in-Err-write_beside.ensures.part in
-    let fresh_is = subst (λ v. IsVerdict (judged h c.args.key.now c.args.command.now) v) c.in-Fresh.is c.in-Ok.ensures.verdict in (
-      subst (λ (s : EngineState). judged s.history c.args.key.now c.args.command.now ≡ Fresh) c.self.view_is fresh_is,
-      (none_kept_of now c.withdraw.ensures.none ∙ c.judge.ensures.history ∙ ap (λ (s : EngineState). s.history) c.self.view_is, none_begun_of now c.withdraw.ensures.none, begun),
-    )
-
-pub returns-in-Err-write_beside-clause-spent : goal.returns-in-Err-write_beside-clause-spent
-returns-in-Err-write_beside-clause-spent g c =
-    let put = unspent_now tt c.put_command.new.journal.spent c.in-Ok-put_command.ensures.spent.1 in
-    ok_not_spent _ _ (c.withdraw.ensures.spent ∙ put)
-
-pub returns-in-Err-write_beside-clause-length : goal.returns-in-Err-write_beside-clause-length
-returns-in-Err-write_beside-clause-length g c =
-    let images = g.D.Disk.images in
-    let a : Accepted = accepted c.args.key.now c.args.command.now in
-    let old : EngineState = record { history = c.self.inside.core.history; journal = c.self.inside.journal } in
-    let now : EngineState = record { history = c.judge.new.self.history; journal = c.withdraw.new.self } in
-    let begun = was_begun c.args.until _ _ c.args.waiting.now c.requires.nothing c.in-Err-write_beside.ensures.part in
-    let form = c.requires.running.form in
-    let e = subst (λ (s : EngineState). IsRunningIn form (images c.args.disk.now) s) (sym c.self.view_is) c.requires.running.kept in
-    λ place is.
-    length_more form (images c.args.disk.now) (images c.put_command.new.disk) c.args.self.now now c.requires.running.kept
-    (durable_is_running form (images c.put_command.new.disk) now
-    (withdrawn_durable c.args.until form (images c.put_command.new.disk) old now a c.put_command.new.journal begun c.judge.ensures.history
-    (c.in-Ok-put_command.ensures.put form (kept_of old) (begun_of old) e) (c.withdraw.ensures.withdrawn form)))
-    (ap (λ (s : EngineState). s.journal.version) (sym c.self.view_is) ∙ c.self.invariant) (c.withdraw.ensures.same_version ∙ c.put_command.ensures.same_version ∙ c.self.invariant) place is
-
-pub returns-in-Err-write_beside-clause-bound : goal.returns-in-Err-write_beside-clause-bound
-returns-in-Err-write_beside-clause-bound g c =
-    let key = c.args.key.now in
-    let command = c.args.command.now in
-    λ is free.
-    subst (λ (s : EngineState). c.judge.new.steps ≤ c.args.steps.now + step_bound s.history key command) c.self.view_is
-    (let within = submitting_within g.B.LoanBooks.cost g.B.LoanBooks.month_cost c.self.inside.core.history key command is free c.history_holds.ensures.history in
-    let le = c.judge.ensures.steps in
-    omega (arith, le, within))
-
-pub returns-in-Err-write_beside-clause-none : goal.returns-in-Err-write_beside-clause-none
-returns-in-Err-write_beside-clause-none g c = λ is. c.withdraw.ensures.none
 
 pub returns-in-Err-put_command-clause-fault : goal.returns-in-Err-put_command-clause-fault
 returns-in-Err-put_command-clause-fault g c =
@@ -428,8 +304,8 @@ returns-in-Err-put_command-clause-bound g c =
     let le = c.judge.ensures.steps in
     omega (arith, le, within))
 
-pub returns-in-Ok-write_beside-clause-moments : goal.returns-in-Ok-write_beside-clause-moments
-returns-in-Ok-write_beside-clause-moments g c =
+pub returns-in-Ok-put_command-clause-moments : goal.returns-in-Ok-put_command-clause-moments
+returns-in-Ok-put_command-clause-moments g c =
     let images = g.D.Disk.images in
     let old : EngineState = record { history = c.self.inside.core.history; journal = c.self.inside.journal } in
     let disk = c.args.disk.now in
@@ -439,8 +315,8 @@ returns-in-Ok-write_beside-clause-moments g c =
     subst (λ (s : EngineState). LeavesOnly g.D.Disk.moment g.D.Disk.images_since disk disk_now (IsAroundFor form (kept_of s) (risked c.args.until (begun_of s) (accepted c.args.key.now c.args.command.now)))) c.self.view_is
     (c.put_command.ensures.moments form (kept_of old) (begun_of old) e)
 
-pub returns-in-Ok-write_beside-clause-good : goal.returns-in-Ok-write_beside-clause-good
-returns-in-Ok-write_beside-clause-good g c =
+pub returns-in-Ok-put_command-clause-good : goal.returns-in-Ok-put_command-clause-good
+returns-in-Ok-put_command-clause-good g c =
     let images = g.D.Disk.images in
     let old : EngineState = record { history = c.self.inside.core.history; journal = c.self.inside.journal } in
     let disk = c.args.disk.now in
@@ -451,12 +327,12 @@ returns-in-Ok-write_beside-clause-good g c =
     (subst (λ (s : EngineState). LeavesOnly g.D.Disk.moment g.D.Disk.images_since disk disk_now (IsAroundFor form (kept_of s) (risked c.args.until (begun_of s) (accepted c.args.key.now c.args.command.now)))) c.self.view_is
     (c.put_command.ensures.moments form (kept_of old) (begun_of old) e))
 
-pub returns-in-Ok-write_beside-clause-limit : goal.returns-in-Ok-write_beside-clause-limit
-returns-in-Ok-write_beside-clause-limit g c =
+pub returns-in-Ok-put_command-clause-limit : goal.returns-in-Ok-put_command-clause-limit
+returns-in-Ok-put_command-clause-limit g c =
     c.put_command.ensures.limit ∙ ap (λ (s : EngineState). s.journal.limit) c.self.view_is
 
-pub returns-in-Ok-write_beside-clause-version : goal.returns-in-Ok-write_beside-clause-version
-returns-in-Ok-write_beside-clause-version g c =
+pub returns-in-Ok-put_command-clause-version : goal.returns-in-Ok-put_command-clause-version
+returns-in-Ok-put_command-clause-version g c =
     c.put_command.ensures.same_version ∙ c.self.invariant
 
 pub returns-in-Err-put_command-clause-moments : goal.returns-in-Err-put_command-clause-moments
@@ -525,8 +401,8 @@ put_command-requires-clause-alone g c = λ is. ap (λ (s : EngineState). s.journ
 pub returns-in-Repeat-clause-none : goal.returns-in-Repeat-clause-none
 returns-in-Repeat-clause-none g c = λ is. ap (λ (s : EngineState). s.journal.begun) c.self.view_is ∙ c.requires.alone is
 
-pub returns-in-Ok-write_beside-clause-none : goal.returns-in-Ok-write_beside-clause-none
-returns-in-Ok-write_beside-clause-none g c =
+pub returns-in-Ok-put_command-clause-none : goal.returns-in-Ok-put_command-clause-none
+returns-in-Ok-put_command-clause-none g c =
     let old : EngineState = record { history = c.self.inside.core.history; journal = c.self.inside.journal } in
     let form = c.requires.running.form in
     let e = subst (λ (s : EngineState). IsRunningIn form (g.D.Disk.images c.args.disk.now) s) (sym c.self.view_is) c.requires.running.kept in

@@ -31,20 +31,20 @@ pub returns-in-Ok-take_over-clause-exactly_not_journal : goal.returns-in-Ok-take
 returns-in-Ok-take_over-clause-exactly_not_journal g c =
     λ s is none. let o = (c.in-Ok.ensures.opened s is) in absurd (read_or_none o.form (lines_in c.in-Ok.frames) o.commit o.rest s o.read none)
 
-pub returns-in-Ok-clause-moments : goal.returns-in-Ok-clause-moments
-returns-in-Ok-clause-moments g c =
+pub returns-in-Err-take_over-clause-moments : goal.returns-in-Err-take_over-clause-moments
+returns-in-Err-take_over-clause-moments g c =
     let frames = c.in-Ok.frames in
     let disk = c.args.disk.now in
     let disk_opened = c.open.new.disk in
     λ s is h a hist each.
     moments_taken g.D.Disk.moment g.D.Disk.images_since disk disk_opened c.take_over.new.disk (lines_in frames) h a (which_lines (g.D.Disk.seen disk_opened) c.in-Ok.journal frames s h a hist (each s (g.met.D.Disk.reads_image disk s is)) (c.in-Ok.ensures.opened s is)) (c.open.ensures.moments s is (lines_of_history h) (line_of_command a) (are_lines h (history_front h a hist).formed) (let last = history_last h a hist in command_is_line a last.0 last.1) each) c.take_over.ensures.moments
 
-pub returns-in-Ok-clause-exactly_not_journal : goal.returns-in-Ok-clause-exactly_not_journal
-returns-in-Ok-clause-exactly_not_journal g c =
+pub returns-in-Err-take_over-clause-exactly_not_journal : goal.returns-in-Err-take_over-clause-exactly_not_journal
+returns-in-Err-take_over-clause-exactly_not_journal g c =
     λ s is none. let o = (c.in-Ok.ensures.opened s is) in absurd (read_or_none o.form (lines_in c.in-Ok.frames) o.commit o.rest s o.read none)
 
-pub returns-clause-moments : goal.returns-clause-moments
-returns-clause-moments g c =
+pub returns-in-Err-clause-moments : goal.returns-in-Err-clause-moments
+returns-in-Err-clause-moments g c =
     λ s is h a hist each.
     c.open.ensures.moments s is (lines_of_history h) (line_of_command a) (are_lines h (history_front h a hist).formed) (let last = history_last h a hist in command_is_line a last.0 last.1) each
 
@@ -70,8 +70,8 @@ pub returns-in-Ok-take_over-clause-faults : goal.returns-in-Ok-take_over-clause-
 returns-in-Ok-take_over-clause-faults g c =
     let first = c.open.ensures.faults in let second = c.take_over.ensures.faults in omega (arith, first, second)
 
-pub returns-in-Ok-clause-fault : goal.returns-in-Ok-clause-fault
-returns-in-Ok-clause-fault g c =
+pub returns-in-Err-take_over-clause-fault : goal.returns-in-Err-take_over-clause-fault
+returns-in-Err-take_over-clause-fault g c =
     let old_faults = (g.D.Disk.faults c.args.disk.now) in
     let new_faults = (g.D.Disk.faults c.take_over.new.disk) in
     let journal_is = c.in-Ok.journal in
@@ -81,8 +81,8 @@ returns-in-Ok-clause-fault g c =
     λ s is.
     (taking_fault (g.D.Disk.seen disk_opened) journal_is frames s c.args.limit old_faults new_faults failed (c.in-Ok.ensures.opened s is) c.in-Ok.ensures.fresh.0 (taking_later journal_is frames old_faults (g.D.Disk.faults disk_opened) new_faults failed c.open.ensures.faults c.take_over.ensures.faults c.in-Err-take_over.ensures.fault))
 
-pub returns-in-Ok-clause-cause : goal.returns-in-Ok-clause-cause
-returns-in-Ok-clause-cause g c =
+pub returns-in-Err-take_over-clause-cause : goal.returns-in-Err-take_over-clause-cause
+returns-in-Err-take_over-clause-cause g c =
     let old_faults = (g.D.Disk.faults c.args.disk.now) in
     let new_faults = (g.D.Disk.faults c.take_over.new.disk) in
     let journal_is = c.in-Ok.journal in
@@ -90,8 +90,8 @@ returns-in-Ok-clause-cause g c =
     let failed = c.in-Err-take_over.fault in
     taking_cause journal_is frames old_faults new_faults failed (taking_later journal_is frames old_faults (g.D.Disk.faults c.open.new.disk) new_faults failed c.open.ensures.faults c.take_over.ensures.faults c.in-Err-take_over.ensures.fault)
 
-pub returns-in-Ok-clause-exactly_damaged : goal.returns-in-Ok-clause-exactly_damaged
-returns-in-Ok-clause-exactly_damaged g c =
+pub returns-in-Err-take_over-clause-exactly_damaged : goal.returns-in-Err-take_over-clause-exactly_damaged
+returns-in-Err-take_over-clause-exactly_damaged g c =
     let old_faults = (g.D.Disk.faults c.args.disk.now) in
     let new_faults = (g.D.Disk.faults c.take_over.new.disk) in
     let journal_is = c.in-Ok.journal in
@@ -102,8 +102,8 @@ returns-in-Ok-clause-exactly_damaged g c =
     λ s place is damaged.
     let o = (c.in-Ok.ensures.opened s is) in only_damaged limit place old_faults new_faults s failed o.form (lines_in frames) o.commit o.rest o.read damaged (taking_fault (g.D.Disk.seen disk_opened) journal_is frames s limit old_faults new_faults failed (c.in-Ok.ensures.opened s is) c.in-Ok.ensures.fresh.0 (taking_later journal_is frames old_faults (g.D.Disk.faults disk_opened) new_faults failed c.open.ensures.faults c.take_over.ensures.faults c.in-Err-take_over.ensures.fault))
 
-pub returns-in-Ok-clause-exactly_full : goal.returns-in-Ok-clause-exactly_full
-returns-in-Ok-clause-exactly_full g c =
+pub returns-in-Err-take_over-clause-exactly_full : goal.returns-in-Err-take_over-clause-exactly_full
+returns-in-Err-take_over-clause-exactly_full g c =
     let old_faults = (g.D.Disk.faults c.args.disk.now) in
     let new_faults = (g.D.Disk.faults c.take_over.new.disk) in
     let journal_is = c.in-Ok.journal in
@@ -114,16 +114,16 @@ returns-in-Ok-clause-exactly_full g c =
     λ s bytes is long.
     only_full limit bytes old_faults new_faults s failed long (taking_fault (g.D.Disk.seen disk_opened) journal_is frames s limit old_faults new_faults failed (c.in-Ok.ensures.opened s is) c.in-Ok.ensures.fresh.0 (taking_later journal_is frames old_faults (g.D.Disk.faults disk_opened) new_faults failed c.open.ensures.faults c.take_over.ensures.faults c.in-Err-take_over.ensures.fault))
 
-pub returns-in-Ok-clause-kept : goal.returns-in-Ok-clause-kept
-returns-in-Ok-clause-kept g c =
+pub returns-in-Err-take_over-clause-kept : goal.returns-in-Err-take_over-clause-kept
+returns-in-Err-take_over-clause-kept g c =
     taken_kept g.D.Disk.seen c.in-Err-take_over.fault c.in-Ok.journal c.in-Ok.frames c.args.disk.now c.open.new.disk c.take_over.new.disk c.in-Ok.ensures.opened c.in-Err-take_over.ensures.kept
 
-pub returns-in-Ok-clause-faults : goal.returns-in-Ok-clause-faults
-returns-in-Ok-clause-faults g c =
+pub returns-in-Err-take_over-clause-faults : goal.returns-in-Err-take_over-clause-faults
+returns-in-Err-take_over-clause-faults g c =
     let first = c.open.ensures.faults in let second = c.take_over.ensures.faults in omega (arith, first, second)
 
-pub returns-in-Ok-clause-bound_err : goal.returns-in-Ok-clause-bound_err
-returns-in-Ok-clause-bound_err g c =
+pub returns-in-Err-take_over-clause-bound_err : goal.returns-in-Err-take_over-clause-bound_err
+returns-in-Err-take_over-clause-bound_err g c =
     λ is free.
     inr (record {
       lines = lines_in c.in-Ok.frames;
@@ -131,8 +131,8 @@ returns-in-Ok-clause-bound_err g c =
       of_file = λ s told. let o = c.in-Ok.ensures.opened s told in record { form = o.form; commit = o.commit; rest = o.rest; read = o.read };
     })
 
-pub returns-clause-fault : goal.returns-clause-fault
-returns-clause-fault g c =
+pub returns-in-Err-clause-fault : goal.returns-in-Err-clause-fault
+returns-in-Err-clause-fault g c =
     let seen = g.D.Disk.seen in
     let old_faults = (g.D.Disk.faults c.args.disk.now) in
     let mid_faults = (g.D.Disk.faults c.open.new.disk) in
@@ -140,41 +140,41 @@ returns-clause-fault g c =
     let disk = c.args.disk.now in
     subst (λ f. (s : List ℕ) → (seen disk) ≡ Some s → IsOpenFault limit s old_faults mid_faults f) (sym c.of_journal.ensures) (journal_fault (seen disk) limit old_faults mid_faults c.in-Err.fault c.in-Err.ensures.fault (λ is. c.in-Err.ensures.not_journal (ap (λ x. Err x) is)) c.in-Err.ensures.damaged)
 
-pub returns-clause-cause : goal.returns-clause-cause
-returns-clause-cause g c =
+pub returns-in-Err-clause-cause : goal.returns-in-Err-clause-cause
+returns-in-Err-clause-cause g c =
     let old_faults = (g.D.Disk.faults c.args.disk.now) in
     let mid_faults = (g.D.Disk.faults c.open.new.disk) in
     subst (λ f. IsOpenCause old_faults mid_faults f) (sym c.of_journal.ensures) (journal_cause old_faults mid_faults c.in-Err.fault c.in-Err.ensures.fault)
 
-pub returns-clause-exactly_not_journal : goal.returns-clause-exactly_not_journal
-returns-clause-exactly_not_journal g c =
+pub returns-in-Err-clause-exactly_not_journal : goal.returns-in-Err-clause-exactly_not_journal
+returns-in-Err-clause-exactly_not_journal g c =
     let old_faults = (g.D.Disk.faults c.args.disk.now) in
     let mid_faults = (g.D.Disk.faults c.open.new.disk) in
     λ s is none.
     subst (λ f. (f ≡ fault.NotJournal) ⊎ IsPassing old_faults mid_faults f) (sym c.of_journal.ensures) (journal_only old_faults mid_faults c.in-Err.fault journal.NotJournal (c.in-Err.ensures.exactly_not_journal s is none))
 
-pub returns-clause-exactly_damaged : goal.returns-clause-exactly_damaged
-returns-clause-exactly_damaged g c =
+pub returns-in-Err-clause-exactly_damaged : goal.returns-in-Err-clause-exactly_damaged
+returns-in-Err-clause-exactly_damaged g c =
     let old_faults = (g.D.Disk.faults c.args.disk.now) in
     let mid_faults = (g.D.Disk.faults c.open.new.disk) in
     λ s place is damaged.
     subst (λ f. (f ≡ fault.Damaged place) ⊎ IsPassing old_faults mid_faults f) (sym c.of_journal.ensures) (journal_damaged (g.D.Disk.seen c.args.disk.now) old_faults mid_faults c.in-Err.fault s place c.in-Err.ensures.fault (λ is. c.in-Err.ensures.not_journal (ap (λ x. Err x) is)) c.in-Err.ensures.damaged is (c.in-Err.ensures.exactly_damaged s place is) damaged)
 
-pub returns-clause-exactly_full : goal.returns-clause-exactly_full
-returns-clause-exactly_full g c =
+pub returns-in-Err-clause-exactly_full : goal.returns-in-Err-clause-exactly_full
+returns-in-Err-clause-exactly_full g c =
     let old_faults = (g.D.Disk.faults c.args.disk.now) in
     let mid_faults = (g.D.Disk.faults c.open.new.disk) in
     λ s bytes is long.
     subst (λ f. (f ≡ fault.JournalFull bytes) ⊎ IsPassing old_faults mid_faults f) (sym c.of_journal.ensures) (inr (journal_passes (g.D.Disk.seen c.args.disk.now) old_faults mid_faults c.in-Err.fault long.form (lines_of_history long.history) long.commit long.rest s c.in-Err.ensures.fault (λ is. c.in-Err.ensures.not_journal (ap (λ x. Err x) is)) c.in-Err.ensures.damaged is long.read))
 
-pub returns-clause-kept : goal.returns-clause-kept
-returns-clause-kept g c =
+pub returns-in-Err-clause-kept : goal.returns-in-Err-clause-kept
+returns-in-Err-clause-kept g c =
     let seen = g.D.Disk.seen in
     let disk = c.args.disk.now in
     let disk_opened = c.open.new.disk in
     let told = seen disk_opened in
     subst (λ f. (f ≡ fault.DiskFault) ⊎ ((seen disk_opened ≡ seen disk) ⊎ ((s : List ℕ) → seen disk ≡ Some s → IsClosed s told))) (sym c.of_journal.ensures) (journal_kept_or c.in-Err.fault (seen disk_opened ≡ seen disk) ((s : List ℕ) → seen disk ≡ Some s → IsClosed s told) c.in-Err.ensures.kept)
 
-pub returns-clause-bound_err : goal.returns-clause-bound_err
-returns-clause-bound_err g c =
+pub returns-in-Err-clause-bound_err : goal.returns-in-Err-clause-bound_err
+returns-in-Err-clause-bound_err g c =
     λ is free. inl refl

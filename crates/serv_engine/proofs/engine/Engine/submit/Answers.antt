@@ -5,7 +5,7 @@ use Rattle.serv_engine.specs.Histories.{IsGoodFor}
 use Rattle.serv_engine.proofs.DurableLemmas.{durable_in}
 use Rattle.serv_engine.proofs.RunningLemmas.{durable_is_running, durable_running, none_kept_of}
 use Rattle.serv_engine.proofs.EnteringLemmas.{running_durable}
-use Rattle.serv_engine.proofs.SubmitLemmas.{taken_unchanged, ok_not_spent, unspent_now, err_spent, never_withdrawn, reply_said, history_taken}
+use Rattle.serv_engine.proofs.SubmitLemmas.{taken_unchanged, ok_not_spent, unspent_now, err_spent}
 use Rattle.serv_engine.proofs.engine.Engine.submit.Goals as goal
 
 pub enter-requires-clause-running : goal.enter-requires-clause-running
@@ -15,7 +15,7 @@ pub enter-requires-clause-alone : goal.enter-requires-clause-alone
 enter-requires-clause-alone g c = λ is. c.requires.durable.kept.gate
 
 pub returns-in-Ok-clause-repeated : goal.returns-in-Ok-clause-repeated
-returns-in-Ok-clause-repeated g c = λ reply is. taken_unchanged _ c.in-Ok.taken _ _ _ reply c.in-Ok.ensures.taken is
+returns-in-Ok-clause-repeated g c = λ reply is. taken_unchanged _ c.in-Ok.taken _ _ reply c.in-Ok.ensures.taken is
 
 pub returns-in-Ok-clause-durable : goal.returns-in-Ok-clause-durable
 returns-in-Ok-clause-durable g c =
@@ -54,12 +54,3 @@ returns-in-Err-clause-good g c = λ form d.
 
 pub returns-in-Err-clause-spent : goal.returns-in-Err-clause-spent
 returns-in-Err-clause-spent g c = err_spent c.in-Err.fault c.enter.new.self.journal.spent c.in-Err.ensures.spent.0 c.in-Err.ensures.spent.1
-
-pub reply-requires : goal.reply-requires
-reply-requires g c = never_withdrawn _ c.in-Ok.taken _ _ _ _ c.in-Ok.ensures.taken
-
-pub returns-in-Ok-clause-reply : goal.returns-in-Ok-clause-reply
-returns-in-Ok-clause-reply g c = reply_said c.in-Ok.taken _ c.reply.result (never_withdrawn _ c.in-Ok.taken _ _ _ _ c.in-Ok.ensures.taken) c.reply.ensures c.in-Ok.ensures.reply
-
-pub returns-in-Ok-clause-history : goal.returns-in-Ok-clause-history
-returns-in-Ok-clause-history g c = history_taken c.in-Ok.taken _ _ _ (never_withdrawn _ c.in-Ok.taken _ _ _ _ c.in-Ok.ensures.taken) c.in-Ok.ensures.history

@@ -7,7 +7,7 @@ use Rattle.serv_journal.proofs.journal.Journal.commit.Goals as goal
 pub returns-in-Ok-clause-committed : goal.returns-in-Ok-clause-committed
 returns-in-Ok-clause-committed g c = λ form lines begun kept.
     let k = subst (λ (j : JournalState). IsKept form (g.D.Disk.images c.args.disk.now) j lines begun) (sym c.self.view_is) kept in
-    commit_kept form _ _ _ _ lines begun c.in-Some.gate c.in-Some.is refl refl refl refl c.in-Ok.ensures.durable k
+    commit_kept form _ _ _ _ lines begun c.in-Some.gate c.in-Some.is refl refl refl refl refl c.in-Ok.ensures.durable k
 
 pub returns-in-Ok-clause-moments : goal.returns-in-Ok-clause-moments
 returns-in-Ok-clause-moments g c = λ form lines begun kept.

@@ -38,7 +38,7 @@ returns-clause-opened g c = λ s is.
 pub returns-clause-durable : goal.returns-clause-durable
 returns-clause-durable g c =
     let found = c.in_ok-found.found in
-    durable_for (g.D.Disk.seen c.args.disk.now) _ _ _ found.frames found.place c.in_ok-found.ensures.form c.len.ensures refl refl
+    durable_for (g.D.Disk.seen c.args.disk.now) _ _ _ found.frames found.place c.in_ok-found.ensures.form c.len.ensures refl refl refl
     (λ s is. opened_found _ found.version found.frames found.place found.commit s _ (c.in_ok-found.ensures.found s is) refl c.len.ensures refl
     (λ front rest long e. c.in_ok-close_byte.ensures.told front rest long (c.read_all.ensures.stays.told ∙ (is ∙ ap (λ x. Some x) e))))
     (c.in_ok-close_byte.ensures.only c.in_ok-found.ensures.only)

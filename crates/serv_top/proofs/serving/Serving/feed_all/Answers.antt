@@ -2,14 +2,11 @@ use Rattle.std.proofs.Common.{◌≡◌, ◌++◌, [], take, refl, sym, arith, a
 use Rattle.std.proofs.lemmas.List.{take_all, take_rest}
 use Rattle.std.proofs.lemmas.Result.{on_ok_weaker, IfErr-weaker}
 use Rattle.serv_machine.proofs.OnDiskLemmas.{disk_none, disk_more}
-use Rattle.serv_machine.specs.Stands.{running}
-use Rattle.serv_top.specs.Serving.{Served}
 use Rattle.serv_top.specs.Upheld.{AreFirst, AreSaidFirst}
 use Rattle.serv_top.proofs.AnsweredLemmas.{upheld_result}
 use Rattle.serv_top.proofs.GatheredLemmas.{stops_after}
 use Rattle.serv_top.proofs.PlainLemmas.{part_more, part_rest}
-use Rattle.serv_top.proofs.ResultLemmas.{settled_as}
-use Rattle.serv_top.proofs.ServedLemmas.{first_here, served_settled}
+use Rattle.serv_top.proofs.ServedLemmas.{first_here, none_more, served_gone}
 use Rattle.serv_top.proofs.serving.Serving.feed_all.Goals as goal
 
 pub loop-at-init : goal.loop-at-init
@@ -74,9 +71,7 @@ returns-clause-fed g c = λ before s held run.
     let inv = c.loop-at.invariant in
     let all : take i bytes ≡ bytes = take_all i bytes (omega (arith, c.loop-at-test.false)) in
     let so_far = rw all at (inv.served before s held run) in
-    let settle = rw inv.waiting at c.settle.ensures.gathered in
-    settled_as c.settle.result (λ begun text. Served c.args.self.now.replies.waiting (before ++ bytes) s (running (g.M.Machine.history c.settle.new.machine) (g.M.Machine.kept c.settle.new.machine) c.loop-at.steps) held (g.K.Sink.held c.settle.new.snk) begun c.loop-at.self.line.items text) _ _
-    (on_ok_weaker c.settle.result (λ gathers. served_settled _ (before ++ bytes) so_far _ _ gathers) (settle so_far.said s _ held so_far.gathers)) c.settle.ensures.begun c.settle.ensures.empty
+    on_ok_weaker c.let_go.result (λ gathers. served_gone _ (before ++ bytes) so_far _ _ _ gathers) ((rw inv.waiting at c.let_go.ensures.gathered) so_far.said s _ held so_far.gathers)
 
 pub returns-clause-stopped : goal.returns-clause-stopped
 returns-clause-stopped g c = λ before s held run.
@@ -85,11 +80,10 @@ returns-clause-stopped g c = λ before s held run.
     let inv = c.loop-at.invariant in
     let all : take i bytes ≡ bytes = take_all i bytes (omega (arith, c.loop-at-test.false)) in
     let so_far = rw all at (inv.served before s held run) in
-    let settle = rw inv.waiting at c.settle.ensures.stopped in
-    IfErr-weaker c.settle.result _ _
+    IfErr-weaker c.let_go.result _ _
     (λ why stops. stops_after (AreFirst so_far.said) (AreSaidFirst _) (first_here _ (before ++ bytes) so_far _ [] (sym (append-nil _))) _ s _ g.D.Disk.images g.D.Disk.moment g.D.Disk.images_since
-    c.args.disk.now c.loop-at.disk c.settle.new.disk why _ _ held _ inv.disk stops)
-    (settle so_far.said s _ held so_far.gathers)
+    c.args.disk.now c.loop-at.disk c.let_go.new.disk why _ _ held _ inv.disk stops)
+    ((rw inv.waiting at c.let_go.ensures.stopped) so_far.said s _ held so_far.gathers)
 
 pub returns-clause-upheld : goal.returns-clause-upheld
 returns-clause-upheld g c = λ before s held log lines others is run up.
@@ -98,9 +92,12 @@ returns-clause-upheld g c = λ before s held log lines others is run up.
     let inv = c.loop-at.invariant in
     let all : take i bytes ≡ bytes = take_all i bytes (omega (arith, c.loop-at-test.false)) in
     let so_far = rw all at (inv.served before s held run) in
-    let settle = rw inv.waiting at c.settle.ensures in
-    upheld_result g.D.Disk.images g.D.Disk.moment g.D.Disk.images_since c.loop-at.disk c.settle.new.disk c.settle.result _ _ _ _ s (AreFirst so_far.said) (AreSaidFirst lines) held _ log _ _ c.settle.ensures.disk
-    (settle.stopped so_far.said s _ held so_far.gathers) (first_here _ (before ++ bytes) so_far lines others is) (inv.upheld before s held log lines others is run up) (settle.upheld so_far.said s _ held so_far.gathers)
+    let let_go = rw inv.waiting at c.let_go.ensures in
+    upheld_result g.D.Disk.images g.D.Disk.moment g.D.Disk.images_since c.loop-at.disk c.let_go.new.disk c.let_go.result _ _ _ _ s (AreFirst so_far.said) (AreSaidFirst lines) held _ log _ _ c.let_go.ensures.disk
+    (let_go.stopped so_far.said s _ held so_far.gathers) (first_here _ (before ++ bytes) so_far lines others is) (inv.upheld before s held log lines others is run up) (let_go.upheld so_far.said s _ held so_far.gathers)
+
+pub returns-clause-empty : goal.returns-clause-empty
+returns-clause-empty g c = on_ok_weaker c.let_go.result (λ few. none_more _ few) c.let_go.ensures.few
 
 pub returns-clause-disk : goal.returns-clause-disk
-returns-clause-disk g c = on_ok_weaker c.settle.result (λ second. disk_more g.D.Disk.images g.D.Disk.moment g.D.Disk.images_since _ _ _ _ _ _ _ c.loop-at.invariant.disk second) c.settle.ensures.disk
+returns-clause-disk g c = on_ok_weaker c.let_go.result (λ second. disk_more g.D.Disk.images g.D.Disk.moment g.D.Disk.images_since _ _ _ _ _ _ _ c.loop-at.invariant.disk second) c.let_go.ensures.disk

@@ -1,11 +1,9 @@
-use Rattle.std.proofs.Common.{sym, ap, ◌++◌, ◌∷◌, [], refl, append_assoc}
-use Rattle.serv_machine.proofs.OnDiskLemmas.{disk_none}
-use Rattle.serv_top.specs.declared.serving.Stop.TheVariants as stop
+use Rattle.std.proofs.Common.{sym, ◌++◌, ◌∷◌, [], append_assoc}
 use Rattle.serv_top.specs.Lines.{ended_lines}
 use Rattle.serv_top.specs.Upheld.{AreSaidFirst}
 use Rattle.serv_top.proofs.AnsweredLemmas.{lines_before}
 use Rattle.serv_top.proofs.GatheredLemmas.{stopped_wider}
-use Rattle.serv_top.proofs.ServedLemmas.{first_further, lines_given_up}
+use Rattle.serv_top.proofs.ServedLemmas.{first_further}
 use Rattle.serv_top.proofs.serving.Serving.feed_line.Goals as goal
 
 pub returns-in-Ok-clause-fed : goal.returns-in-Ok-clause-fed
@@ -18,18 +16,7 @@ pub returns-in-Ok-clause-stopped : goal.returns-in-Ok-clause-stopped
 returns-in-Ok-clause-stopped g c = λ before s held run.
     let piece = c.args.piece.now in
     let stopped = rw c.feed_piece.ensures.waiting at c.end_line.ensures.stopped in
-    rw (append_assoc before piece (10 ∷ [])) at (stopped (before ++ piece) s held (c.in-Ok.ensures.fed before s _ held run))
-
-pub returns-in-Err-clause-stopped : goal.returns-in-Err-clause-stopped
-returns-in-Err-clause-stopped g c = λ before s held run.
-    let piece = c.args.piece.now in
-    let stopped = stopped_wider (AreSaidFirst (ended_lines (before ++ piece))) _ (λ said is. first_further (before ++ piece) (10 ∷ []) said is) _ s _ stop.OutOfMemory [] held _ (c.in-Err.ensures.stopped before s _ held run) in
-    record {
-      pending = [];
-      stopped = rw c.in-Err.ensures.memory (rw (append_assoc before piece (10 ∷ [])) at stopped);
-      disk = disk_none g.D.Disk.images g.D.Disk.moment g.D.Disk.images_since c.args.disk.now _ _ refl
-          (g.met.M.Machine.keeps_running c.args.machine.now c.args.disk.now c.requires.running) (g.met.D.Disk.only_now c.args.disk.now);
-    }
+    rw (c.in-Ok.ensures.same.0, c.in-Ok.ensures.same.1) at (rw (append_assoc before piece (10 ∷ [])) at (stopped (before ++ piece) s held (c.in-Ok.ensures.fed before s _ held run)))
 
 pub returns-in-Ok-clause-upheld : goal.returns-in-Ok-clause-upheld
 returns-in-Ok-clause-upheld g c = λ before s held log lines others is run up.
@@ -37,9 +24,23 @@ returns-in-Ok-clause-upheld g c = λ before s held log lines others is run up.
     let next = rw c.feed_piece.ensures.waiting at c.end_line.ensures.upheld in
     let whole = rw (sym (append_assoc before piece (10 ∷ []))) at is in
     next (before ++ piece) s held log lines others whole (c.in-Ok.ensures.fed before s _ held run)
-    (rw c.in-Ok.ensures.unwritten up)
+    (rw (c.in-Ok.ensures.same.0, c.in-Ok.ensures.same.1, c.in-Ok.ensures.same.2) up)
+
+pub returns-in-Ok-clause-disk : goal.returns-in-Ok-clause-disk
+returns-in-Ok-clause-disk g c = rw (c.in-Ok.ensures.same.0, c.in-Ok.ensures.same.1) at c.end_line.ensures.disk
+
+pub returns-in-Err-clause-stopped : goal.returns-in-Err-clause-stopped
+returns-in-Err-clause-stopped g c = λ before s held run.
+    let piece = c.args.piece.now in
+    let stops = c.in-Err.ensures.stopped before s _ held run in
+    record {
+      pending = stops.pending;
+      stopped = rw (append_assoc before piece (10 ∷ [])) at
+          (stopped_wider (AreSaidFirst (ended_lines (before ++ piece))) _ (λ said is. first_further (before ++ piece) (10 ∷ []) said is) _ s _ c.in-Err.stop stops.pending held _ stops.stopped);
+      disk = stops.disk;
+    }
 
 pub returns-in-Err-clause-upheld : goal.returns-in-Err-clause-upheld
 returns-in-Err-clause-upheld g c = λ before s held log lines others is run up.
-    lines_given_up g.D.Disk.images g.D.Disk.moment g.D.Disk.images_since c.args.disk.now (g.met.D.Disk.only_now c.args.disk.now) before run lines _ (lines_before before (c.args.piece.now ++ 10 ∷ []) lines others is)
-    (g.met.M.Machine.keeps_running c.args.machine.now c.args.disk.now c.requires.running) (λ is. ap (λ k. g.K.Sink.log k) (c.feed_piece.ensures.begun is)) c.feed_piece.ensures.noted log up
+    let piece = c.args.piece.now in
+    c.feed_piece.ensures.upheld before s _ held log lines _ (lines_before (before ++ piece) (10 ∷ []) lines others (rw (sym (append_assoc before piece (10 ∷ []))) at is)) run up

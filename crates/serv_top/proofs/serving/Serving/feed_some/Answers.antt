@@ -1,8 +1,8 @@
-use Rattle.std.proofs.Common.{◌+◌, ◌++◌, [], take, drop, refl, sym, ap, ◌∙◌}
+use Rattle.std.proofs.Common.{◌+◌, ◌++◌, take, drop, refl, sym, ◌∙◌}
 use Rattle.serv_machine.proofs.OnDiskLemmas.{disk_none}
 use Rattle.serv_top.proofs.PlainLemmas.{plain_before, plain_all, line_before, part_rest}
 use Rattle.serv_top.proofs.GatheredLemmas.{stops_after}
-use Rattle.serv_top.proofs.ServedLemmas.{first_further, lines_given_up}
+use Rattle.serv_top.proofs.ServedLemmas.{first_further}
 use Rattle.serv_top.specs.Lines.{ended_lines}
 use Rattle.serv_top.specs.Upheld.{AreSaidFirst}
 use Rattle.serv_top.proofs.AnsweredLemmas.{lines_before}
@@ -12,7 +12,7 @@ pub feed_line-requires-clause-plain : goal.feed_line-requires-clause-plain
 feed_line-requires-clause-plain g c = plain_before c.args.bytes.now c.in-Some.at (sym c.line_feed_in.ensures ∙ c.in-Some.is)
 
 pub feed_piece-requires : goal.feed_piece-requires
-feed_piece-requires g c = record { plain = plain_all c.args.bytes.now (sym c.line_feed_in.ensures ∙ c.in-None.is) }
+feed_piece-requires g c = record { plain = plain_all c.args.bytes.now (sym c.line_feed_in.ensures ∙ c.in-None.is); running = c.requires.running }
 
 pub returns-in-Ok-clause-fed : goal.returns-in-Ok-clause-fed
 returns-in-Ok-clause-fed g c = λ before s held run.
@@ -30,18 +30,8 @@ returns-in-Err-clause-stopped g c = λ before s held run.
     (stops_after (AreSaidFirst (ended_lines (before ++ take n bytes))) _ (λ said is. first_further (before ++ take n bytes) (drop n bytes) said is) _ s _ g.D.Disk.images g.D.Disk.moment g.D.Disk.images_since
     c.args.disk.now c.args.disk.now c.feed_line.new.disk c.in-Err.stop _ _ held _ none stops)
 
-pub returns-in-Ok-feed_piece-clause-disk : goal.returns-in-Ok-feed_piece-clause-disk
-returns-in-Ok-feed_piece-clause-disk g c =
-    disk_none g.D.Disk.images g.D.Disk.moment g.D.Disk.images_since c.args.disk.now _ _ refl
-    (g.met.M.Machine.keeps_running c.args.machine.now c.args.disk.now c.requires.running) (g.met.D.Disk.only_now c.args.disk.now)
-
 pub returns-in-Err-feed_piece-clause-stopped : goal.returns-in-Err-feed_piece-clause-stopped
-returns-in-Err-feed_piece-clause-stopped g c = λ before s held run. record {
-  pending = [];
-  stopped = rw c.in-Err-feed_piece.ensures.memory (c.in-Err-feed_piece.ensures.stopped before s _ held run);
-  disk = disk_none g.D.Disk.images g.D.Disk.moment g.D.Disk.images_since c.args.disk.now _ _ refl
-      (g.met.M.Machine.keeps_running c.args.machine.now c.args.disk.now c.requires.running) (g.met.D.Disk.only_now c.args.disk.now);
-}
+returns-in-Err-feed_piece-clause-stopped g c = λ before s held run. c.in-Err-feed_piece.ensures.stopped before s _ held run
 
 pub returns-in-Ok-clause-upheld : goal.returns-in-Ok-clause-upheld
 returns-in-Ok-clause-upheld g c = λ before s held log lines others is run up.
@@ -59,7 +49,8 @@ returns-in-Err-clause-upheld g c = λ before s held log lines others is run up.
     let parted = lines_before (before ++ take n bytes) (drop n bytes) lines others (rw (sym (part_rest before bytes n)) at is) in
     c.feed_line.ensures.upheld before s held log lines _ (rw front at parted) run up
 
+pub returns-in-Ok-feed_piece-clause-upheld : goal.returns-in-Ok-feed_piece-clause-upheld
+returns-in-Ok-feed_piece-clause-upheld g c = λ before s held log lines others is run up. c.feed_piece.ensures.upheld before s _ held log lines others is run up
+
 pub returns-in-Err-feed_piece-clause-upheld : goal.returns-in-Err-feed_piece-clause-upheld
-returns-in-Err-feed_piece-clause-upheld g c = λ before s held log lines others is run up.
-    lines_given_up g.D.Disk.images g.D.Disk.moment g.D.Disk.images_since c.args.disk.now (g.met.D.Disk.only_now c.args.disk.now) before run lines _ (lines_before before c.args.bytes.now lines others is)
-    (g.met.M.Machine.keeps_running c.args.machine.now c.args.disk.now c.requires.running) (λ is. ap (λ k. g.K.Sink.log k) (c.feed_piece.ensures.begun is)) c.feed_piece.ensures.noted log up
+returns-in-Err-feed_piece-clause-upheld g c = λ before s held log lines others is run up. c.feed_piece.ensures.upheld before s _ held log lines others is run up

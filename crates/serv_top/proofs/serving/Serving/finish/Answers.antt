@@ -5,7 +5,8 @@ use Rattle.serv_top.specs.Lines.{lines_of}
 use Rattle.serv_top.specs.Upheld.{AreFirst, AreSaidFirst}
 use Rattle.serv_top.proofs.AnsweredLemmas.{upheld_result}
 use Rattle.serv_top.proofs.GatheredLemmas.{stops_after}
-use Rattle.serv_top.proofs.ServedLemmas.{all_served, first_here, last_ended, none_last, served_settled}
+use Rattle.serv_top.proofs.ResultLemmas.{on_ok_both}
+use Rattle.serv_top.proofs.ServedLemmas.{all_served, first_here, last_ended, none_last, none_more, served_gone}
 use Rattle.serv_top.proofs.serving.Serving.finish.Goals as goal
 
 pub end_line-requires : goal.end_line-requires
@@ -14,8 +15,7 @@ end_line-requires g c = record { running = (g.met.M.Machine.settled c.args.machi
 pub returns-then-is_empty-clause-served : goal.returns-then-is_empty-clause-served
 returns-then-is_empty-clause-served g c = λ bytes s held run.
     let none : c.args.self.now.line.items ≡ [] = search rules in
-    let plain = rw (c.requires.empty, c.requires.settled) at run in
-    all_served _ bytes s _ held _ _ (lines_of bytes) (none_last _ bytes run none) plain
+    all_served _ bytes s _ held _ _ _ (lines_of bytes) (none_last _ bytes run none) (g.met.M.Machine.settled c.args.machine.now c.args.disk.now c.requires.ready).1 c.requires.empty run
 
 pub returns-then-is_empty-clause-disk : goal.returns-then-is_empty-clause-disk
 returns-then-is_empty-clause-disk g c =
@@ -26,31 +26,32 @@ pub returns-in-Ok-clause-served : goal.returns-in-Ok-clause-served
 returns-in-Ok-clause-served g c = λ bytes s held run.
     let some : c.args.self.now.line.items ≡ [] → ⊥ = search rules in
     let fed = c.in-Ok.ensures.fed bytes s held run in
-    let settle = rw c.end_line.ensures.waiting at c.settle.ensures.gathered in
-    on_ok_weaker c.settle.result (λ gathers. all_served _ (bytes ++ 10 ∷ []) s _ held _ _ (lines_of bytes) (last_ended _ bytes run some) (served_settled _ (bytes ++ 10 ∷ []) fed _ _ gathers))
-    (settle fed.said s _ held fed.gathers)
+    let gone = (rw c.end_line.ensures.waiting at c.let_go.ensures.gathered) fed.said s _ held fed.gathers in
+    on_ok_weaker c.let_go.result
+    (λ done. all_served _ (bytes ++ 10 ∷ []) s _ held _ _ _ (lines_of bytes) (last_ended _ bytes run some) (g.met.M.Machine.settled c.let_go.new.machine c.let_go.new.disk done.1.0).1 (none_more _ done.1.1)
+    (served_gone _ (bytes ++ 10 ∷ []) fed _ _ _ done.0)) (on_ok_both _ _ c.let_go.result gone (on_ok_both _ _ c.let_go.result c.let_go.ensures.ready c.let_go.ensures.few))
 
 pub returns-in-Ok-clause-stopped : goal.returns-in-Ok-clause-stopped
 returns-in-Ok-clause-stopped g c = λ bytes s held run.
     let some : c.args.self.now.line.items ≡ [] → ⊥ = search rules in
     let fed = c.in-Ok.ensures.fed bytes s held run in
-    let settle = rw c.end_line.ensures.waiting at c.settle.ensures.stopped in
-    IfErr-weaker c.settle.result _ _
+    let gone = rw c.end_line.ensures.waiting at c.let_go.ensures.stopped in
+    IfErr-weaker c.let_go.result _ _
     (λ why stops. stops_after (AreFirst fed.said) (AreSaidFirst (lines_of bytes)) (first_here _ (bytes ++ 10 ∷ []) fed (lines_of bytes) [] (last_ended _ bytes run some ∙ sym (append-nil _))) _ s _
-    g.D.Disk.images g.D.Disk.moment g.D.Disk.images_since c.args.disk.now c.end_line.new.disk c.settle.new.disk why _ _ held _ c.in-Ok.ensures.disk stops)
-    (settle fed.said s _ held fed.gathers)
+    g.D.Disk.images g.D.Disk.moment g.D.Disk.images_since c.args.disk.now c.end_line.new.disk c.let_go.new.disk why _ _ held _ c.in-Ok.ensures.disk stops)
+    (gone fed.said s _ held fed.gathers)
 
 pub returns-in-Ok-clause-upheld : goal.returns-in-Ok-clause-upheld
 returns-in-Ok-clause-upheld g c = λ before s held log lines others is run up.
     let some : c.args.self.now.line.items ≡ [] → ⊥ = search rules in
     let fed = c.in-Ok.ensures.fed before s held run in
-    let settle = rw c.end_line.ensures.waiting at c.settle.ensures in
+    let gone = rw c.end_line.ensures.waiting at c.let_go.ensures in
     let all = is ∙ ap (λ ls. ls ++ others) (last_ended _ before run some) in
-    upheld_result g.D.Disk.images g.D.Disk.moment g.D.Disk.images_since c.end_line.new.disk c.settle.new.disk c.settle.result _ _ _ _ s (AreFirst fed.said) (AreSaidFirst lines) held _ log _ _ c.settle.ensures.disk
-    (settle.stopped fed.said s _ held fed.gathers) (first_here _ (before ++ 10 ∷ []) fed lines others all) (c.end_line.ensures.upheld before s held log lines others all run up) (settle.upheld fed.said s _ held fed.gathers)
+    upheld_result g.D.Disk.images g.D.Disk.moment g.D.Disk.images_since c.end_line.new.disk c.let_go.new.disk c.let_go.result _ _ _ _ s (AreFirst fed.said) (AreSaidFirst lines) held _ log _ _ c.let_go.ensures.disk
+    (gone.stopped fed.said s _ held fed.gathers) (first_here _ (before ++ 10 ∷ []) fed lines others all) (c.end_line.ensures.upheld before s held log lines others all run up) (gone.upheld fed.said s _ held fed.gathers)
 
 pub returns-in-Ok-clause-disk : goal.returns-in-Ok-clause-disk
-returns-in-Ok-clause-disk g c = on_ok_weaker c.settle.result (λ second. disk_more g.D.Disk.images g.D.Disk.moment g.D.Disk.images_since _ _ _ _ _ _ _ c.in-Ok.ensures.disk second) c.settle.ensures.disk
+returns-in-Ok-clause-disk g c = on_ok_weaker c.let_go.result (λ second. disk_more g.D.Disk.images g.D.Disk.moment g.D.Disk.images_since _ _ _ _ _ _ _ c.in-Ok.ensures.disk second) c.let_go.ensures.disk
 
 pub returns-in-Err-clause-stopped : goal.returns-in-Err-clause-stopped
 returns-in-Err-clause-stopped g c = λ bytes s held run.
