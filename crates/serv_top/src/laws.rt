@@ -28,8 +28,8 @@ pub fn lines_have_one_answer()
         → IsCutIn (AreSaidFirst lines) waiting s t written → IsCutAt (AreSaidFirst lines) s.history written }
 {}
 
-/// Over a journal no reply waits but that of a command that is begun. So where a write, the disk or memory fails, all
-/// replies to what the disk has, but for the last one of them, are whole; those of a file's rows too. It does nothing.
+/// Over a journal no reply waits but the last one. So where a write, the disk or memory fails, all replies to what the
+/// disk has, but for the last one of them, are whole; those of a file's rows too. It does nothing.
 pub fn replies_are_whole()
     ensures cut { (lines : List (List ℕ)) (s t : Stand) (written : List ℕ)
         → IsCutIn (AreSaidFirst lines) 0 s t written → IsCutOff (AreSaidFirst lines) s t written }
