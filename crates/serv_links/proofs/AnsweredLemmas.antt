@@ -10,7 +10,7 @@ use Rattle.serv_http.specs.declared.ask.Ask.{Ask}
 use Rattle.serv_http.specs.Streams.{AsksTo}
 use Rattle.serv_http.proofs.StepLemmas.{nothing-more, nothing-open}
 use Rattle.serv_http.proofs.StreamLemmas.{asks-grow}
-use Rattle.serv_machine.specs.History.{History}
+use Rattle.serv_machine.specs.History.{History, in_store}
 use Rattle.serv_machine.specs.OnDisk.{OnDisk}
 use Rattle.serv_machine.specs.Upheld.{HasCommands, Upholds}
 use Rattle.serv_machine.proofs.UpheldLemmas.{upheld_none, upheld_wider, upheld_later, upheld_then, upheld_written}
@@ -84,7 +84,7 @@ answers_before h taken more bytes commands is = record {
 
 -- a text that ends within the responses to some first requests, and what is written after them
 pub text_upheld : {D : Type 0} (images : D → List ℕ → Type 0) (moment : D → ℕ) (images_since : D → ℕ → List ℕ → Type 0) (d : D) → ((c : List ℕ) → images_since d (moment d) c → images d c) → {n : ℕ} {done : List Ask} {s mid : Stand} {w : List ℕ}
-    → IsAnswered n done s mid w → (more asks : List Ask) → asks ≡ done ++ more → (last : List ℕ) → IsLastText last → (now list : List Accepted) → now ≡ mid.history.commands ++ list → Each (images d) (HasCommands mid.history.commands)
+    → IsAnswered n done s mid w → (more asks : List Ask) → asks ≡ done ++ more → (last : List ℕ) → IsLastText last → (now : History) (list : List Accepted) → now.commands ≡ mid.history.commands ++ list → Each (images d) (HasCommands (in_store now.store mid.history.commands))
     → (held held' : Option (List ℕ)) (front text : List ℕ) → Appends held held' front → length front + length text ≤ length w + length last
     → (log log' log'' : Option (List Stamp)) → Upholds (AreAnswers asks s.history) (moment d) (images_since d) now held log log' → ((x : List ℕ) → held' ≡ Some x → Notes (moment d) (length x + length text) log' log'')
     → Upholds (AreAnswers asks s.history) (moment d) (images_since d) now held log log''
@@ -107,7 +107,7 @@ text_upheld {D} images moment images_since d only {n} {done} {s} {mid} {w} answe
 
 module _ {D : Type 0} (images : D → List ℕ → Type 0) (moment : D → ℕ) (images_since : D → ℕ → List ℕ → Type 0) (d : D) (only : (c : List ℕ) → images_since d (moment d) c → images d c) (held : Option (List ℕ)) (log log' : Option (List Stamp)) where
   -- that the disk failed, or that no memory was there
-  pub last_upheld : (asks : List Ask) (h : History) (now list : List Accepted) (last : List ℕ) → now ≡ h.commands ++ list → Each (images d) (HasCommands h.commands) → IsLastText last
+  pub last_upheld : (asks : List Ask) (h now : History) (list : List Accepted) (last : List ℕ) → now.commands ≡ h.commands ++ list → Each (images d) (HasCommands (in_store now.store h.commands)) → IsLastText last
       → ((x : List ℕ) → held ≡ Some x → Notes (moment d) (length x + length last) log log') → Upholds (AreAnswers asks h) (moment d) (images_since d) now held log log'
   last_upheld asks h now list last now_is has last_is notes =
       upheld_written images moment images_since d only (AreAnswers asks h) now h.commands list now_is has (length last)
@@ -115,14 +115,14 @@ module _ {D : Type 0} (images : D → List ℕ → Type 0) (moment : D → ℕ) 
       held held [] last log log log' (Appends-nil held) (omega arith) (upheld_none (AreAnswers asks h) (moment d) (images_since d) now held log) notes
 
   -- no request was read
-  pub none_read : (h : History) (now list : List Accepted) (taken last : List ℕ) → now ≡ h.commands ++ list → Each (images d) (HasCommands h.commands) → IsLastText last
+  pub none_read : (h now : History) (list : List Accepted) (taken last : List ℕ) → now.commands ≡ h.commands ++ list → Each (images d) (HasCommands (in_store now.store h.commands)) → IsLastText last
       → ((x : List ℕ) → held ≡ Some x → Notes (moment d) (length x + length last) log log') → Upholds (AreAnswersIn h taken) (moment d) (images_since d) now held log log'
   none_read h now list taken last now_is has last_is notes =
       upheld_wider (AreAnswers [] h) (AreAnswersIn h taken) (moment d) (images_since d) now (λ bytes commands x. record { asks = []; known = inl refl; answers = x }) held log log'
       (last_upheld [] h now list last now_is has last_is notes)
 
   -- no byte was taken
-  pub none_taken : (h : History) (now list : List Accepted) (last : List ℕ) → now ≡ h.commands ++ list → Each (images d) (HasCommands h.commands) → IsLastText last
+  pub none_taken : (h now : History) (list : List Accepted) (last : List ℕ) → now.commands ≡ h.commands ++ list → Each (images d) (HasCommands (in_store now.store h.commands)) → IsLastText last
       → ((x : List ℕ) → held ≡ Some x → Notes (moment d) (length x + length last) log log') → Upholds (AreAnswersOf h []) (moment d) (images_since d) now held log log'
   none_taken h now list last now_is has last_is notes =
       upheld_wider (AreAnswers [] h) (AreAnswersOf h []) (moment d) (images_since d) now
@@ -132,7 +132,7 @@ module _ {D : Type 0} (images : D → List ℕ → Type 0) (moment : D → ℕ) 
 -- ---- one run after another
 
 -- what was upheld before a call, and the writes of the call
-pub call_upheld : {D : Type 0} (images : D → List ℕ → Type 0) (moment : D → ℕ) (images_since : D → ℕ → List ℕ → Type 0) (old new : D) (now now' pending : List Accepted) → OnDisk images moment images_since old new now now' pending
+pub call_upheld : {D : Type 0} (images : D → List ℕ → Type 0) (moment : D → ℕ) (images_since : D → ℕ → List ℕ → Type 0) (old new : D) (now now' : History) (pending : List Accepted) → OnDisk images moment images_since old new now now' pending
     → (h : History) (first more asks : List Ask) → asks ≡ first ++ more → (held : Option (List ℕ)) (log log' log'' : Option (List Stamp)) → Upholds (AreAnswers asks h) (moment old) (images_since old) now held log log'
     → Upholds (AreAnswers first h) (moment new) (images_since new) now' held log' log'' → Upholds (AreAnswers asks h) (moment new) (images_since new) now' held log log''
 call_upheld images moment images_since old new now now' pending disk h first more asks is held log log' log'' before after =
@@ -141,13 +141,13 @@ call_upheld images moment images_since old new now now' pending disk h first mor
     held held log log' log'' (Appends-nil held) (upheld_later images moment images_since old new now now' pending disk (AreAnswers asks h) held log log' before) after
 
 module _ {D : Type 0} (images : D → List ℕ → Type 0) (moment : D → ℕ) (images_since : D → ℕ → List ℕ → Type 0) (mid new : D) (n : ℕ) (s t t' : Stand) (pending : List Accepted)
-    (disk : OnDisk images moment images_since mid new t.history.commands t'.history.commands pending) (held held' : Option (List ℕ)) (wrote : List ℕ) (appends : Appends held held' wrote) (log log' log'' : Option (List Stamp)) where
+    (disk : OnDisk images moment images_since mid new t.history t'.history pending) (held held' : Option (List ℕ)) (wrote : List ℕ) (appends : Appends held held' wrote) (log log' log'' : Option (List Stamp)) where
   -- the requests of a piece after those of the bytes before it
   pub piece_upheld : (asks : List Ask) (taken rest piece : List ℕ) → AsksTo taken asks (Some rest) → IsAnswered n asks s t wrote
-      → Upholds (AreAnswersOf s.history taken) (moment mid) (images_since mid) t.history.commands held log log' → Upholds (AreAnswersIn t.history (rest ++ piece)) (moment new) (images_since new) t'.history.commands held' log' log''
-      → Upholds (AreAnswersOf s.history (taken ++ piece)) (moment new) (images_since new) t'.history.commands held log log''
+      → Upholds (AreAnswersOf s.history taken) (moment mid) (images_since mid) t.history held log log' → Upholds (AreAnswersIn t.history (rest ++ piece)) (moment new) (images_since new) t'.history held' log' log''
+      → Upholds (AreAnswersOf s.history (taken ++ piece)) (moment new) (images_since new) t'.history held log log''
   piece_upheld asks taken rest piece asked first before after =
-      upheld_then (AreAnswersOf s.history taken) (AreAnswersIn t.history (rest ++ piece)) (AreAnswersOf s.history (taken ++ piece)) (moment new) (images_since new) t'.history.commands wrote
+      upheld_then (AreAnswersOf s.history taken) (AreAnswersIn t.history (rest ++ piece)) (AreAnswersOf s.history (taken ++ piece)) (moment new) (images_since new) t'.history wrote
       (λ bytes commands x. answers_before s.history taken piece bytes commands x)
       (λ bytes commands x. answers_of n asks s t wrote taken rest piece bytes commands asked first x)
-      held held' log log' log'' appends (upheld_later images moment images_since mid new t.history.commands t'.history.commands pending disk (AreAnswersOf s.history taken) held log log' before) after
+      held held' log log' log'' appends (upheld_later images moment images_since mid new t.history t'.history pending disk (AreAnswersOf s.history taken) held log log' before) after

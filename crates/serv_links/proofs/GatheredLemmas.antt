@@ -76,27 +76,27 @@ module _ (a : Ask) (meant : Meaning) (means : Means a meant) (s : Stand) where
   module _ {D : Type 0} (images : D → List ℕ → Type 0) (moment : D → ℕ) (images_since : D → ℕ → List ℕ → Type 0) (cut : Type 0) (held held' : Option (List ℕ)) where
     -- how it stops, with what is left on a disk
     abbrev One : D → D → Outcome → Stand → Type 0
-    One old new o s' = Writes images moment images_since old new (IsOne cut o a s s') s.history.commands s'.history.commands held held'
+    One old new o s' = Writes images moment images_since old new (IsOne cut o a s s') s.history s'.history held held'
 
     -- no memory was there for its response; then a command that is begun is committed
     module _ (old mid new : D) (t : Running) (kept' : History) (near : IsNear s.history (history_after s.history meant) t.held) (cost : t.steps ≤ s.steps + bound_of s.history meant)
-        (first : OnDisk images moment images_since old mid s.history.commands t.kept.commands []) where
-      pub starved_one : kept' ≡ t.held → OnDisk images moment images_since mid new t.kept.commands t.held.commands [] → AppendsFront cut held held' response_503 → One old new NoMemory (stand kept' t.steps)
+        (first : OnDisk images moment images_since old mid s.history t.kept []) where
+      pub starved_one : kept' ≡ t.held → OnDisk images moment images_since mid new t.kept t.held [] → AppendsFront cut held held' response_503 → One old new NoMemory (stand kept' t.steps)
       starved_one same run left = record {
         pending = [];
         wrote = left.part;
         appends = left.appends;
         says_so = (refl, inr (record { meant = meant; means = means; near = subst (IsNear s.history (history_after s.history meant)) (sym same) near; cost = cost }), left.front);
-        disk = subst (λ (h : History). OnDisk images moment images_since old new s.history.commands h.commands []) (sym same) (disk_more images moment images_since old mid new _ _ _ [] first run);
+        disk = subst (λ (h : History). OnDisk images moment images_since old new s.history h []) (sym same) (disk_more images moment images_since old mid new _ _ _ [] first run);
       }
 
-      pub torn_one : IsKeptBut (IsAppended s.history meant) s.history t.held t.kept → kept' ≡ t.kept → IsTorn images moment images_since mid new t.kept.commands t.held.commands → AppendsFront cut held held' response_500 → One old new Disk (stand kept' t.steps)
+      pub torn_one : IsKeptBut (IsAppended s.history meant) s.history t.held t.kept → kept' ≡ t.kept → IsTorn images moment images_since mid new t.kept t.held → AppendsFront cut held held' response_500 → One old new Disk (stand kept' t.steps)
       torn_one kept same torn left = record {
         pending = torn.next ∷ [];
         wrote = left.part;
         appends = left.appends;
         says_so = (torn_stuck t kept' torn.next torn.rest near kept cost same torn.all_are, left.front);
-        disk = subst (λ (h : History). OnDisk images moment images_since old new s.history.commands h.commands (torn.next ∷ [])) (sym same) (disk_more images moment images_since old mid new _ _ _ (torn.next ∷ []) first torn.disk);
+        disk = subst (λ (h : History). OnDisk images moment images_since old new s.history h (torn.next ∷ [])) (sym same) (disk_more images moment images_since old mid new _ _ _ (torn.next ∷ []) first torn.disk);
       }
 
 -- ---- many requests
@@ -161,15 +161,15 @@ module _ {n : ℕ} {waits : Bool} {text : List ℕ} {asks : List Ask} {s : Stand
   -- the disk failed, or what waits is not written whole
   module _ {D : Type 0} (images : D → List ℕ → Type 0) (moment : D → ℕ) (images_since : D → ℕ → List ℕ → Type 0) (old new : D) (cut : Type 0) (kept' : History) (held'' : Option (List ℕ)) where
     abbrev Stops : Outcome → Type 0
-    Stops o = Writes images moment images_since old new (IsStopped cut o n asks s (stand kept' t.steps)) t.kept.commands kept'.commands held held''
+    Stops o = Writes images moment images_since old new (IsStopped cut o n asks s (stand kept' t.steps)) t.kept kept' held held''
 
-    pub cut_stops : kept' ≡ t.held → OnDisk images moment images_since old new t.kept.commands t.held.commands [] → AppendsPart held' held'' (text_if waits text) → Stops Broken
+    pub cut_stops : kept' ≡ t.held → OnDisk images moment images_since old new t.kept t.held [] → AppendsPart held' held'' (text_if waits text) → Stops Broken
     cut_stops same run p = record {
       pending = [];
       wrote = g.written ++ p.part;
       appends = Appends-trans held held' held'' g.written p.part g.wrote p.wrote;
       says_so = by_case waits g.waiting p;
-      disk = subst (λ (h : History). OnDisk images moment images_since old new t.kept.commands h.commands []) (sym same) run;
+      disk = subst (λ (h : History). OnDisk images moment images_since old new t.kept h []) (sym same) run;
     }
       where
         by_case : (b : Bool) → IsWaiting b text g.done asks g.mid t → (p : AppendsPart held' held'' (text_if b text)) → IsStopped cut Broken n asks s (stand kept' t.steps) [] (g.written ++ p.part)
@@ -187,13 +187,13 @@ module _ {n : ℕ} {waits : Bool} {text : List ℕ} {asks : List Ask} {s : Stand
         }
         by_case false is p = absurd (no_part p.part p.partial)
 
-    pub torn_stops : kept' ≡ t.kept → IsTorn images moment images_since old new t.kept.commands t.held.commands → AppendsFront cut held' held'' response_500 → Stops Disk
+    pub torn_stops : kept' ≡ t.kept → IsTorn images moment images_since old new t.kept t.held → AppendsFront cut held' held'' response_500 → Stops Disk
     torn_stops same torn left = record {
       pending = torn.next ∷ [];
       wrote = g.written ++ left.part;
       appends = Appends-trans held held' held'' g.written left.part g.wrote left.appends;
       says_so = by_case waits g.waiting;
-      disk = subst (λ (h : History). OnDisk images moment images_since old new t.kept.commands h.commands (torn.next ∷ [])) (sym same) torn.disk;
+      disk = subst (λ (h : History). OnDisk images moment images_since old new t.kept h (torn.next ∷ [])) (sym same) torn.disk;
     }
       where
         by_case : (b : Bool) → IsWaiting b text g.done asks g.mid t → IsStopped cut Disk n asks s (stand kept' t.steps) (torn.next ∷ []) (g.written ++ left.part)
@@ -232,11 +232,11 @@ module _ {n : ℕ} {text : List ℕ} {asks : List Ask} {s : Stand} {t : Running}
     waiting = subst (λ b. IsWaiting b own asks (asks ++ a ∷ []) (stand t.held t.steps) u) (sym one) (record { last = a; asks_are = refl; replied = record { meant = meant; means = means; text_is = text_is; moved = moved }; kept = kept });
   }
 
-  module _ {D : Type 0} (images : D → List ℕ → Type 0) (moment : D → ℕ) (images_since : D → ℕ → List ℕ → Type 0) (old mid new : D) (h : List Accepted) (before : OnDisk images moment images_since old mid h t.held.commands []) where
+  module _ {D : Type 0} (images : D → List ℕ → Type 0) (moment : D → ℕ) (images_since : D → ℕ → List ℕ → Type 0) (old mid new : D) (h : History) (before : OnDisk images moment images_since old mid h t.held []) where
     -- it stops
     pub one_stops : (r : Result (Unit {0}) Outcome) (m : ℕ) (cut later : Type 0) (a : Ask) (s' : Stand) (held'' : Option (List ℕ)) → m ≡ n → (cut → later)
-        → IfErr r (λ o. Writes images moment images_since mid new (IsOne cut o a (stand t.held t.steps) s') t.held.commands s'.history.commands held' held'')
-        → IfErr r (λ o. Writes images moment images_since old new (IsStopped later o m (asks ++ a ∷ []) s s') h s'.history.commands held held'')
+        → IfErr r (λ o. Writes images moment images_since mid new (IsOne cut o a (stand t.held t.steps) s') t.held s'.history held' held'')
+        → IfErr r (λ o. Writes images moment images_since old new (IsStopped later o m (asks ++ a ∷ []) s s') h s'.history held held'')
     one_stops (Ok _) m cut later a s' held'' count then one = tt
     one_stops (Err o) m cut later a s' held'' count then one = record {
       pending = one.pending;
@@ -254,17 +254,17 @@ module _ {n : ℕ} {text : List ℕ} {asks : List Ask} {s : Stand} {t : Running}
         wrote_is = refl;
         one = one_weaker cut later o a (stand t.held t.steps) s' one.pending one.wrote then one.says_so;
       };
-      disk = disk_more images moment images_since old mid new h t.held.commands s'.history.commands one.pending before one.disk;
+      disk = disk_more images moment images_since old mid new h t.held s'.history one.pending before one.disk;
     }
 
   -- ---- no further request
 
-  pub round_done : {D : Type 0} (images : D → List ℕ → Type 0) (moment : D → ℕ) (images_since : D → ℕ → List ℕ → Type 0) (old new : D) (cut : Type 0) (h : List Accepted) → OnDisk images moment images_since old new h t.held.commands []
-      → Writes images moment images_since old new (IsRound cut Answered n asks s (stand t.kept t.steps)) h t.kept.commands held held'
+  pub round_done : {D : Type 0} (images : D → List ℕ → Type 0) (moment : D → ℕ) (images_since : D → ℕ → List ℕ → Type 0) (old new : D) (cut : Type 0) (h : History) → OnDisk images moment images_since old new h t.held []
+      → Writes images moment images_since old new (IsRound cut Answered n asks s (stand t.kept t.steps)) h t.kept held held'
   round_done images moment images_since old new cut h run = record {
     pending = [];
     wrote = g.written;
     appends = g.wrote;
     says_so = (refl, subst (λ x. IsAnswered n asks s (stand x t.steps) g.written) (sym g.waiting.1) all_answered);
-    disk = subst (λ (x : History). OnDisk images moment images_since old new h x.commands []) (sym g.waiting.1) run;
+    disk = subst (λ (x : History). OnDisk images moment images_since old new h x []) (sym g.waiting.1) run;
   }

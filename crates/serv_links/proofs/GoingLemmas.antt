@@ -224,8 +224,8 @@ module _ (U : (ℕ → List Accepted → Type 0) → Type 0) (left left' : Optio
 module _ {D : Type 0} (images : D → List ℕ → Type 0) (moment : D → ℕ) (images_since : D → ℕ → List ℕ → Type 0) where
   -- no memory was there for the connection
   pub starved_at_once : (d : D) (reads writes : Type 0) (U : (ℕ → List Accepted → Type 0) → Type 0) (left left' held held' : Option (List ℕ)) (s : Stand) → U (AreAnswersOf s.history []) → left' ≡ left → AppendsFront writes held held' response_503
-      → OnDisk images moment images_since d d s.history.commands s.history.commands []
-      → Writes images moment images_since d d (Serves (link_end.NoMemory 0) reads writes U left left' s s) s.history.commands s.history.commands held held'
+      → OnDisk images moment images_since d d s.history s.history []
+      → Writes images moment images_since d d (Serves (link_end.NoMemory 0) reads writes U left left' s s) s.history s.history held held'
   starved_at_once d reads writes U left left' held held' s up same front disk = record {
     pending = [];
     wrote = front.part;
@@ -254,8 +254,8 @@ module _ {D : Type 0} (images : D → List ℕ → Type 0) (moment : D → ℕ) 
     disk = disk;
   }
 
-  pub going_none : (d : D) (left held : Option (List ℕ)) (log : Option (List Stamp)) (c : Conn) (s : Stand) → StandsFor c [] → OnDisk images moment images_since d d s.history.commands s.history.commands []
-      → Writes images moment images_since d d (Going (λ covers. Upholds covers (moment d) (images_since d) s.history.commands held log log) left left c 0 0 s s) s.history.commands s.history.commands held held
+  pub going_none : (d : D) (left held : Option (List ℕ)) (log : Option (List Stamp)) (c : Conn) (s : Stand) → StandsFor c [] → OnDisk images moment images_since d d s.history s.history []
+      → Writes images moment images_since d d (Going (λ covers. Upholds covers (moment d) (images_since d) s.history held log log) left left c 0 0 s s) s.history s.history held held
   going_none d left held log c s stands disk = record {
     pending = [];
     wrote = [];
@@ -270,14 +270,14 @@ module _ {D : Type 0} (images : D → List ℕ → Type 0) (moment : D → ℕ) 
       asked = asks_none;
       stands = stands;
       answered = answered_none s s refl (omega arith);
-      acknowledged = upheld_none (AreAnswersOf s.history []) (moment d) (images_since d) s.history.commands held log;
+      acknowledged = upheld_none (AreAnswersOf s.history []) (moment d) (images_since d) s.history held log;
     };
     disk = disk;
   }
 
   -- it stays as it is but for what is held, which is the same
   abbrev Run : (old new : D) (says : List Accepted → List ℕ → Type 0) (s s' : Stand) (held held' : Option (List ℕ)) → Type 0
-  Run old new says s s' held held' = Writes images moment images_since old new says s.history.commands s'.history.commands held held'
+  Run old new says s s' held held' = Writes images moment images_since old new says s.history s'.history held held'
 
   held_same : (old new : D) (P : List Accepted → List ℕ → Type 0) (s s' : Stand) (held held' held'' : Option (List ℕ)) → held'' ≡ held' → Run old new P s s' held held' → Run old new P s s' held held''
   held_same old new P s s' held held' held'' same w = subst (λ h. Run old new P s s' held h) (sym same) w
@@ -298,20 +298,20 @@ module _ {D : Type 0} (images : D → List ℕ → Type 0) (moment : D → ℕ) 
   -- a piece of a link was read, and then served
   module _ (old mid new : D) (left left' left'' left''' held held' held'' held''' : Option (List ℕ)) (c c' : Conn) (n taken : ℕ) (s t t' : Stand)
       (log log' log'' log''' : Option (List Stamp)) (unnoted : log'' ≡ log')
-      (run : Run old mid (Going (λ covers. Upholds covers (moment mid) (images_since mid) t.history.commands held log log') left left' c n taken s t) s t held held') (same : held'' ≡ held')
+      (run : Run old mid (Going (λ covers. Upholds covers (moment mid) (images_since mid) t.history held log log') left left' c n taken s t) s t held held') (same : held'' ≡ held')
       (piece : List ℕ) (count : ℕ) (long : length piece ≡ count) (few : count ≤ read_limit) (took : Consumes left' left'' piece) (stays : left''' ≡ left'')
       (cut : Type 0) (o : Outcome) (m : ℕ) (served : (r : List ℕ) → StandsFor c r → Run mid new (IsPiece cut o m (r ++ piece) c' t t') t t' held'' held''')
-      (upheld : (r : List ℕ) → StandsFor c r → Upholds (AreAnswersIn t.history (r ++ piece)) (moment new) (images_since new) t'.history.commands held'' log'' log''') where
+      (upheld : (r : List ℕ) → StandsFor c r → Upholds (AreAnswersIn t.history (r ++ piece)) (moment new) (images_since new) t'.history held'' log'' log''') where
     abbrev V : (ℕ → List Accepted → Type 0) → Type 0
-    V covers = Upholds covers (moment new) (images_since new) t'.history.commands held log log'''
+    V covers = Upholds covers (moment new) (images_since new) t'.history held log log'''
 
     -- what was answered of the bytes before it, and of it
     up : V (AreAnswersOf s.history (run.says_so.bytes ++ piece))
     up =
         let g = run.says_so in
-        let later : Upholds (AreAnswersIn t.history (g.rest ++ piece)) (moment new) (images_since new) t'.history.commands held' log' log''' =
-        subst (λ l. Upholds (AreAnswersIn t.history (g.rest ++ piece)) (moment new) (images_since new) t'.history.commands held' l log''') unnoted
-        (subst (λ h. Upholds (AreAnswersIn t.history (g.rest ++ piece)) (moment new) (images_since new) t'.history.commands h log'' log''') same (upheld g.rest g.stands)) in
+        let later : Upholds (AreAnswersIn t.history (g.rest ++ piece)) (moment new) (images_since new) t'.history held' log' log''' =
+        subst (λ l. Upholds (AreAnswersIn t.history (g.rest ++ piece)) (moment new) (images_since new) t'.history held' l log''') unnoted
+        (subst (λ h. Upholds (AreAnswersIn t.history (g.rest ++ piece)) (moment new) (images_since new) t'.history h log'' log''') same (upheld g.rest g.stands)) in
         let second = served g.rest g.stands in
         piece_upheld images moment images_since mid new n s t t' second.pending second.disk held held' run.wrote run.appends log log' log''' g.asks g.bytes g.rest piece g.asked g.answered g.acknowledged later
 
@@ -324,20 +324,20 @@ module _ {D : Type 0} (images : D → List ℕ → Type 0) (moment : D → ℕ) 
         (then second.pending second.wrote second.says_so)
 
     pub run_passes : o ≡ outcome.Answered → Run old new (Passed V left left''' c' (n + m) (taken + count) s t') s t' held held'''
-    run_passes is = joined _ (λ p w x. passed_more (λ covers. Upholds covers (moment mid) (images_since mid) t.history.commands held log log') V left left' c n taken s t run.pending run.wrote run.says_so left'' left''' piece count long few took stays cut up m c' t' p w
+    run_passes is = joined _ (λ p w x. passed_more (λ covers. Upholds covers (moment mid) (images_since mid) t.history held log log') V left left' c n taken s t run.pending run.wrote run.says_so left'' left''' piece count long few took stays cut up m c' t' p w
         (subst (λ q. IsPiece cut q m (run.says_so.rest ++ piece) c' t t' p w) is x))
 
     module _ (within : taken + count ≤ link_limit) (reads writes : Type 0) (then : cut → writes) where
       pub run_broken : o ≡ outcome.Broken → writes → Run old new (Serves (link_end.Broken (n + m)) reads writes V left left''' s t') s t' held held'''
-      run_broken is risen = joined _ (λ p w x. broken_more (λ covers. Upholds covers (moment mid) (images_since mid) t.history.commands held log log') V left left' c n taken s t run.pending run.wrote run.says_so left'' left''' piece count long few took stays writes up within reads m c' t' p w risen
+      run_broken is risen = joined _ (λ p w x. broken_more (λ covers. Upholds covers (moment mid) (images_since mid) t.history held log log') V left left' c n taken s t run.pending run.wrote run.says_so left'' left''' piece count long few took stays writes up within reads m c' t' p w risen
           (piece_weaker cut writes outcome.Broken m (run.says_so.rest ++ piece) c' t t' p w then (subst (λ q. IsPiece cut q m (run.says_so.rest ++ piece) c' t t' p w) is x)))
 
       pub run_disk : o ≡ outcome.Disk → Run old new (Serves (link_end.Disk (n + m)) reads writes V left left''' s t') s t' held held'''
-      run_disk is = joined _ (λ p w x. disk_more_end (λ covers. Upholds covers (moment mid) (images_since mid) t.history.commands held log log') V left left' c n taken s t run.pending run.wrote run.says_so left'' left''' piece count long few took stays writes up within reads m c' t' p w
+      run_disk is = joined _ (λ p w x. disk_more_end (λ covers. Upholds covers (moment mid) (images_since mid) t.history held log log') V left left' c n taken s t run.pending run.wrote run.says_so left'' left''' piece count long few took stays writes up within reads m c' t' p w
           (piece_weaker cut writes outcome.Disk m (run.says_so.rest ++ piece) c' t t' p w then (subst (λ q. IsPiece cut q m (run.says_so.rest ++ piece) c' t t' p w) is x)))
 
       pub run_memory : o ≡ outcome.NoMemory → Run old new (Serves (link_end.NoMemory (n + m)) reads writes V left left''' s t') s t' held held'''
-      run_memory is = joined _ (λ p w x. memory_more (λ covers. Upholds covers (moment mid) (images_since mid) t.history.commands held log log') V left left' c n taken s t run.pending run.wrote run.says_so left'' left''' piece count long few took stays writes up within reads m c' t' p w
+      run_memory is = joined _ (λ p w x. memory_more (λ covers. Upholds covers (moment mid) (images_since mid) t.history held log log') V left left' c n taken s t run.pending run.wrote run.says_so left'' left''' piece count long few took stays writes up within reads m c' t' p w
           (piece_weaker cut writes outcome.NoMemory m (run.says_so.rest ++ piece) c' t t' p w then (subst (λ q. IsPiece cut q m (run.says_so.rest ++ piece) c' t t' p w) is x)))
 
   -- after a piece that was answered

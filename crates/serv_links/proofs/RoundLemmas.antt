@@ -183,7 +183,7 @@ risen_last old mid new before after (inr full) = elim (cases_lt old mid) [ inl l
 
 module _ {D : Type 0} (images : D → List ℕ → Type 0) (moment : D → ℕ) (images_since : D → ℕ → List ℕ → Type 0) where
   -- what was written, and then more
-  pub writes_more : (old mid new : D) (P Q R : List Accepted → List ℕ → Type 0) (h h1 h2 : List Accepted) (held held1 held2 : Option (List ℕ))
+  pub writes_more : (old mid new : D) (P Q R : List Accepted → List ℕ → Type 0) (h h1 h2 : History) (held held1 held2 : Option (List ℕ))
       (first : Writes images moment images_since old mid P h h1 held held1) → first.pending ≡ [] → (second : Writes images moment images_since mid new Q h1 h2 held1 held2)
       → R second.pending (first.wrote ++ second.wrote) → Writes images moment images_since old new R h h2 held held2
   writes_more old mid new P Q R h h1 h2 held held1 held2 first none second says = record {
@@ -194,37 +194,37 @@ module _ {D : Type 0} (images : D → List ℕ → Type 0) (moment : D → ℕ) 
     disk = disk_more images moment images_since old mid new h h1 h2 second.pending (subst (λ p. OnDisk images moment images_since old mid h h1 p) none first.disk) second.disk;
   }
 
-  pub writes_as : (old new : D) (P Q : List Accepted → List ℕ → Type 0) (h h' : List Accepted) (held held' : Option (List ℕ)) → ((pending : List Accepted) (w : List ℕ) → P pending w → Q pending w)
+  pub writes_as : (old new : D) (P Q : List Accepted → List ℕ → Type 0) (h h' : History) (held held' : Option (List ℕ)) → ((pending : List Accepted) (w : List ℕ) → P pending w → Q pending w)
       → Writes images moment images_since old new P h h' held held' → Writes images moment images_since old new Q h h' held held'
   writes_as old new P Q h h' held held' then w = record { pending = w.pending; wrote = w.wrote; appends = w.appends; says_so = then w.pending w.wrote w.says_so; disk = w.disk }
 
   -- the disk's calls before what was written
-  pub writes_after : (old mid new : D) (P : List Accepted → List ℕ → Type 0) (h h1 h2 : List Accepted) (held held' : Option (List ℕ)) → OnDisk images moment images_since old mid h h1 []
+  pub writes_after : (old mid new : D) (P : List Accepted → List ℕ → Type 0) (h h1 h2 : History) (held held' : Option (List ℕ)) → OnDisk images moment images_since old mid h h1 []
       → Writes images moment images_since mid new P h1 h2 held held' → Writes images moment images_since old new P h h2 held held'
   writes_after old mid new P h h1 h2 held held' first w =
       record { pending = w.pending; wrote = w.wrote; appends = w.appends; says_so = w.says_so; disk = disk_more images moment images_since old mid new h h1 h2 w.pending first w.disk }
 
   -- by the result of a call
-  pub disk_after : (old mid new : D) (r : Result (Unit {0}) Outcome) (h h1 h2 : List Accepted) → OnDisk images moment images_since old mid h h1 [] → OnOk r (OnDisk images moment images_since mid new h1 h2 [])
+  pub disk_after : (old mid new : D) (r : Result (Unit {0}) Outcome) (h h1 h2 : History) → OnDisk images moment images_since old mid h h1 [] → OnOk r (OnDisk images moment images_since mid new h1 h2 [])
       → OnOk r (OnDisk images moment images_since old new h h2 [])
   disk_after old mid new (Ok done) h h1 h2 first second = disk_more images moment images_since old mid new h h1 h2 [] first second
   disk_after old mid new (Err o) h h1 h2 first second = tt
 
-  pub run_of : (old new : D) (r : Result (Unit {0}) Outcome) (P : Outcome → List Accepted → List ℕ → Type 0) (h h' : List Accepted) (held held' : Option (List ℕ)) → OnOk r (OnDisk images moment images_since old new h h' [])
+  pub run_of : (old new : D) (r : Result (Unit {0}) Outcome) (P : Outcome → List Accepted → List ℕ → Type 0) (h h' : History) (held held' : Option (List ℕ)) → OnOk r (OnDisk images moment images_since old new h h' [])
       → IfErr r (λ o. Writes images moment images_since old new (P o) h h' held held') → (pending : List Accepted) × OnDisk images moment images_since old new h h' pending
   run_of old new (Ok done) P h h' held held' run stops = ([], run)
   run_of old new (Err o) P h h' held held' run stops = (stops.pending, stops.disk)
 
   -- of more requests it is said too
-  pub stops_wider : (cut : Type 0) (o : Outcome) (old new : D) (n : ℕ) (asks more : List Ask) (s s' : Stand) (h h' : List Accepted) (held held' : Option (List ℕ))
+  pub stops_wider : (cut : Type 0) (o : Outcome) (old new : D) (n : ℕ) (asks more : List Ask) (s s' : Stand) (h h' : History) (held held' : Option (List ℕ))
       → Writes images moment images_since old new (IsStopped cut o n asks s s') h h' held held' → Writes images moment images_since old new (IsStopped cut o n (asks ++ more) s s') h h' held held'
   stops_wider cut o old new n asks more s s' h h' held held' w =
       writes_as old new _ _ h h' held held' (λ pending wrote stopped. stopped_wider cut o n asks more s s' pending wrote stopped) w
 
   -- it stopped within the first of some requests
-  pub round_stops : (cut later : Type 0) (o : Outcome) (old mid new : D) (n : ℕ) (asks first more : List Ask) (s s' : Stand) (h h1 : List Accepted) (held held' : Option (List ℕ)) → (cut → later) → asks ≡ first ++ more
-      → OnDisk images moment images_since old mid h h1 [] → Writes images moment images_since mid new (IsStopped cut o n first s s') h1 s'.history.commands held held'
-      → Writes images moment images_since old new (IsRound later o n asks s s') h s'.history.commands held held'
+  pub round_stops : (cut later : Type 0) (o : Outcome) (old mid new : D) (n : ℕ) (asks first more : List Ask) (s s' : Stand) (h h1 : History) (held held' : Option (List ℕ)) → (cut → later) → asks ≡ first ++ more
+      → OnDisk images moment images_since old mid h h1 [] → Writes images moment images_since mid new (IsStopped cut o n first s s') h1 s'.history held held'
+      → Writes images moment images_since old new (IsRound later o n asks s s') h s'.history held held'
   round_stops cut later o old mid new n asks first more s s' h h1 held held' then is before stops =
       writes_as old new _ _ _ _ held held'
       (λ pending w stopped. round_stopped later o n asks s s' pending w (subst (λ l. IsStopped later o n l s s' pending w) (sym is)
@@ -233,8 +233,8 @@ module _ {D : Type 0} (images : D → List ℕ → Type 0) (moment : D → ℕ) 
 
   -- the requests of a piece cannot be read
   pub unread_here : (cut : Type 0) (d : D) (bytes : List ℕ) (c : Conn) (s : Stand) (held held' : Option (List ℕ)) → AppendsFront cut held held' response_503
-      → OnDisk images moment images_since d d s.history.commands s.history.commands []
-      → Writes images moment images_since d d (IsPiece cut NoMemory 0 bytes c s s) s.history.commands s.history.commands held held'
+      → OnDisk images moment images_since d d s.history s.history []
+      → Writes images moment images_since d d (IsPiece cut NoMemory 0 bytes c s s) s.history s.history held held'
   unread_here cut d bytes c s held held' front disk = record {
     pending = [];
     wrote = front.part;

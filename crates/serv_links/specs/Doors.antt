@@ -28,7 +28,7 @@ pub record ServedLink {C : Type 0} (left held : C → Option (List ℕ)) (log : 
   pub added : List ℕ
   pub appends : Appends (held came) (held back) added
   pub serves : Serves end (HasRisen (reads came) (reads back)) (HasRisen (writes came) (writes back))
-      (λ covers. Upholds covers moment since exit.history.commands (held came) (log came) (log back))
+      (λ covers. Upholds covers moment since exit.history (held came) (log came) (log back))
       (left came) (left back) s s' pending added
 
 -- each link in its turn, over the history that the one before it left
@@ -139,4 +139,4 @@ module _ {D : Type 0} (images : D → List ℕ → Type 0) (moment : D → ℕ) 
     pub has : HasServed (P s') coming coming' backed backed' ends s s' pending
     pub ended : IsDoorsEnd end most coming' ends
     pub counted : IsSummary ends summary
-    pub disk : OnDisk images moment images_since old new s.history.commands s'.history.commands pending
+    pub disk : OnDisk images moment images_since old new s.history s'.history pending

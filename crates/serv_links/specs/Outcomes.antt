@@ -9,7 +9,7 @@ use Rattle.serv_http.specs.declared.ask.Ask.{Ask}
 use Rattle.serv_http.specs.declared.conn.Conn.{Conn}
 use Rattle.serv_http.specs.Conns.{IsFed}
 use Rattle.serv_http.specs.Streams.{AsksTo}
-use Rattle.serv_machine.specs.History.{Fresh, decided}
+use Rattle.serv_machine.specs.History.{History, Fresh, decided}
 use Rattle.serv_machine.specs.OnDisk.{OnDisk}
 use Rattle.serv_links.specs.declared.outcome.Outcome.{Outcome}
 use Rattle.serv_links.specs.declared.outcome.Outcome.TheVariants.{Answered, Broken, Disk, NoMemory}
@@ -140,7 +140,7 @@ IsPiece cut NoMemory n bytes c s s' pending wrote =
 
 module _ {D : Type 0} (images : D → List ℕ → Type 0) (moment : D → ℕ) (images_since : D → ℕ → List ℕ → Type 0) (old new : D) where
   -- what is written to a link too; the command that was being appended is the one of the disk
-  pub record Writes (says : List Accepted → List ℕ → Type 0) (h h' : List Accepted) (held held' : Option (List ℕ)) : Type 0 where
+  pub record Writes (says : List Accepted → List ℕ → Type 0) (h h' : History) (held held' : Option (List ℕ)) : Type 0 where
     pub pending : List Accepted
     pub wrote : List ℕ
     pub appends : Appends held held' wrote

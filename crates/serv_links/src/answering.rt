@@ -34,10 +34,10 @@ fn answer_all<D: Disk, M: Machine<D>, K: Sink, L: Ledger>(
     ensures round { Writes D.images D.moment D.images_since disk.old disk.new
         (IsRound (HasRisen (K.faults link.old) (K.faults link.new)) result.outcome result.answered asks.now
         (stand (M.kept machine.old) steps.old) (stand (M.kept machine.new) steps.new))
-        (M.kept machine.old).commands (M.kept machine.new).commands
+        (M.kept machine.old) (M.kept machine.new)
         (K.held link.old) (K.held link.new) }
     ensures upheld { Upholds (AreAnswers asks.now (M.kept machine.old)) (D.moment disk.new)
-        (D.images_since disk.new) (M.kept machine.new).commands
+        (D.images_since disk.new) (M.kept machine.new)
         (K.held link.old) (K.log link.old) (K.log link.new) }
     ensures few { result.answered ≤ length asks.now }
     ensures ready { result.outcome ≢ Outcome.Disk → M.ready machine.new disk.new }
@@ -87,11 +87,11 @@ pub(crate) fn serve_piece<D: Disk, M: Machine<D>, K: Sink, L: Ledger>(
         → Writes D.images D.moment D.images_since disk.old disk.new
         (IsPiece (HasRisen (K.faults link.old) (K.faults link.new)) result.outcome result.answered (s ++ piece.now) conn.new
         (stand (M.kept machine.old) steps.old) (stand (M.kept machine.new) steps.new))
-        (M.kept machine.old).commands (M.kept machine.new).commands
+        (M.kept machine.old) (M.kept machine.new)
         (K.held link.old) (K.held link.new) }
     ensures upheld { (s : List ℕ) → StandsFor conn.old s
         → Upholds (AreAnswersIn (M.kept machine.old) (s ++ piece.now)) (D.moment disk.new)
-        (D.images_since disk.new) (M.kept machine.new).commands
+        (D.images_since disk.new) (M.kept machine.new)
         (K.held link.old) (K.log link.old) (K.log link.new) }
     ensures few { result.answered ≤ length piece.now }
     ensures ready { result.outcome ≢ Outcome.Disk → M.ready machine.new disk.new }

@@ -43,9 +43,9 @@ pub(crate) fn respond_to<D: Disk, M: Machine<D>, L: Ledger>(
         × HasRisen (D.faults disk.old) (D.faults disk.new) }
     ensures appending { result ≡ Err Halt.DiskFault → IsAppended (M.history machine.old) meaning.now }
     ensures disk { result ≢ Err Halt.DiskFault → OnDisk D.images D.moment D.images_since disk.old disk.new
-        (M.history machine.old).commands (M.kept machine.new).commands [] }
+        (M.history machine.old) (M.kept machine.new) [] }
     ensures torn { result ≡ Err Halt.DiskFault → OnDisk D.images D.moment D.images_since disk.old disk.new
-        (M.history machine.old).commands (M.history machine.old).commands (commands_of meaning.now) }
+        (M.history machine.old) (M.history machine.old) (commands_of meaning.now) }
     ensures running { result ≢ Err Halt.DiskFault → M.running machine.new disk.new }
     ensures failed { result ≡ Err Halt.DiskFault → M.failed machine.new }
     ensures faults { D.faults disk.old ≤ D.faults disk.new }
@@ -80,9 +80,9 @@ fn decide<D: Disk, M: Machine<D>, L: Ledger>(
     ensures stopped { result ≡ Err Halt.DiskFault → HasRisen (D.faults disk.old) (D.faults disk.new) }
     ensures appending { result ≡ Err Halt.DiskFault → IsAppended (M.history machine.old) meaning.now }
     ensures disk { result ≢ Err Halt.DiskFault → OnDisk D.images D.moment D.images_since disk.old disk.new
-        (M.history machine.old).commands (M.kept machine.new).commands [] }
+        (M.history machine.old) (M.kept machine.new) [] }
     ensures torn { result ≡ Err Halt.DiskFault → OnDisk D.images D.moment D.images_since disk.old disk.new
-        (M.history machine.old).commands (M.history machine.old).commands (commands_of meaning.now) }
+        (M.history machine.old) (M.history machine.old) (commands_of meaning.now) }
     ensures running { result ≢ Err Halt.DiskFault → M.running machine.new disk.new }
     ensures failed { result ≡ Err Halt.DiskFault → M.failed machine.new }
     ensures faults { D.faults disk.old ≤ D.faults disk.new }
@@ -124,9 +124,9 @@ fn decide_command<D: Disk, M: Machine<D>, L: Ledger>(
     ensures appending { result ≡ Err Halt.DiskFault
         → IsAppending (M.history machine.old) (request.Do key.now command.now) }
     ensures disk { result ≢ Err Halt.DiskFault → OnDisk D.images D.moment D.images_since disk.old disk.new
-        (M.history machine.old).commands (M.kept machine.new).commands [] }
+        (M.history machine.old) (M.kept machine.new) [] }
     ensures torn { result ≡ Err Halt.DiskFault → OnDisk D.images D.moment D.images_since disk.old disk.new
-        (M.history machine.old).commands (M.history machine.old).commands
+        (M.history machine.old) (M.history machine.old)
         (commands_in (request.Do key.now command.now)) }
     ensures running { result ≢ Err Halt.DiskFault → M.running machine.new disk.new }
     ensures failed { result ≡ Err Halt.DiskFault → M.failed machine.new }

@@ -75,17 +75,17 @@ impl Responses {
             → IfErr result (λ why. Writes D.images D.moment D.images_since disk.old disk.new
             (IsStopped (HasRisen (K.faults link.old) (K.faults link.new)) why self.new.answered
             (done ++ ask.now ∷ []) s (stand (M.kept machine.new) steps.new))
-            (M.kept machine.old).commands (M.kept machine.new).commands held (K.held link.new)) }
+            (M.kept machine.old) (M.kept machine.new) held (K.held link.new)) }
         ensures upheld { (done : List asks.Ask) (s : Stand) (held : Option (List ℕ))
             → Gathered self.old.answered self.old.waits self.old.text.items done s
             (running (M.history machine.old) (M.kept machine.old) steps.old) held (K.held link.old)
             → Upholds (AreAnswers (done ++ ask.now ∷ []) s.history) (D.moment disk.new)
-            (D.images_since disk.new) (M.kept machine.new).commands held (K.log link.old) (K.log link.new) }
+            (D.images_since disk.new) (M.kept machine.new) held (K.log link.old) (K.log link.new) }
         ensures count { OnOk result (self.new.answered + as_one self.new.waits
             ≡ self.old.answered + as_one self.old.waits + 1) }
         ensures few { OnErr result (self.new.answered ≤ self.old.answered + as_one self.old.waits) }
         ensures disk { OnOk result (OnDisk D.images D.moment D.images_since disk.old disk.new
-            (M.kept machine.old).commands (M.kept machine.new).commands []) }
+            (M.kept machine.old) (M.kept machine.new) []) }
         ensures running { OnOk result (M.running machine.new disk.new) }
         ensures ready { IfErr result (λ why. why ≢ Outcome.Disk → M.ready machine.new disk.new) }
         ensures broken { IfErr result (λ why. why ≡ Outcome.Broken
@@ -132,13 +132,13 @@ impl Responses {
         ensures one { (ask : asks.Ask) → Means ask meaning.now → IfErr result (λ why. Writes D.images D.moment
             D.images_since disk.old disk.new (IsOne (HasRisen (K.faults link.old) (K.faults link.new)) why ask
             (stand (M.history machine.old) steps.old) (stand (M.kept machine.new) steps.new))
-            (M.history machine.old).commands (M.kept machine.new).commands (K.held link.old) (K.held link.new)) }
+            (M.history machine.old) (M.kept machine.new) (K.held link.old) (K.held link.new)) }
         ensures upheld { (more : List asks.Ask) → Upholds (AreAnswers more (M.history machine.old))
-            (D.moment disk.new) (D.images_since disk.new) (M.kept machine.new).commands
+            (D.moment disk.new) (D.images_since disk.new) (M.kept machine.new)
             (K.held link.old) (K.log link.old) (K.log link.new) }
         ensures count { self.new.answered ≡ self.old.answered }
         ensures disk { OnOk result (OnDisk D.images D.moment D.images_since disk.old disk.new
-            (M.history machine.old).commands (M.kept machine.new).commands []) }
+            (M.history machine.old) (M.kept machine.new) []) }
         ensures running { OnOk result (M.running machine.new disk.new) }
         ensures ready { IfErr result (λ why. why ≢ Outcome.Disk → M.ready machine.new disk.new) }
         ensures broken { IfErr result (λ why. why ≢ Outcome.Broken) }
@@ -195,16 +195,16 @@ impl Responses {
             → IfErr result (λ why. Writes D.images D.moment D.images_since disk.old disk.new
             (IsStopped (HasRisen (K.faults link.old) (K.faults link.new)) why self.new.answered done s
             (stand (M.kept machine.new) steps))
-            (M.kept machine.old).commands (M.kept machine.new).commands held (K.held link.new)) }
+            (M.kept machine.old) (M.kept machine.new) held (K.held link.new)) }
         ensures upheld { (done : List asks.Ask) (s : Stand) (steps : ℕ) (held : Option (List ℕ))
             → Gathered self.old.answered self.old.waits self.old.text.items done s
             (running (M.history machine.old) (M.kept machine.old) steps) held (K.held link.old)
             → Upholds (AreAnswers done s.history) (D.moment disk.new)
-            (D.images_since disk.new) (M.kept machine.new).commands held (K.log link.old) (K.log link.new) }
+            (D.images_since disk.new) (M.kept machine.new) held (K.log link.old) (K.log link.new) }
         ensures count { OnOk result (self.new.answered ≡ self.old.answered + as_one self.old.waits) }
         ensures same { OnErr result (self.new.answered ≡ self.old.answered) }
         ensures disk { OnOk result (OnDisk D.images D.moment D.images_since disk.old disk.new
-            (M.kept machine.old).commands (M.history machine.new).commands []) }
+            (M.kept machine.old) (M.history machine.new) []) }
         ensures ready { OnOk result (M.ready machine.new disk.new) }
         ensures ready_too { IfErr result (λ why. why ≢ Outcome.Disk → M.ready machine.new disk.new) }
         ensures broken { IfErr result (λ why. why ≡ Outcome.Broken

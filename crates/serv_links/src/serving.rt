@@ -39,10 +39,10 @@ pub fn serve_link<D: Disk, M: Machine<D>, C: Link, L: Ledger>(
         (Serves result (HasRisen (C.Source.faults link.old) (C.Source.faults link.new))
         (HasRisen (C.Sink.faults link.old) (C.Sink.faults link.new))
         (λ covers. Upholds covers (D.moment disk.new) (D.images_since disk.new)
-        (M.kept machine.new).commands (C.held link.old) (C.log link.old) (C.log link.new))
+        (M.kept machine.new) (C.held link.old) (C.log link.old) (C.log link.new))
         (C.left link.old) (C.left link.new)
         (stand (M.kept machine.old) steps.old) (stand (M.kept machine.new) steps.new))
-        (M.kept machine.old).commands (M.kept machine.new).commands
+        (M.kept machine.old) (M.kept machine.new)
         (C.held link.old) (C.held link.new) }
     ensures few { number_in result ≤ link_limit }
     ensures ready { ¬ (IsDiskEnd result) → M.ready machine.new disk.new }

@@ -21,15 +21,15 @@ use Rattle.serv_journal.specs.declared.format.Version.TheVariants.{Two}
 use Rattle.serv_engine.specs.Submitting.{HasRoom, IsFull, IsSubmitFault}
 use Rattle.serv_machine.specs.declared.faults.ActFault.{ActFault}
 use Rattle.serv_machine.specs.declared.faults.ActFault.TheVariants as fault
-use Rattle.serv_machine.specs.History.{Journal, Decision, Full, Fresh, in_journal, by_room, by_judgement, decided, after_decision}
+use Rattle.serv_machine.specs.History.{History, Journal, Decision, Full, Fresh, in_journal, by_room, by_judgement, decided, after_decision}
 use Rattle.serv_machine.specs.Replies.{IsReplyBy, IsUnsaid, IsFaultBy}
 use Rattle.std.specs.Prelude.{Result, Err, true, false, nat_lt, if◌then◌else◌}
 use Rattle.serv_disk.specs.Disks.{Each, LeavesOnly}
 use Rattle.serv_disk.proofs.Moments.{weaker}
 use Rattle.serv_journal.specs.Format.{Form, IsForm}
-use Rattle.serv_engine.specs.Histories.{IsGoodFor, IsGoodFound}
-use Rattle.serv_machine.specs.EngineLaws.{running_whole}
-use Rattle.serv_machine.specs.OnDisk.{HasHistory, IsAlong, IsTorn, OnDisk}
+use Rattle.serv_engine.specs.Histories.{IsGoodFor}
+use Rattle.serv_machine.specs.EngineLaws.{form_of, running_whole}
+use Rattle.serv_machine.specs.OnDisk.{IsFormOf, HasHistory, IsGoodWith, IsAlong, IsTorn, OnDisk}
 use Rattle.serv_machine.proofs.OnDiskLemmas.{disk_same, disk_kept, disk_stopped, disk_torn, good_for, history_before}
 use Rattle.serv_machine.specs.Engines.{history_of, kept_history, fault_of}
 
@@ -126,8 +126,8 @@ unfolding decided
 act_after old new key c base reply is size h limit size' room = history_told old new (accepted key c) (judged old.history key c) base reply is size h limit size' room
 
 -- what it leaves on the disk
-good_found : (form : Form) (h : List Accepted) (a : Accepted) (file : List ℕ) → IsForm form → IsGoodFor form h a file → IsGoodFound h a file
-good_found form h a file is_form good = record { form = form; is_form = is_form; good = good }
+good_with : (form : Form) (h : History) (a : Accepted) (file : List ℕ) → IsForm form → IsFormOf h.store form → IsGoodFor form h.commands a file → IsGoodWith h a file
+good_with form h a file is_form of_store good = record { good = record { form = form; is_form = is_form; good = good }; form = of_store }
 
 -- the command behind a fault of the disk is fresh
 pub fault_fresh : (e : EngineState) (a : Accepted) (said : Judgement) (old new : ℕ) (f : EngineFault) → IsSubmitFault said e.journal a old new f → f ≡ engine.DiskFault → said ≡ judging.Fresh
@@ -153,25 +153,26 @@ next_history : (h : List Accepted) (a : Accepted) (behind all : List Accepted) �
 next_history h a behind all is history = history_before (h ++ a ∷ []) behind (subst IsHistory (is ∙ sym (append_assoc h (a ∷ []) behind)) history)
 
 -- while a command is begun a content goes along it
-pub around_along : (form : Form) (h begun : List Accepted) (file : List ℕ) → IsForm form → IsAroundFor form h begun file → IsAlong h begun file
-around_along form h [] file is_form whole = record { form = form; is_form = is_form; whole = whole }
-around_along form h (a ∷ more) file is_form good = inl (good_found form h a file is_form good)
+pub around_along : (form : Form) (h : History) (begun : List Accepted) (file : List ℕ) → IsForm form → IsFormOf h.store form → IsAroundFor form h.commands begun file → IsAlong h begun file
+around_along form h [] file is_form of_store whole = record { whole = record { form = form; is_form = is_form; whole = whole }; form = of_store }
+around_along form h (a ∷ more) file is_form of_store good = inl (good_with form h a file is_form of_store good)
 
-module _ {D : Type 0} (images : D → List ℕ → Type 0) (moment : D → ℕ) (images_since : D → ℕ → List ℕ → Type 0) (old new : D) (form : Form) (is_form : IsForm form) where
+module _ {D : Type 0} (images : D → List ℕ → Type 0) (moment : D → ℕ) (images_since : D → ℕ → List ℕ → Type 0) (old new : D) (form : Form) (is_form : IsForm form)
+    (h : History) (of_store : IsFormOf h.store form) where
   -- the disk failed: the next command behind what is kept is the one that was begun, or where none was the new one
-  pub torn_behind : (h begun behind all : List Accepted) → all ≡ (h ++ begun) ++ behind → (begun ++ behind ≡ [] → ⊥) → IsHistory all → Each (images new) (IsAroundFor form h begun)
-      → LeavesOnly moment images_since old new (IsAroundFor form h begun) → IsTorn images moment images_since old new h all
-  torn_behind h [] [] all is some history each run = absurd (some refl)
-  torn_behind h [] (a ∷ behind) all is some history each run =
-      let here : all ≡ h ++ a ∷ behind = is ∙ ap (λ x. x ++ a ∷ behind) (append-nil h) in
-      disk_torn images moment images_since old new h all behind a here (next_history h a behind all here history)
-      (λ c image. good_for h a c (around_along form h [] c is_form (each c image)))
-      (weaker moment images_since old new (IsAroundFor form h []) (IsGoodFound h a) run (λ c whole. good_for h a c (around_along form h [] c is_form whole)))
-  torn_behind h (a ∷ more) behind all is some history each run =
-      let here : all ≡ h ++ a ∷ (more ++ behind) = is ∙ append_assoc h (a ∷ more) behind in
-      disk_torn images moment images_since old new h all (more ++ behind) a here (next_history h a (more ++ behind) all here history)
-      (λ c image. good_found form h a c is_form (each c image))
-      (weaker moment images_since old new (IsAroundFor form h (a ∷ more)) (IsGoodFound h a) run (λ c good. good_found form h a c is_form good))
+  pub torn_behind : (begun behind : List Accepted) (all : History) → all.commands ≡ (h.commands ++ begun) ++ behind → (begun ++ behind ≡ [] → ⊥) → IsHistory all.commands → Each (images new) (IsAroundFor form h.commands begun)
+      → LeavesOnly moment images_since old new (IsAroundFor form h.commands begun) → IsTorn images moment images_since old new h all
+  torn_behind [] [] all is some history each run = absurd (some refl)
+  torn_behind [] (a ∷ behind) all is some history each run =
+      let here : all.commands ≡ h.commands ++ a ∷ behind = is ∙ ap (λ x. x ++ a ∷ behind) (append-nil h.commands) in
+      disk_torn images moment images_since old new h all behind a here (next_history h.commands a behind all.commands here history)
+      (λ c image. good_for h a c (around_along form h [] c is_form of_store (each c image)))
+      (weaker moment images_since old new (IsAroundFor form h.commands []) (IsGoodWith h a) run (λ c whole. good_for h a c (around_along form h [] c is_form of_store whole)))
+  torn_behind (a ∷ more) behind all is some history each run =
+      let here : all.commands ≡ h.commands ++ a ∷ (more ++ behind) = is ∙ append_assoc h.commands (a ∷ more) behind in
+      disk_torn images moment images_since old new h all (more ++ behind) a here (next_history h.commands a (more ++ behind) all.commands here history)
+      (λ c image. good_with form h a c is_form of_store (each c image))
+      (weaker moment images_since old new (IsAroundFor form h.commands (a ∷ more)) (IsGoodWith h a) run (λ c good. good_with form h a c is_form of_store good))
 
 module _ (e e' : EngineState) (key : List ℕ) (c : Command) (base : ℕ) (size : e.journal.size ≡ base + lengths_of e.history) where
   abbrev said : Judgement
@@ -186,6 +187,11 @@ module _ (e e' : EngineState) (key : List ℕ) (c : Command) (base : ℕ) (size 
         → (said ≡ judging.Fresh → HasRoom e.journal (accepted key c)) → IsKeptBut (decided (history_of e) key c ≡ Fresh) (history_of e) (history_of e') (kept_history e')
     kept_but (taken.Settled reply) was all size' limit room = inl (ap kept_history (same was.1) ∙ (all ∙ sym (ap history_of (same was.1))))
     kept_but (taken.Begun reply) was all size' limit room = inr (act_fresh was.0 (room was.0), kept_behind e e' base (behind was.1) size size' limit)
+
+-- the same commands in the same journal
+pub same_history : (e e' : EngineState) → e'.history ≡ e.history → e'.journal.size ≡ e.journal.size → e'.journal.limit ≡ e.journal.limit → history_of e' ≡ history_of e
+same_history e e' history size limit =
+    same_in _ _ e'.journal.limit e.journal.limit e'.history e.history (ap (λ n. n - lengths_of e'.history) size ∙ ap (λ h. e.journal.size - lengths_of h) history) limit history
 
 -- nothing is taken
 pub same_held : (e e' : EngineState) → e'.history ≡ e.history → e'.journal.size ≡ e.journal.size → e'.journal.limit ≡ e.journal.limit → kept_of e' ≡ kept_of e → kept_of e ≡ e.history
@@ -217,37 +223,45 @@ some_behind [] a is = cc
 some_behind (b ∷ begun) a is = cc
 
 module _ {D : Type 0} (images : D → List ℕ → Type 0) (moment : D → ℕ) (images_since : D → ℕ → List ℕ → Type 0) (old new : D) (e e' : EngineState)
-    (only_now : (c : List ℕ) → images_since old (moment old) c → images old c) (runs : IsRunning (images old) e)
+    (only_now : (c : List ℕ) → images_since old (moment old) c → images old c) (two : e.journal.version ≡ Two) (runs : IsRunning (images old) e)
     (moments : (form : Form) → IsRunningIn form (images old) e → LeavesOnly moment images_since old new (IsAroundFor form (kept_of e) (begun_of e))) where
-  along : LeavesOnly moment images_since old new (IsAlong (kept_of e) (begun_of e))
+  is_form : IsForm runs.form
+  is_form = runs.kept.stands.is_form
+
+  of_store : IsFormOf (history_of e).store runs.form
+  of_store = form_of runs.form (images old) e two runs.kept
+
+  along : LeavesOnly moment images_since old new (IsAlong (kept_history e) (begun_of e))
   along =
-      weaker moment images_since old new (IsAroundFor runs.form (kept_of e) (begun_of e)) (IsAlong (kept_of e) (begun_of e)) (moments runs.form runs.kept)
-      (λ c around. around_along runs.form (kept_of e) (begun_of e) c runs.kept.stands.is_form around)
+      weaker moment images_since old new (IsAroundFor runs.form (kept_of e) (begun_of e)) (IsAlong (kept_history e) (begun_of e)) (moments runs.form runs.kept)
+      (λ c around. around_along runs.form (kept_history e) (begun_of e) c is_form of_store around)
 
-  pub kept_disk : (e' ≡ e) × (new ≡ old) → OnDisk images moment images_since old new (kept_of e) (kept_of e') []
-  kept_disk same = disk_same images moment images_since old new (kept_of e) (kept_of e') same.1 (ap kept_of same.0) (running_whole (images old) e runs) only_now
+  pub kept_disk : (e' ≡ e) × (new ≡ old) → OnDisk images moment images_since old new (kept_history e) (kept_history e') []
+  kept_disk same = disk_same images moment images_since old new (kept_history e) (kept_history e') same.1 (ap kept_history same.0) (running_whole (images old) e two runs) only_now
 
-  pub behind_disk : (h : List Accepted) → h ≡ e.history → IsHistory e.history → Each (images new) (HasHistory h) → OnDisk images moment images_since old new (kept_of e) h []
-  behind_disk h is history each =
-      disk_kept images moment images_since old new (kept_of e) h (begun_of e) (is ∙ sym (kept_and_begun e)) (subst IsHistory (sym is) history) each along
+  pub behind_disk : (h : History) → h.commands ≡ e.history → h.store ≡ (history_of e).store → IsHistory e.history → Each (images new) (HasHistory h) → OnDisk images moment images_since old new (kept_history e) h []
+  behind_disk h is store history each =
+      disk_kept images moment images_since old new (kept_history e) h (begun_of e) (is ∙ sym (kept_and_begun e)) store (subst IsHistory (sym is) history) each along
 
-  pub taken_disk : (Behind : Type 0) → (Behind → kept_of e' ≡ e.history) → (t : Taken) (said : Judgement) → WasTaken said t ((e' ≡ e) × (new ≡ old)) Behind → IsHistory e.history → IsRunning (images new) e'
-      → OnDisk images moment images_since old new (kept_of e) (kept_of e') []
-  taken_disk Behind behind (taken.Settled reply) j was history runs' = kept_disk was.1
-  taken_disk Behind behind (taken.Begun reply) j was history runs' = behind_disk (kept_of e') (behind was.1) history (running_whole (images new) e' runs')
+  pub taken_disk : (Behind : Type 0) → (Behind → kept_history e' ≡ history_of e) → (t : Taken) (said : Judgement) → WasTaken said t ((e' ≡ e) × (new ≡ old)) Behind → IsHistory e.history
+      → Each (images new) (HasHistory (kept_history e')) → OnDisk images moment images_since old new (kept_history e) (kept_history e') []
+  taken_disk Behind behind (taken.Settled reply) j was history each = kept_disk was.1
+  taken_disk Behind behind (taken.Begun reply) j was history each =
+      let same = behind was.1 in
+      behind_disk (kept_history e') (ap (λ (h : History). h.commands) same) (ap (λ (h : History). h.store) same) history each
 
   -- the disk failed as a command was begun: behind all that is kept it was perhaps being appended
-  pub stopped_disk : (a : Accepted) → kept_of e ≡ e.history → begun_of e ≡ [] → IsHistory (e.history ++ a ∷ [])
-      → ((form : Form) → IsRunningIn form (images old) e → Each (images new) (IsAroundFor form (kept_of e) (begun_of e))) → OnDisk images moment images_since old new e.history e.history (a ∷ [])
+  pub stopped_disk : (a : Accepted) → kept_history e ≡ history_of e → begun_of e ≡ [] → IsHistory (e.history ++ a ∷ [])
+      → ((form : Form) → IsRunningIn form (images old) e → Each (images new) (IsAroundFor form (kept_of e) (begun_of e))) → OnDisk images moment images_since old new (history_of e) (history_of e) (a ∷ [])
   stopped_disk a all none history good =
-      let calm : (c : List ℕ) → IsAroundFor runs.form (kept_of e) (begun_of e) c → IsGoodFound e.history a c =
-      λ c around. good_for e.history a c
-      (subst (λ h. IsAlong h [] c) all (subst (λ l. IsAlong (kept_of e) l c) none (around_along runs.form (kept_of e) (begun_of e) c runs.kept.stands.is_form around))) in
-      disk_stopped images moment images_since old new e.history e.history a refl (λ _. history) (λ c image. calm c (good runs.form runs.kept c image))
-      (weaker moment images_since old new (IsAroundFor runs.form (kept_of e) (begun_of e)) (IsGoodFound e.history a) (moments runs.form runs.kept) calm)
+      let calm : (c : List ℕ) → IsAroundFor runs.form (kept_of e) (begun_of e) c → IsGoodWith (history_of e) a c =
+      λ c around. good_for (history_of e) a c
+      (subst (λ h. IsAlong h [] c) all (subst (λ l. IsAlong (kept_history e) l c) none (around_along runs.form (kept_history e) (begun_of e) c is_form of_store around))) in
+      disk_stopped images moment images_since old new (history_of e) (history_of e) a refl (λ _. history) (λ c image. calm c (good runs.form runs.kept c image))
+      (weaker moment images_since old new (IsAroundFor runs.form (kept_of e) (begun_of e)) (IsGoodWith (history_of e) a) (moments runs.form runs.kept) calm)
 
-  pub torn_disk : (behind all : List Accepted) → all ≡ e.history ++ behind → (begun_of e ++ behind ≡ [] → ⊥) → IsHistory all
-      → ((form : Form) → IsRunningIn form (images old) e → Each (images new) (IsAroundFor form (kept_of e) (begun_of e))) → IsTorn images moment images_since old new (kept_of e) all
+  pub torn_disk : (behind : List Accepted) (all : History) → all.commands ≡ e.history ++ behind → (begun_of e ++ behind ≡ [] → ⊥) → IsHistory all.commands
+      → ((form : Form) → IsRunningIn form (images old) e → Each (images new) (IsAroundFor form (kept_of e) (begun_of e))) → IsTorn images moment images_since old new (kept_history e) all
   torn_disk behind all is some history good =
-      torn_behind images moment images_since old new runs.form runs.kept.stands.is_form (kept_of e) (begun_of e) behind all (is ∙ ap (λ x. x ++ behind) (sym (kept_and_begun e))) some history
+      torn_behind images moment images_since old new runs.form is_form (kept_history e) of_store (begun_of e) behind all (is ∙ ap (λ x. x ++ behind) (sym (kept_and_begun e))) some history
       (good runs.form runs.kept) (moments runs.form runs.kept)

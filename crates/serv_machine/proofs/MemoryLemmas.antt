@@ -47,25 +47,26 @@ unfolding decided
 memory_wanted h key c is = subst (λ j. IsUnsaid (by_judgement Memory h (accepted key c) j)) (sym is) tt
 
 -- no disk is touched
-nowhere : {D : Type 0} (d : D) (h h' list : List Accepted) → h' ≡ h ++ list → (IsHistory h → IsHistory h') → OnDisk {D = D} (λ _ _. ⊥) (λ _. 0) (λ _ _ _. ⊥) d d h h' []
+nowhere : {D : Type 0} (d : D) (h h' list : List Accepted) → h' ≡ h ++ list → (IsHistory h → IsHistory h') → OnDisk {D = D} (λ _ _. ⊥) (λ _. 0) (λ _ _ _. ⊥) d d (in_memory h) (in_memory h') []
 nowhere d h h' list is next = record {
   list = list;
   accepted = is;
+  store = refl;
   fresh = λ history. alone h' h' refl (next history);
   left = λ c image. absurd image;
   moments = record { later = omega arith; each = λ c left. absurd left; before = λ t c le left. absurd left };
 }
 
-pub memory_same : {D : Type 0} (d : D) (h h' : List Accepted) → h' ≡ h → OnDisk {D = D} (λ _ _. ⊥) (λ _. 0) (λ _ _ _. ⊥) d d h h' []
+pub memory_same : {D : Type 0} (d : D) (h h' : List Accepted) → h' ≡ h → OnDisk {D = D} (λ _ _. ⊥) (λ _. 0) (λ _ _ _. ⊥) d d (in_memory h) (in_memory h') []
 memory_same d h h' is = nowhere d h h' [] (is ∙ sym (append-nil h)) (λ history. subst IsHistory (sym is) history)
 
 after_nowhere : {D : Type 0} (d : D) (h h' : List Accepted) (key : List ℕ) (c : Command) (said : Judgement) → h' ≡ judging.history_after h key c said
     → (said ≡ judging.Fresh → IsHistory h → IsHistory (h ++ accepted key c ∷ []))
-    → OnDisk {D = D} (λ _ _. ⊥) (λ _. 0) (λ _ _ _. ⊥) d d h h' []
+    → OnDisk {D = D} (λ _ _. ⊥) (λ _. 0) (λ _ _ _. ⊥) d d (in_memory h) (in_memory h') []
 after_nowhere d h h' key c (judging.Kept kept) is next = memory_same d h h' is
 after_nowhere d h h' key c (judging.Refused why) is next = memory_same d h h' is
 after_nowhere d h h' key c judging.Fresh is next = nowhere d h h' (accepted key c ∷ []) is (λ history. subst IsHistory (sym is) (next refl history))
 
 pub memory_disk : {D : Type 0} (d : D) (h h' : List Accepted) (key : List ℕ) (c : Command) → h' ≡ judging.history_after h key c (judged h key c) → IsKey key → IsCommand c
-    → OnDisk {D = D} (λ _ _. ⊥) (λ _. 0) (λ _ _ _. ⊥) d d h h' []
+    → OnDisk {D = D} (λ _ _. ⊥) (λ _. 0) (λ _ _ _. ⊥) d d (in_memory h) (in_memory h') []
 memory_disk d h h' key c is k formed = after_nowhere d h h' key c (judged h key c) is (λ fresh history. history_more h key c history k formed fresh)

@@ -4,29 +4,41 @@ use Rattle.svc_world.specs.World.{Accepted}
 use Rattle.svc_world.specs.Judging.{IsHistory}
 use Rattle.serv_disk.specs.Disks.{Each, LeavesOnly}
 use Rattle.serv_disk.proofs.Moments.{started, weaker, joined}
-use Rattle.serv_journal.proofs.ExactLemmas.{whole_good}
-use Rattle.serv_engine.specs.Histories.{line_of_command, lines_of_history, IsGoodFound}
 use Rattle.serv_engine.proofs.HistoryLines.{history_front}
-use Rattle.serv_machine.specs.OnDisk.{HasHistory, IsAlong, IsTorn, OnDisk}
+use Rattle.serv_machine.specs.History.{Store, History, in_store, with_command, with_commands}
+use Rattle.serv_machine.specs.OnDisk.{HasHistory, IsGoodWith, IsAlong, IsTorn, OnDisk}
 
--- what has a history is good for it and a command more
-pub good_for : (h : List Accepted) (a : Accepted) (file : List ℕ) → HasHistory h file → IsGoodFound h a file
-good_for h a file whole = whole_good (lines_of_history h) (lines_of_history h) (line_of_command a) file (inl refl) whole
+-- ---- a history and commands behind it
 
-pub along_here : (h list : List Accepted) (file : List ℕ) → HasHistory h file → IsAlong h list file
+pub none_more : (h : History) → with_commands h [] ≡ h
+none_more h = ap (in_store h.store) (append-nil h.commands)
+
+one_and_more : (h : History) (a : Accepted) (list : List Accepted) → with_commands (with_command h a) list ≡ with_commands h (a ∷ list)
+one_and_more h a list = ap (in_store h.store) (append_assoc h.commands (a ∷ []) list)
+
+pub history_is : (h h' : History) (list : List Accepted) → h'.commands ≡ h.commands ++ list → h'.store ≡ h.store → h' ≡ with_commands h list
+history_is h h' list accepted store = ap (in_store h'.store) accepted ∙ ap (λ (s : Store). in_store s (h.commands ++ list)) store
+
+-- ---- what a content has
+
+-- what has a history is good with a command more
+pub good_for : (h : History) (a : Accepted) (file : List ℕ) → HasHistory h file → IsGoodWith h a file
+good_for h a file is = record { good = record { form = is.whole.form; is_form = is.whole.is_form; good = inl is.whole.whole }; form = is.form }
+
+pub along_here : (h : History) (list : List Accepted) (file : List ℕ) → HasHistory h file → IsAlong h list file
 along_here h [] file whole = whole
 along_here h (a ∷ list) file whole = inl (good_for h a file whole)
 
 -- along some commands is along more of them
-pub along_more : (h list more : List Accepted) (file : List ℕ) → IsAlong h list file → IsAlong h (list ++ more) file
+pub along_more : (h : History) (list more : List Accepted) (file : List ℕ) → IsAlong h list file → IsAlong h (list ++ more) file
 along_more h [] more file along = along_here h more file along
 along_more h (a ∷ list) more file (inl good) = inl good
-along_more h (a ∷ list) more file (inr along) = inr (along_more (h ++ a ∷ []) list more file along)
+along_more h (a ∷ list) more file (inr along) = inr (along_more (with_command h a) list more file along)
 
 -- after some commands along further ones is along all of them
-pub along_after : (h list more : List Accepted) (file : List ℕ) → IsAlong (h ++ list) more file → IsAlong h (list ++ more) file
-along_after h [] more file along = subst (λ x. IsAlong x more file) (append-nil h) along
-along_after h (a ∷ list) more file along = inr (along_after (h ++ a ∷ []) list more file (subst (λ x. IsAlong x more file) (sym (append_assoc h (a ∷ []) list)) along))
+pub along_after : (h : History) (list more : List Accepted) (file : List ℕ) → IsAlong (with_commands h list) more file → IsAlong h (list ++ more) file
+along_after h [] more file along = subst (λ x. IsAlong x more file) (none_more h) along
+along_after h (a ∷ list) more file along = inr (along_after (with_command h a) list more file (subst (λ x. IsAlong x more file) (sym (one_and_more h a list)) along))
 
 -- with nothing behind it a history is one
 pub alone : (h h' : List Accepted) → h' ≡ h → IsHistory h → IsHistory h' × IsHistory (h' ++ [])
@@ -37,64 +49,71 @@ pub history_before : (h list : List Accepted) → IsHistory (h ++ list) → IsHi
 history_before h [] is = subst IsHistory (append-nil h) is
 history_before h (a ∷ list) is = history_front h a (history_before (h ++ a ∷ []) list (subst IsHistory (sym (append_assoc h (a ∷ []) list)) is))
 
+-- ---- runs
+
 module _ {D : Type 0} (images : D → List ℕ → Type 0) (moment : D → ℕ) (images_since : D → ℕ → List ℕ → Type 0) where
   -- no call of the disk
-  pub disk_none : (d : D) (h h' : List Accepted) → h' ≡ h → Each (images d) (HasHistory h) → ((c : List ℕ) → images_since d (moment d) c → images d c)
+  pub disk_none : (d : D) (h h' : History) → h' ≡ h → Each (images d) (HasHistory h) → ((c : List ℕ) → images_since d (moment d) c → images d c)
       → OnDisk images moment images_since d d h h' []
   disk_none d h h' same each now = record {
     list = [];
-    accepted = same ∙ sym (append-nil h);
-    fresh = alone h h' same;
+    accepted = ap (λ (x : History). x.commands) same ∙ sym (append-nil h.commands);
+    store = ap (λ (x : History). x.store) same;
+    fresh = alone h.commands h'.commands (ap (λ (x : History). x.commands) same);
     left = subst (λ x. Each (images d) (HasHistory x)) (sym same) each;
     moments = started moment images_since d (HasHistory h) (λ c image. each c (now c image));
   }
 
-  pub disk_same : (old new : D) (h h' : List Accepted) → new ≡ old → h' ≡ h → Each (images old) (HasHistory h) → ((c : List ℕ) → images_since old (moment old) c → images old c)
+  pub disk_same : (old new : D) (h h' : History) → new ≡ old → h' ≡ h → Each (images old) (HasHistory h) → ((c : List ℕ) → images_since old (moment old) c → images old c)
       → OnDisk images moment images_since old new h h' []
   disk_same old new h h' same is each now = subst (λ d. OnDisk images moment images_since old d h h' []) (sym same) (disk_none old h h' is each now)
 
   -- a run, and another one after it
-  pub disk_more : (old mid new : D) (h h1 h2 pending : List Accepted) → OnDisk images moment images_since old mid h h1 [] → OnDisk images moment images_since mid new h1 h2 pending
+  pub disk_more : (old mid new : D) (h h1 h2 : History) (pending : List Accepted) → OnDisk images moment images_since old mid h h1 [] → OnDisk images moment images_since mid new h1 h2 pending
       → OnDisk images moment images_since old new h h2 pending
   disk_more old mid new h h1 h2 pending first second =
       let all : List Accepted = first.list ++ second.list in
       let grouped : all ++ pending ≡ first.list ++ (second.list ++ pending) = append_assoc first.list second.list pending in
       record {
         list = all;
-        accepted = second.accepted ∙ (ap (λ x. x ++ second.list) first.accepted ∙ append_assoc h first.list second.list);
+        accepted = second.accepted ∙ (ap (λ x. x ++ second.list) first.accepted ∙ append_assoc h.commands first.list second.list);
+        store = second.store ∙ first.store;
         fresh = λ is. second.fresh (first.fresh is).0;
         left = second.left;
         moments = joined moment images_since old mid new (IsAlong h (all ++ pending))
             (weaker moment images_since old mid (IsAlong h (first.list ++ [])) (IsAlong h (all ++ pending)) first.moments
             (λ c along. subst (λ x. IsAlong h x c) (sym grouped) (along_more h first.list (second.list ++ pending) c (subst (λ x. IsAlong h x c) (append-nil first.list) along))))
             (weaker moment images_since mid new (IsAlong h1 (second.list ++ pending)) (IsAlong h (all ++ pending)) second.moments
-            (λ c along. subst (λ x. IsAlong h x c) (sym grouped) (along_after h first.list (second.list ++ pending) c (subst (λ x. IsAlong x (second.list ++ pending) c) first.accepted along))));
+            (λ c along. subst (λ x. IsAlong h x c) (sym grouped)
+            (along_after h first.list (second.list ++ pending) c (subst (λ x. IsAlong x (second.list ++ pending) c) (history_is h h1 first.list first.accepted first.store) along))));
       }
 
   -- a command was being appended
-  pub disk_stopped : (old new : D) (h h' : List Accepted) (a : Accepted) → h' ≡ h → (IsHistory h → IsHistory (h ++ a ∷ [])) → Each (images new) (IsGoodFound h a) → LeavesOnly moment images_since old new (IsGoodFound h a)
+  pub disk_stopped : (old new : D) (h h' : History) (a : Accepted) → h' ≡ h → (IsHistory h.commands → IsHistory (h.commands ++ a ∷ [])) → Each (images new) (IsGoodWith h a) → LeavesOnly moment images_since old new (IsGoodWith h a)
       → OnDisk images moment images_since old new h h' (a ∷ [])
   disk_stopped old new h h' a same fresh each run = record {
     list = [];
-    accepted = same ∙ sym (append-nil h);
-    fresh = λ is. (subst IsHistory (sym same) is, subst (λ x. IsHistory (x ++ a ∷ [])) (sym same) (fresh is));
-    left = subst (λ x. Each (images new) (IsGoodFound x a)) (sym same) each;
-    moments = weaker moment images_since old new (IsGoodFound h a) (IsAlong h (a ∷ [])) run (λ c good. inl good);
+    accepted = ap (λ (x : History). x.commands) same ∙ sym (append-nil h.commands);
+    store = ap (λ (x : History). x.store) same;
+    fresh = λ is. (subst (λ (x : History). IsHistory x.commands) (sym same) is, subst (λ (x : History). IsHistory (x.commands ++ a ∷ [])) (sym same) (fresh is));
+    left = subst (λ x. Each (images new) (IsGoodWith x a)) (sym same) each;
+    moments = weaker moment images_since old new (IsGoodWith h a) (IsAlong h (a ∷ [])) run (λ c good. inl good);
   }
 
   -- commands that were begun are kept now
-  pub disk_kept : (old new : D) (h h' list : List Accepted) → h' ≡ h ++ list → IsHistory h' → Each (images new) (HasHistory h') → LeavesOnly moment images_since old new (IsAlong h list)
+  pub disk_kept : (old new : D) (h h' : History) (list : List Accepted) → h'.commands ≡ h.commands ++ list → h'.store ≡ h.store → IsHistory h'.commands → Each (images new) (HasHistory h') → LeavesOnly moment images_since old new (IsAlong h list)
       → OnDisk images moment images_since old new h h' []
-  disk_kept old new h h' list is history each run = record {
+  disk_kept old new h h' list is store history each run = record {
     list = list;
     accepted = is;
-    fresh = λ _. alone h' h' refl history;
+    store = store;
+    fresh = λ _. alone h'.commands h'.commands refl history;
     left = each;
     moments = weaker moment images_since old new (IsAlong h list) (IsAlong h (list ++ [])) run (λ c along. subst (λ x. IsAlong h x c) (sym (append-nil list)) along);
   }
 
   -- the disk failed: the next command after those that are kept was perhaps being appended
-  pub disk_torn : (old new : D) (h all rest : List Accepted) (next : Accepted) → all ≡ h ++ next ∷ rest → IsHistory (h ++ next ∷ []) → Each (images new) (IsGoodFound h next) → LeavesOnly moment images_since old new (IsGoodFound h next)
+  pub disk_torn : (old new : D) (h all : History) (rest : List Accepted) (next : Accepted) → all.commands ≡ h.commands ++ next ∷ rest → IsHistory (h.commands ++ next ∷ []) → Each (images new) (IsGoodWith h next) → LeavesOnly moment images_since old new (IsGoodWith h next)
       → IsTorn images moment images_since old new h all
   disk_torn old new h all rest next is history each run = record {
     next = next;

@@ -6,39 +6,44 @@ use Rattle.svc_world.specs.World.{Accepted}
 use Rattle.serv_disk.specs.Disks.{Each}
 use Rattle.serv_disk.specs.Stamps.{Stamp, AreAt, Notes}
 use Rattle.serv_disk.proofs.NotedLemmas.{adds_nil, adds_trans, held_after}
+use Rattle.serv_machine.specs.History.{Store, History, in_store, with_commands}
 use Rattle.serv_machine.specs.OnDisk.{HasHistory, IsAlong, IsLeft, OnDisk}
 use Rattle.serv_machine.specs.Upheld.{HasCommands, IsUpheld, AreUpheld, UpholdsFrom, Upholds}
 use Rattle.serv_machine.proofs.OnDiskLemmas.{along_after}
 
 -- ---- what a content has
 
-pub commands_here : (h h' list : List Accepted) (file : List ℕ) → h' ≡ h ++ list → HasHistory h' file → HasCommands h file
-commands_here h h' list file is whole = record { later = list ++ []; along = along_after h list [] file (subst (λ x. HasHistory x file) is whole) }
+-- those before some that are in the same store
+before : (commands list : List Accepted) (h' : History) → h'.commands ≡ commands ++ list → h' ≡ with_commands (in_store h'.store commands) list
+before commands list h' is = ap (in_store h'.store) is
+
+pub commands_here : (commands : List Accepted) (h' : History) (list : List Accepted) (file : List ℕ) → h'.commands ≡ commands ++ list → HasHistory h' file → HasCommands (in_store h'.store commands) file
+commands_here commands h' list file is whole = record { later = list ++ []; along = along_after (in_store h'.store commands) list [] file (subst (λ x. HasHistory x file) (before commands list h' is) whole) }
 
 -- after a call of the disk, also one that failed
-pub commands_left : (images : List ℕ → Type 0) (h h' list pending : List Accepted) → h' ≡ h ++ list → IsLeft images h' pending → Each images (HasCommands h)
-commands_left images h h' list [] is left = λ c image. commands_here h h' list c is (left c image)
-commands_left images h h' list (a ∷ more) is left = λ c image. record {
+pub commands_left : (images : List ℕ → Type 0) (commands : List Accepted) (h' : History) (list pending : List Accepted) → h'.commands ≡ commands ++ list → IsLeft images h' pending → Each images (HasCommands (in_store h'.store commands))
+commands_left images commands h' list [] is left = λ c image. commands_here commands h' list c is (left c image)
+commands_left images commands h' list (a ∷ more) is left = λ c image. record {
   later = list ++ a ∷ [];
-  along = along_after h list (a ∷ []) c (subst (λ x. IsAlong x (a ∷ []) c) is (inl (left c image)));
+  along = along_after (in_store h'.store commands) list (a ∷ []) c (subst (λ x. IsAlong x (a ∷ []) c) (before commands list h' is) (inl (left c image)));
 }
 
-pub commands_kept : (images : List ℕ → Type 0) (h : List Accepted) → Each images (HasHistory h) → Each images (HasCommands h)
-commands_kept images h each = λ c image. commands_here h h [] c (sym (append-nil h)) (each c image)
+pub commands_kept : (images : List ℕ → Type 0) (h : History) → Each images (HasHistory h) → Each images (HasCommands h)
+commands_kept images h each = λ c image. commands_here h.commands h [] c (sym (append-nil h.commands)) (each c image)
 
 -- ---- writes that are upheld
 
-pub upheld_none : (Covers : ℕ → List Accepted → Type 0) (moment : ℕ) (since : ℕ → List ℕ → Type 0) (now : List Accepted) (held : Option (List ℕ)) (log : Option (List Stamp))
+pub upheld_none : (Covers : ℕ → List Accepted → Type 0) (moment : ℕ) (since : ℕ → List ℕ → Type 0) (now : History) (held : Option (List ℕ)) (log : Option (List Stamp))
     → Upholds Covers moment since now held log log
 upheld_none Covers moment since now held log = λ s told. record { writes = []; noted = adds_nil log; each = tt }
 
-writes_both : (Covers : ℕ → List Accepted → Type 0) (moment : ℕ) (since : ℕ → List ℕ → Type 0) (now : List Accepted) (base : ℕ) (xs ys : List Stamp)
+writes_both : (Covers : ℕ → List Accepted → Type 0) (moment : ℕ) (since : ℕ → List ℕ → Type 0) (now : History) (base : ℕ) (xs ys : List Stamp)
     → AreUpheld Covers moment since now base xs → AreUpheld Covers moment since now base ys → AreUpheld Covers moment since now base (xs ++ ys)
 writes_both Covers moment since now base [] ys all more = more
 writes_both Covers moment since now base (x ∷ xs) ys all more = (all.0, writes_both Covers moment since now base xs ys all.1 more)
 
 -- of more requests these are the first too
-module _ (Covers Wider : ℕ → List Accepted → Type 0) (moment : ℕ) (since : ℕ → List ℕ → Type 0) (now : List Accepted) (then : (bytes : ℕ) (commands : List Accepted) → Covers bytes commands → Wider bytes commands) where
+module _ (Covers Wider : ℕ → List Accepted → Type 0) (moment : ℕ) (since : ℕ → List ℕ → Type 0) (now : History) (then : (bytes : ℕ) (commands : List Accepted) → Covers bytes commands → Wider bytes commands) where
   writes_wider : (base : ℕ) (writes : List Stamp) → AreUpheld Covers moment since now base writes → AreUpheld Wider moment since now base writes
   writes_wider base [] all = tt
   writes_wider base (w ∷ writes) all =
@@ -51,7 +56,7 @@ module _ (Covers Wider : ℕ → List Accepted → Type 0) (moment : ℕ) (since
   upheld_wider held log log' up = λ s told. let all = up s told in record { writes = all.writes; noted = all.noted; each = writes_wider (length s) all.writes all.each }
 
 -- the disk's calls go on
-module _ {D : Type 0} (images : D → List ℕ → Type 0) (moment : D → ℕ) (images_since : D → ℕ → List ℕ → Type 0) (old new : D) (now now' pending : List Accepted)
+module _ {D : Type 0} (images : D → List ℕ → Type 0) (moment : D → ℕ) (images_since : D → ℕ → List ℕ → Type 0) (old new : D) (now now' : History) (pending : List Accepted)
     (disk : OnDisk images moment images_since old new now now' pending) (Covers : ℕ → List Accepted → Type 0) where
   write_later : (base : ℕ) (w : Stamp) → IsUpheld Covers (moment old) (images_since old) now base w → IsUpheld Covers (moment new) (images_since new) now' base w
   write_later base w is =
@@ -62,8 +67,11 @@ module _ {D : Type 0} (images : D → List ℕ → Type 0) (moment : D → ℕ) 
         covers = is.covers;
         within = is.within;
         kept = λ c left.
-            ⊎_elim (λ past. is.kept c past) (λ along. record { later = is.rest ++ more; along = along_after is.commands is.rest more c (subst (λ x. IsAlong x more c) is.now_is along) })
-            (disk.moments.before w.at c is.past left);
+            subst (λ (s : Store). HasCommands (in_store s is.commands) c) (sym disk.store)
+            (⊎_elim
+            (λ past. is.kept c past)
+            (λ along. record { later = is.rest ++ more; along = along_after (in_store now.store is.commands) is.rest more c (subst (λ x. IsAlong x more c) (before is.commands is.rest now is.now_is) along) })
+            (disk.moments.before w.at c is.past left));
         past = omega (arith, is.past, disk.moments.later);
         rest = is.rest ++ disk.list;
         now_is = disk.accepted ∙ ap (λ x. x ++ disk.list) is.now_is ∙ append_assoc is.commands is.rest disk.list;
@@ -78,7 +86,7 @@ module _ {D : Type 0} (images : D → List ℕ → Type 0) (moment : D → ℕ) 
 
 -- replies are written while the disk is as it is
 module _ {D : Type 0} (images : D → List ℕ → Type 0) (moment : D → ℕ) (images_since : D → ℕ → List ℕ → Type 0) (d : D) (only : (c : List ℕ) → images_since d (moment d) c → images d c)
-    (Covers : ℕ → List Accepted → Type 0) (now commands rest : List Accepted) (now_is : now ≡ commands ++ rest) (has : Each (images d) (HasCommands commands)) (bytes : ℕ) (covers : Covers bytes commands) where
+    (Covers : ℕ → List Accepted → Type 0) (now : History) (commands rest : List Accepted) (now_is : now.commands ≡ commands ++ rest) (has : Each (images d) (HasCommands (in_store now.store commands))) (bytes : ℕ) (covers : Covers bytes commands) where
   writes_now : (base most : ℕ) → most ≤ base + bytes → (writes : List Stamp) → AreAt (moment d) most writes → AreUpheld Covers (moment d) (images_since d) now base writes
   writes_now base most small [] all = tt
   writes_now base most small (w ∷ writes) all = (
@@ -116,7 +124,7 @@ module _ {D : Type 0} (images : D → List ℕ → Type 0) (moment : D → ℕ) 
 -- ---- a run after another one
 
 -- others are written by a run that began where these ended
-module _ (First Second Covers : ℕ → List Accepted → Type 0) (moment : ℕ) (since : ℕ → List ℕ → Type 0) (now : List Accepted) (written : List ℕ)
+module _ (First Second Covers : ℕ → List Accepted → Type 0) (moment : ℕ) (since : ℕ → List ℕ → Type 0) (now : History) (written : List ℕ)
     (here : (bytes : ℕ) (commands : List Accepted) → First bytes commands → Covers bytes commands) (then : (bytes : ℕ) (commands : List Accepted) → Second bytes commands → Covers (length written + bytes) commands) where
   writes_then : (s : List ℕ) (writes : List Stamp) → AreUpheld Second moment since now (length (s ++ written)) writes → AreUpheld Covers moment since now (length s) writes
   writes_then s [] all = tt

@@ -23,12 +23,18 @@ pub record History : Type 0 where
 abbrev pub nothing : History
 nothing = record { commands = []; store = Memory }
 
-abbrev pub in_journal : ℕ → ℕ → List Accepted → History
-in_journal base limit h = record { commands = h; store = Journal base limit }
+abbrev pub in_store : Store → List Accepted → History
+in_store store h = record { commands = h; store = store }
 
--- one command more
+abbrev pub in_journal : ℕ → ℕ → List Accepted → History
+in_journal base limit h = in_store (Journal base limit) h
+
+-- some commands more, and one more
+abbrev pub with_commands : History → List Accepted → History
+with_commands h more = in_store h.store (h.commands ++ more)
+
 abbrev pub with_command : History → Accepted → History
-with_command h a = record { commands = h.commands ++ a ∷ []; store = h.store }
+with_command h a = with_commands h (a ∷ [])
 
 -- what is decided about a command: the reply that its key has, a refusal, that the journal, of this length, has no room
 -- for it, or that it is accepted

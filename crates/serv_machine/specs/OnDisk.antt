@@ -1,39 +1,55 @@
 -- What a machine's calls leave on the disk, now and at each moment.
-use Rattle.std.specs.Prelude.{◌≡◌, ◌⊎◌, ℕ, List, [], ◌∷◌, ◌++◌}
+use Rattle.std.specs.Prelude.{◌≡◌, ◌⊎◌, ℕ, ◌+◌, List, [], ◌∷◌, ◌++◌, length, ⊤}
 use Rattle.svc_world.specs.World.{Accepted}
 use Rattle.svc_world.specs.Judging.{IsHistory}
 use Rattle.serv_disk.specs.Disks.{Each, LeavesOnly}
+use Rattle.serv_journal.specs.declared.format.Version.TheVariants.{Two}
+use Rattle.serv_journal.specs.Format.{Form}
 use Rattle.serv_journal.specs.Disks.{IsWhole}
 use Rattle.serv_engine.specs.Histories.{lines_of_history, IsGoodFound}
+use Rattle.serv_machine.specs.History.{Store, Memory, Journal, History, with_command}
 
--- a content of a disk has a history, whole, in either version
-abbrev pub HasHistory : List Accepted → List ℕ → Type 0
-HasHistory h file = IsWhole (lines_of_history h) file
+-- which form a store has: an open journal is of version 2, and its length without a command is that of the bytes before its records
+-- and of the commit byte after them. So all contents that have a history have it behind as many bytes
+abbrev pub IsFormOf : Store → Form → Type 0
+IsFormOf Memory form = ⊤
+IsFormOf (Journal base limit) form = (form.version ≡ Two) × (base ≡ length form.front + 1)
+
+-- a content of a disk has a history, whole
+pub record HasHistory (h : History) (file : List ℕ) : Type 0 where
+  pub whole : IsWhole (lines_of_history h.commands) file
+  pub form : IsFormOf h.store whole.form
+
+-- the same, or it is torn with one command more, or whole with it
+pub record IsGoodWith (h : History) (a : Accepted) (file : List ℕ) : Type 0 where
+  pub good : IsGoodFound h.commands a file
+  pub form : IsFormOf h.store good.form
 
 -- a content has a history with some first ones of these commands: whole, or torn with the next one
-abbrev pub IsAlong : List Accepted → List Accepted → List ℕ → Type 0
+abbrev pub IsAlong : History → List Accepted → List ℕ → Type 0
 IsAlong h [] file = HasHistory h file
-IsAlong h (a ∷ list) file = IsGoodFound h a file ⊎ IsAlong (h ++ a ∷ []) list file
+IsAlong h (a ∷ list) file = IsGoodWith h a file ⊎ IsAlong (with_command h a) list file
 
 -- each image has the history; while a command is being appended, also torn with it, or whole with it
-abbrev pub IsLeft : (List ℕ → Type 0) → List Accepted → List Accepted → Type 0
+abbrev pub IsLeft : (List ℕ → Type 0) → History → List Accepted → Type 0
 IsLeft images h [] = Each images (HasHistory h)
-IsLeft images h (a ∷ more) = Each images (IsGoodFound h a)
+IsLeft images h (a ∷ more) = Each images (IsGoodWith h a)
 
 -- a run of calls: the list of commands that it accepts, and that a history stays one with them, and with the command more that
 -- was perhaps being appended; what a crash after it leaves; and at each moment the history with some first ones of all these
 pub record OnDisk {D : Type 0} (images : D → List ℕ → Type 0) (moment : D → ℕ) (images_since : D
-    → ℕ → List ℕ → Type 0) (old new : D) (h h' pending : List Accepted) : Type 0 where
+    → ℕ → List ℕ → Type 0) (old new : D) (h h' : History) (pending : List Accepted) : Type 0 where
   pub list : List Accepted
-  pub accepted : h' ≡ h ++ list
-  pub fresh : IsHistory h → IsHistory h' × IsHistory (h' ++ pending)
+  pub accepted : h'.commands ≡ h.commands ++ list
+  pub store : h'.store ≡ h.store
+  pub fresh : IsHistory h.commands → IsHistory h'.commands × IsHistory (h'.commands ++ pending)
   pub left : IsLeft (images new) h' pending
   pub moments : LeavesOnly moment images_since old new (IsAlong h (list ++ pending))
 
 -- a run of calls in which the disk failed: it accepts no command, and perhaps the next one of these was being appended
 pub record IsTorn {D : Type 0} (images : D → List ℕ → Type 0) (moment : D → ℕ) (images_since : D
-    → ℕ → List ℕ → Type 0) (old new : D) (h all : List Accepted) : Type 0 where
+    → ℕ → List ℕ → Type 0) (old new : D) (h all : History) : Type 0 where
   pub next : Accepted
   pub rest : List Accepted
-  pub all_are : all ≡ h ++ next ∷ rest
+  pub all_are : all.commands ≡ h.commands ++ next ∷ rest
   pub disk : OnDisk images moment images_since old new h h (next ∷ [])

@@ -42,9 +42,9 @@ pub fn answer_request<D: Disk, M: Machine<D>, L: Ledger>(
         × HasRisen (D.faults disk.old) (D.faults disk.new) }
     ensures appending { result ≡ Err Halt.DiskFault → IsAppending (M.history machine.old) request.now }
     ensures disk { result ≢ Err Halt.DiskFault → OnDisk D.images D.moment D.images_since disk.old disk.new
-        (M.history machine.old).commands (M.kept machine.new).commands [] }
+        (M.history machine.old) (M.kept machine.new) [] }
     ensures torn { result ≡ Err Halt.DiskFault → OnDisk D.images D.moment D.images_since disk.old disk.new
-        (M.history machine.old).commands (M.history machine.old).commands (commands_in request.now) }
+        (M.history machine.old) (M.history machine.old) (commands_in request.now) }
     ensures running { result ≢ Err Halt.DiskFault → M.running machine.new disk.new }
     ensures failed { result ≡ Err Halt.DiskFault → M.failed machine.new }
     ensures faults { D.faults disk.old ≤ D.faults disk.new }
@@ -84,9 +84,9 @@ fn answer_command<D: Disk, M: Machine<D>, L: Ledger>(
         × HasRisen (D.faults disk.old) (D.faults disk.new) }
     ensures appending { result ≡ Err Halt.DiskFault → IsAppending (M.history machine.old) (request.Do key.now command.now) }
     ensures disk { result ≢ Err Halt.DiskFault → OnDisk D.images D.moment D.images_since disk.old disk.new
-        (M.history machine.old).commands (M.kept machine.new).commands [] }
+        (M.history machine.old) (M.kept machine.new) [] }
     ensures torn { result ≡ Err Halt.DiskFault → OnDisk D.images D.moment D.images_since disk.old disk.new
-        (M.history machine.old).commands (M.history machine.old).commands (commands_in (request.Do key.now command.now)) }
+        (M.history machine.old) (M.history machine.old) (commands_in (request.Do key.now command.now)) }
     ensures running { result ≢ Err Halt.DiskFault → M.running machine.new disk.new }
     ensures failed { result ≡ Err Halt.DiskFault → M.failed machine.new }
     ensures faults { D.faults disk.old ≤ D.faults disk.new }

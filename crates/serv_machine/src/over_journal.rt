@@ -74,9 +74,9 @@ impl<D: Disk, B: Frugal> Machine<D> for Engine<B> {
         core.ask(query, steps)
     }
 
-    ghost keeps = { λ e d is. durable_whole (D.images d) e is.2 };
+    ghost keeps = { λ e d is. durable_whole (D.images d) e is.1 is.2 };
 
-    ghost keeps_running = { λ e d is. running_whole (D.images d) e is.2 };
+    ghost keeps_running = { λ e d is. running_whole (D.images d) e is.1 is.2 };
 
     ghost settled = { λ e d is. ((is.0, is.1, durable_runs (D.images d) e is.2), durable_kept (D.images d) e is.2) };
 }

@@ -8,7 +8,7 @@ use Rattle.serv_disk.specs.Disks.{Each}
 use Rattle.serv_disk.specs.Stamps.{Stamp, Notes}
 use Rattle.serv_machine.specs.declared.faults.Halt.{Halt}
 use Rattle.serv_machine.specs.declared.faults.Halt.TheVariants as halt
-use Rattle.serv_machine.specs.History.{History}
+use Rattle.serv_machine.specs.History.{History, in_store}
 use Rattle.serv_machine.specs.OnDisk.{HasHistory, OnDisk}
 use Rattle.serv_machine.specs.Upheld.{HasCommands, Upholds}
 use Rattle.serv_machine.proofs.UpheldLemmas.{commands_kept, commands_left, upheld_none, upheld_wider, upheld_later, upheld_written, upheld_then}
@@ -24,7 +24,7 @@ use Rattle.serv_top.specs.Upheld.{Say, AreFirst, AreSaidFirst, AreReplies}
 use Rattle.serv_top.proofs.Cutting.{ended_from, ended_lines-append}
 
 -- of more requests these are the first too
-pub replies_wider : (First Wider : List Said → Type 0) (moment : ℕ) (since : ℕ → List ℕ → Type 0) (now : List Accepted) (h : History) (held : Option (List ℕ)) (log log' : Option (List Stamp))
+pub replies_wider : (First Wider : List Said → Type 0) (moment : ℕ) (since : ℕ → List ℕ → Type 0) (now h : History) (held : Option (List ℕ)) (log log' : Option (List Stamp))
     → ((said : List Said) → First said → Wider said) → Upholds (AreReplies First h) moment since now held log log' → Upholds (AreReplies Wider h) moment since now held log log'
 replies_wider First Wider moment since now h held log log' then up =
     upheld_wider (AreReplies First h) (AreReplies Wider h) moment since now
@@ -41,9 +41,9 @@ first_push said last first is = record { others = is.others ++ last ∷ []; said
 
 module _ {D : Type 0} (images : D → List ℕ → Type 0) (moment : D → ℕ) (images_since : D → ℕ → List ℕ → Type 0) where
   -- a text is written that ends where the replies to some first requests do
-  replies_written : (d : D) (only : (c : List ℕ) → images_since d (moment d) c → images d c) (First : List Said → Type 0) (h t : History) (said : List Said) (now list : List Accepted)
-      (held held' : Option (List ℕ)) (written text : List ℕ) (log log' : Option (List Stamp)) → First said → t ≡ history_after_all h said → now ≡ t.commands ++ list
-      → Each (images d) (HasCommands t.commands) → Appends held held' written → written ++ text ≡ replies_to h said
+  replies_written : (d : D) (only : (c : List ℕ) → images_since d (moment d) c → images d c) (First : List Said → Type 0) (h t : History) (said : List Said) (now : History) (list : List Accepted)
+      (held held' : Option (List ℕ)) (written text : List ℕ) (log log' : Option (List Stamp)) → First said → t ≡ history_after_all h said → now.commands ≡ t.commands ++ list
+      → Each (images d) (HasCommands (in_store now.store t.commands)) → Appends held held' written → written ++ text ≡ replies_to h said
       → ((x : List ℕ) → held' ≡ Some x → Notes (moment d) (length x + length text) log log') → Upholds (AreReplies First h) (moment d) (images_since d) now held log log'
   replies_written d only First h t said now list held held' written text log log' first stands now_is has wrote gathered notes =
       let both = length-append written text in
@@ -55,21 +55,21 @@ module _ {D : Type 0} (images : D → List ℕ → Type 0) (moment : D → ℕ) 
   -- all of it is kept
   kept_written : (d : D) (only : (c : List ℕ) → images_since d (moment d) c → images d c) (First : List Said → Type 0) (h kept : History) (said : List Said)
       (held held' : Option (List ℕ)) (written text : List ℕ) (log log' : Option (List Stamp)) → First said → kept ≡ history_after_all h said
-      → Each (images d) (HasHistory kept.commands) → Appends held held' written → written ++ text ≡ replies_to h said
-      → ((x : List ℕ) → held' ≡ Some x → Notes (moment d) (length x + length text) log log') → Upholds (AreReplies First h) (moment d) (images_since d) kept.commands held log log'
+      → Each (images d) (HasHistory kept) → Appends held held' written → written ++ text ≡ replies_to h said
+      → ((x : List ℕ) → held' ≡ Some x → Notes (moment d) (length x + length text) log log') → Upholds (AreReplies First h) (moment d) (images_since d) kept held log log'
   kept_written d only First h kept said held held' written text log log' first stands has wrote gathered notes =
-      replies_written d only First h kept said kept.commands [] held held' written text log log' first stands (sym (append-nil kept.commands)) (commands_kept (images d) kept.commands has) wrote gathered notes
+      replies_written d only First h kept said kept [] held held' written text log log' first stands (sym (append-nil kept.commands)) (commands_kept (images d) kept has) wrote gathered notes
 
   module _ {waiting : ℕ} {said : List Said} {s : Stand} {t : Running} {held held' : Option (List ℕ)} {text : List ℕ} (g : Gathered waiting said s t held held' text) {log log' : Option (List Stamp)} where
     -- those of all, once all is kept
-    pub writes_all : (d : D) (only : (c : List ℕ) → images_since d (moment d) c → images d c) (kept : History) → kept ≡ t.held → Each (images d) (HasHistory kept.commands)
+    pub writes_all : (d : D) (only : (c : List ℕ) → images_since d (moment d) c → images d c) (kept : History) → kept ≡ t.held → Each (images d) (HasHistory kept)
         → ((x : List ℕ) → held' ≡ Some x → Notes (moment d) (length x + length text) log log')
-        → Upholds (AreReplies (AreFirst said) s.history) (moment d) (images_since d) kept.commands held log log'
+        → Upholds (AreReplies (AreFirst said) s.history) (moment d) (images_since d) kept held log log'
     writes_all d only kept same has notes =
         kept_written d only (AreFirst said) s.history kept said held held' g.written text log log' (all_first said) (same ∙ g.after) has g.wrote g.gathered notes
 
     -- those of all, after a request that has no reply
-    pub writes_given_up : (old new : D) (only : (c : List ℕ) → images_since new (moment new) c → images new c) (now pending : List Accepted) → OnDisk images moment images_since old new t.held.commands now pending
+    pub writes_given_up : (old new : D) (only : (c : List ℕ) → images_since new (moment new) c → images new c) (now : History) (pending : List Accepted) → OnDisk images moment images_since old new t.held now pending
         → ((x : List ℕ) → held' ≡ Some x → Notes (moment new) (length x + length text) log log')
         → Upholds (AreReplies (AreFirst said) s.history) (moment new) (images_since new) now held log log'
     writes_given_up old new only now pending disk notes =
@@ -77,7 +77,7 @@ module _ {D : Type 0} (images : D → List ℕ → Type 0) (moment : D → ℕ) 
         (commands_left (images new) t.held.commands now disk.list pending disk.accepted disk.left) g.wrote g.gathered notes
 
   -- what was upheld before a call, and the writes of the call
-  pub upheld_call : (old new : D) (now now' pending : List Accepted) → OnDisk images moment images_since old new now now' pending → (First Wider : List Said → Type 0) (h : History) (held : Option (List ℕ))
+  pub upheld_call : (old new : D) (now now' : History) (pending : List Accepted) → OnDisk images moment images_since old new now now' pending → (First Wider : List Said → Type 0) (h : History) (held : Option (List ℕ))
       (log log' log'' : Option (List Stamp)) → ((said : List Said) → First said → Wider said) → Upholds (AreReplies Wider h) (moment old) (images_since old) now held log log'
       → Upholds (AreReplies First h) (moment new) (images_since new) now' held log' log'' → Upholds (AreReplies Wider h) (moment new) (images_since new) now' held log log''
   upheld_call old new now now' pending disk First Wider h held log log' log'' then up writes =
@@ -88,33 +88,33 @@ module _ {D : Type 0} (images : D → List ℕ → Type 0) (moment : D → ℕ) 
 
   -- by its result
   pub upheld_result : (old new : D) (r : Result (Unit {0}) Stop) (kept kept' : History) (steps waiting : ℕ) (s : Stand) (First Wider : List Said → Type 0) (held held' : Option (List ℕ)) (log log' log'' : Option (List Stamp))
-      → OnOk r (OnDisk images moment images_since old new kept.commands kept'.commands []) → IfErr r (λ why. Stops images moment images_since old new why First waiting s kept (stand kept' steps) held held')
-      → ((said : List Said) → First said → Wider said) → Upholds (AreReplies Wider s.history) (moment old) (images_since old) kept.commands held log log'
-      → Upholds (AreReplies First s.history) (moment new) (images_since new) kept'.commands held log' log'' → Upholds (AreReplies Wider s.history) (moment new) (images_since new) kept'.commands held log log''
+      → OnOk r (OnDisk images moment images_since old new kept kept' []) → IfErr r (λ why. Stops images moment images_since old new why First waiting s kept (stand kept' steps) held held')
+      → ((said : List Said) → First said → Wider said) → Upholds (AreReplies Wider s.history) (moment old) (images_since old) kept held log log'
+      → Upholds (AreReplies First s.history) (moment new) (images_since new) kept' held log' log'' → Upholds (AreReplies Wider s.history) (moment new) (images_since new) kept' held log log''
   upheld_result old new (Ok x) kept kept' steps waiting s First Wider held held' log log' log'' disk stops then up writes =
-      upheld_call old new kept.commands kept'.commands [] disk First Wider s.history held log log' log'' then up writes
+      upheld_call old new kept kept' [] disk First Wider s.history held log log' log'' then up writes
   upheld_result old new (Err e) kept kept' steps waiting s First Wider held held' log log' log'' disk stops then up writes =
-      upheld_call old new kept.commands kept'.commands stops.pending stops.disk First Wider s.history held log log' log'' then up writes
+      upheld_call old new kept kept' stops.pending stops.disk First Wider s.history held log log' log'' then up writes
 
   -- where a request has no reply
   pub upheld_halted : {waiting : ℕ} {said : List Said} {s : Stand} {t : Running} {held held' : Option (List ℕ)} {text : List ℕ} (g : Gathered waiting said s t held held' text) {log' log'' : Option (List Stamp)}
       (old new : D) (only : (c : List ℕ) → images_since new (moment new) c → images new c) (last : Said) (t' : Running)
-      → ((x : List ℕ) → held' ≡ Some x → Notes (moment new) (length x + length text) log' log'') → (log : Option (List Stamp)) → Upholds (AreReplies (AreFirst said) s.history) (moment old) (images_since old) t.held.commands held log log'
-      → (why : Halt) → IsHalted images moment images_since old new why last t t' → Upholds (AreReplies (AreFirst (said ++ last ∷ [])) s.history) (moment new) (images_since new) t'.kept.commands held log log''
+      → ((x : List ℕ) → held' ≡ Some x → Notes (moment new) (length x + length text) log' log'') → (log : Option (List Stamp)) → Upholds (AreReplies (AreFirst said) s.history) (moment old) (images_since old) t.held held log log'
+      → (why : Halt) → IsHalted images moment images_since old new why last t t' → Upholds (AreReplies (AreFirst (said ++ last ∷ [])) s.history) (moment new) (images_since new) t'.kept held log log''
   upheld_halted {waiting} {said} {s} {t} {held} {held'} {text} g {log'} {log''} old new only last t' notes log up why is = by_halt why is
     where
-      by_run : (pending : List Accepted) → OnDisk images moment images_since old new t.held.commands t'.kept.commands pending → Upholds (AreReplies (AreFirst (said ++ last ∷ [])) s.history) (moment new) (images_since new) t'.kept.commands held log log''
+      by_run : (pending : List Accepted) → OnDisk images moment images_since old new t.held t'.kept pending → Upholds (AreReplies (AreFirst (said ++ last ∷ [])) s.history) (moment new) (images_since new) t'.kept held log log''
       by_run pending disk =
-          replies_wider (AreFirst said) (AreFirst (said ++ last ∷ [])) (moment new) (images_since new) t'.kept.commands s.history held log log'' (first_push said last)
-          (upheld_call old new t.held.commands t'.kept.commands pending disk (AreFirst said) (AreFirst said) s.history held log log' log'' (λ said first. first) up
-          (writes_given_up g old new only t'.kept.commands pending disk notes))
+          replies_wider (AreFirst said) (AreFirst (said ++ last ∷ [])) (moment new) (images_since new) t'.kept s.history held log log'' (first_push said last)
+          (upheld_call old new t.held t'.kept pending disk (AreFirst said) (AreFirst said) s.history held log log' log'' (λ said first. first) up
+          (writes_given_up g old new only t'.kept pending disk notes))
 
-      by_halt : (why : Halt) → IsHalted images moment images_since old new why last t t' → Upholds (AreReplies (AreFirst (said ++ last ∷ [])) s.history) (moment new) (images_since new) t'.kept.commands held log log''
+      by_halt : (why : Halt) → IsHalted images moment images_since old new why last t t' → Upholds (AreReplies (AreFirst (said ++ last ∷ [])) s.history) (moment new) (images_since new) t'.kept held log log''
       by_halt halt.OutOfMemory is = by_run [] is.disk
       by_halt halt.DiskFault is = by_run (commands_of last) is.disk
 
   -- after a request more
-  pub upheld_more : (old new : D) (now now' : List Accepted) → OnDisk images moment images_since old new now now' [] → (said : List Said) (last : Said) (h : History) (held : Option (List ℕ)) (log log' : Option (List Stamp))
+  pub upheld_more : (old new : D) (now now' : History) → OnDisk images moment images_since old new now now' [] → (said : List Said) (last : Said) (h : History) (held : Option (List ℕ)) (log log' : Option (List Stamp))
       → Upholds (AreReplies (AreFirst said) h) (moment old) (images_since old) now held log log' → Upholds (AreReplies (AreFirst (said ++ last ∷ [])) h) (moment new) (images_since new) now' held log log'
   upheld_more old new now now' disk said last h held log log' up =
       replies_wider (AreFirst said) (AreFirst (said ++ last ∷ [])) (moment new) (images_since new) now' h held log log' (first_push said last)
@@ -144,7 +144,7 @@ first_lines lines front others saids is say said first =
 -- ---- rows
 
 -- the rows that are answered are those of a file
-pub file_written : (bytes : List ℕ) (saids : List Said) (moment : ℕ) (since : ℕ → List ℕ → Type 0) (now : List Accepted) (h : History) (held : Option (List ℕ)) (log log' : Option (List Stamp))
+pub file_written : (bytes : List ℕ) (saids : List Said) (moment : ℕ) (since : ℕ → List ℕ → Type 0) (now h : History) (held : Option (List ℕ)) (log log' : Option (List Stamp))
     → FileSays bytes saids → Upholds (AreReplies (AreFirst saids) h) moment since now held log log' → Upholds (AreReplies (AreFirstIn bytes) h) moment since now held log log'
 file_written bytes saids moment since now h held log log' file up =
     replies_wider (AreFirst saids) (AreFirstIn bytes) moment since now h held log log' (λ said first. record { saids = saids; file = file; first = first }) up

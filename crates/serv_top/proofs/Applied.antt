@@ -111,7 +111,7 @@ opened seen images moment images_since old mid e steps begun is_history found go
       found = λ s told. subst (λ n. IsFound journal_limit n e.history s) back (found s told);
       good = good;
       either = either;
-      whole = durable_whole (images mid) e durable;
+      whole = λ c image. let is = durable_whole (images mid) e version durable c image in record { whole = is.whole; form = is.form };
       cost = cost;
     }
 
@@ -119,13 +119,15 @@ pub run_over : {D : Type 0} (E : Stand → Stand → List Accepted → Type 0) (
     (old mid new : D) (e : EngineState) (h : History) (steps begun steps' : ℕ) (pending : List Accepted)
     → IsOpened seen images moment images_since old mid steps begun (e.journal.size - lengths_of e.history) e.history → e.journal.limit ≡ journal_limit
     → h.store ≡ (history_of e).store → E (stand (history_of e) begun) (stand h steps') pending
-    → OnDisk images moment images_since mid new e.history h.commands pending
+    → OnDisk images moment images_since mid new (history_of e) h pending
     → IsRunOver E seen images moment images_since old new steps steps'
 run_over {D} E seen images moment images_since old mid new e h steps begun steps' pending opening limit same ends disk =
     let place : ℕ = e.journal.size - lengths_of e.history in
     let kept = same_store e h same in
     let now : E (stand (in_journal place e.journal.limit e.history) begun) (stand (in_journal place e.journal.limit h.commands) steps') pending =
     subst (λ x. E (stand (in_journal place e.journal.limit e.history) begun) (stand x steps') pending) kept ends in
+    let run : OnDisk images moment images_since mid new (in_journal place e.journal.limit e.history) (in_journal place e.journal.limit h.commands) pending =
+    subst (λ x. OnDisk images moment images_since mid new (in_journal place e.journal.limit e.history) x pending) kept disk in
     record {
       commands = e.history;
       base = place;
@@ -136,18 +138,18 @@ run_over {D} E seen images moment images_since old mid new e h steps begun steps
       pending = pending;
       ended = subst (λ n. E (stand (in_journal place n e.history) begun) (stand (in_journal place n h.commands) steps') pending) limit now;
       sound = stay_sound e.history h.commands disk.list pending disk.accepted (disk.fresh opening.is_history);
-      disk = disk;
+      disk = subst (λ n. OnDisk images moment images_since mid new (in_journal place n e.history) (in_journal place n h.commands) pending) limit run;
     }
 
 pub applied : {D : Type 0} (seen : D → Option (List ℕ)) (images : D → List ℕ → Type 0) (moment : D → ℕ) (images_since : D → ℕ → List ℕ → Type 0) (old mid new : D) (st : Status) (e : EngineState) (h : History)
     (steps begun steps' : ℕ) (left left' held held' : Option (List ℕ)) (log log' : Option (List Stamp))
     → IsOpened seen images moment images_since old mid steps begun (e.journal.size - lengths_of e.history) e.history → e.journal.limit ≡ journal_limit
     → Ends images moment images_since mid new 0 st (stand (history_of e) begun) (stand h steps') left left' held held'
-    → IsAcknowledged (λ taken. AreSaidFirst (lines_of taken)) (moment new) (images_since new) h.commands (history_of e) left left' held log log'
+    → IsAcknowledged (λ taken. AreSaidFirst (lines_of taken)) (moment new) (images_since new) h (history_of e) left left' held log log'
     → IsApplied seen images moment images_since old new st steps steps' left left' held held' log log'
 applied {D} seen images moment images_since old mid new st e h steps begun steps' left left' held held' log log' opening limit ends acked =
     run_over (λ s s' pending. Ended 0 st s s' pending left left' held held'
-    × IsAcknowledged (λ taken. AreSaidFirst (lines_of taken)) (moment new) (images_since new) s'.history.commands s.history left left' held log log') seen images moment images_since old mid new e h steps begun steps' ends.pending opening limit
+    × IsAcknowledged (λ taken. AreSaidFirst (lines_of taken)) (moment new) (images_since new) s'.history s.history left left' held log log') seen images moment images_since old mid new e h steps begun steps' ends.pending opening limit
     (store_ended 0 st (stand (history_of e) begun) (stand h steps') ends.pending ends.ended.taken left' ends.ended.written ends.ended.says) (ends.ended, acked) ends.disk
 
 -- ---- none was opened

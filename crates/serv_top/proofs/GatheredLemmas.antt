@@ -54,12 +54,12 @@ module _ (First Wider : List Said → Type 0) (then : (said : List Said) → Fir
 
   -- a run of the disk's calls, and the call that stops
   pub stops_after : {D : Type 0} (images : D → List ℕ → Type 0) (moment : D → ℕ) (images_since : D → ℕ → List ℕ → Type 0) (old mid new : D) (why : Stop) (kept kept' : History) (held held' : Option (List ℕ))
-      → OnDisk images moment images_since old mid kept.commands kept'.commands [] → Stops images moment images_since mid new why First waiting s kept' s' held held'
+      → OnDisk images moment images_since old mid kept kept' [] → Stops images moment images_since mid new why First waiting s kept' s' held held'
       → Stops images moment images_since old new why Wider waiting s kept s' held held'
   stops_after images moment images_since old mid new why kept kept' held held' first stops = record {
     pending = stops.pending;
     stopped = stopped_wider why stops.pending held held' stops.stopped;
-    disk = disk_more images moment images_since old mid new kept.commands kept'.commands s'.history.commands stops.pending first stops.disk;
+    disk = disk_more images moment images_since old mid new kept kept' s'.history stops.pending first stops.disk;
   }
 
 -- ---- lists of what is said
@@ -248,7 +248,7 @@ module _ (waiting : ℕ) (said : List Said) (s : Stand) {t : Running} {held held
             },
           );
         };
-        disk = subst (λ (h : History). OnDisk images moment images_since old new h.commands t'.kept.commands []) (sym all) is.disk;
+        disk = subst (λ (h : History). OnDisk images moment images_since old new h t'.kept []) (sym all) is.disk;
       }
       halted_of halt.DiskFault is = record {
         pending = commands_of last;
@@ -268,5 +268,5 @@ module _ (waiting : ℕ) (said : List Said) (s : Stand) {t : Running} {held held
             few = few_left;
           };
         };
-        disk = subst (λ (h : History). OnDisk images moment images_since old new h.commands t'.kept.commands (commands_of last)) (sym all) is.disk;
+        disk = subst (λ (h : History). OnDisk images moment images_since old new h t'.kept (commands_of last)) (sym all) is.disk;
       }

@@ -3,7 +3,6 @@ use Rattle.std.proofs.Common.{◌≡◌, ℕ, ◌+◌, List, ◌++◌, length, s
 use Rattle.std.specs.Prelude.{Option}
 use Rattle.std.specs.Io.KnownBytes.{Consumes}
 use Rattle.std.proofs.KnownBytes.{Consumes-trans}
-use Rattle.svc_world.specs.World.{Accepted}
 use Rattle.serv_disk.specs.Stamps.{Stamp}
 use Rattle.serv_machine.specs.History.{History}
 use Rattle.serv_top.specs.Lines.{lines_of, ended_lines, open_line}
@@ -18,9 +17,9 @@ use Rattle.serv_top.proofs.AnsweredLemmas.{replies_wider, first_of_more}
 -- the bytes taken are served, and what was answered of their lines is upheld
 pub record Going (moment : ℕ) (since : ℕ → List ℕ → Type 0) (waiting : ℕ) (s : Stand) (t : Running) (left left' held held' : Option (List ℕ)) (line text : List ℕ) (count : ℕ) (log log' : Option (List Stamp)) : Type 0 where
   pub run : Course waiting s t left left' held held' line text count
-  pub upheld : Upholds (AreReplies (AreSaidFirst (ended_lines run.taken)) s.history) moment since t.kept.commands held log log'
+  pub upheld : Upholds (AreReplies (AreSaidFirst (ended_lines run.taken)) s.history) moment since t.kept held log log'
 
-module _ (moment : ℕ) (since : ℕ → List ℕ → Type 0) (now : List Accepted) (h : History) (held : Option (List ℕ)) (log log' : Option (List Stamp)) where
+module _ (moment : ℕ) (since : ℕ → List ℕ → Type 0) (now h : History) (held : Option (List ℕ)) (log log' : Option (List Stamp)) where
   -- more bytes were taken
   pub upheld_taken : (bytes more : List ℕ) → Upholds (AreReplies (AreSaidFirst (ended_lines bytes)) h) moment since now held log log' → Upholds (AreReplies (AreSaidFirst (ended_lines (bytes ++ more))) h) moment since now held log log'
   upheld_taken bytes more up =
@@ -44,7 +43,7 @@ module _ (moment : ℕ) (since : ℕ → List ℕ → Type 0) (now : List Accept
 pub going_more : {moment : ℕ} {since : ℕ → List ℕ → Type 0} {waiting : ℕ} {s : Stand} {t : Running} {left left' held held' : Option (List ℕ)} {line text : List ℕ} {count : ℕ} {log log' : Option (List Stamp)}
     (going : Going moment since waiting s t left left' held held' line text count log log') (bytes : List ℕ) (n : ℕ) (t' : Running) (left'' held'' : Option (List ℕ)) (line' text' : List ℕ)
     (later : ℕ) (since' : ℕ → List ℕ → Type 0) (log'' : Option (List Stamp)) → length bytes ≡ n → Consumes left' left'' bytes → Served waiting (going.run.taken ++ bytes) s t' held held'' line' text'
-    → Upholds (AreReplies (AreSaidFirst (ended_lines (going.run.taken ++ bytes))) s.history) later since' t'.kept.commands held log log''
+    → Upholds (AreReplies (AreSaidFirst (ended_lines (going.run.taken ++ bytes))) s.history) later since' t'.kept held log log''
     → Going later since' waiting s t' left left'' held held'' line' text' (count + n) log log''
 going_more {left} {left'} going bytes n t' left'' held'' line' text' later since' log'' long took served up =
     let counted = going.run.count_is in

@@ -56,7 +56,7 @@ row_at (r ∷ list) (suc i) d are small = row_at list i d are.1 (omega arith)
 -- ---- one row after another
 
 module _ {D : Type 0} (images : D → List ℕ → Type 0) (moment : D → ℕ) (images_since : D → ℕ → List ℕ → Type 0) (old mid new : D) (all : List Said) (s s' : Stand) (kept : History) (held held' : Option (List ℕ))
-    (first : OnDisk images moment images_since old mid s.history.commands kept.commands []) where
+    (first : OnDisk images moment images_since old mid s.history kept []) where
   stopped_rows : (why : Stop) (pending : List Accepted) (written : List ℕ) → IsStopped why (AreFirst all) 0 s s' pending written → IsRowsOutput (status_of why) all s s' pending written
   stopped_rows stop.WriteFault pending written is = is
   stopped_rows stop.DiskFault pending written is = is
@@ -72,11 +72,11 @@ module _ {D : Type 0} (images : D → List ℕ → Type 0) (moment : D → ℕ) 
         written = stopped.written;
         wrote = stopped.wrote;
         says = stopped_rows why stops.pending stopped.written stopped.says;
-        disk = disk_more images moment images_since old mid new s.history.commands kept.commands s'.history.commands stops.pending first stops.disk;
+        disk = disk_more images moment images_since old mid new s.history kept s'.history stops.pending first stops.disk;
       }
 
   -- all are answered
-  pub rows_settled : (t : Running) (text : List ℕ) → s' ≡ stand t.kept t.steps → t.kept ≡ t.held → length text ≤ 0 → Gathered 0 all s t held held' text → OnDisk images moment images_since mid new kept.commands s'.history.commands []
+  pub rows_settled : (t : Running) (text : List ℕ) → s' ≡ stand t.kept t.steps → t.kept ≡ t.held → length text ≤ 0 → Gathered 0 all s t held held' text → OnDisk images moment images_since mid new kept s'.history []
       → RowsEnd images moment images_since old new status.Done all s s' held held'
   rows_settled t text is same few g second = record {
     pending = [];
@@ -91,7 +91,7 @@ module _ {D : Type 0} (images : D → List ℕ → Type 0) (moment : D → ℕ) 
         moved = (ap (λ (x : Stand). x.history) is ∙ same ∙ g.after, omega (arith, ap (λ (x : Stand). x.steps) is, g.cost));
       },
     );
-    disk = disk_more images moment images_since old mid new s.history.commands kept.commands s'.history.commands [] first second;
+    disk = disk_more images moment images_since old mid new s.history kept s'.history [] first second;
   }
 
 -- the rows up to one are some first ones of all
@@ -151,7 +151,7 @@ file_headless images moment images_since old new st bytes s s' held held' none e
 
 pub import_unread : {D : Type 0} (images : D → List ℕ → Type 0) (moment : D → ℕ) (images_since : D → ℕ → List ℕ → Type 0) (old new : D) (st : Status) (s s' : Stand)
     (left left' held : Option (List ℕ)) → (taken : List ℕ) × Consumes left left' taken × IsUnread st taken → s'.history ≡ s.history → s'.steps ≡ s.steps
-    → OnDisk images moment images_since old new s.history.commands s'.history.commands [] → ImportEnds images moment images_since old new st s s' left left' held held
+    → OnDisk images moment images_since old new s.history s'.history [] → ImportEnds images moment images_since old new st s s' left left' held held
 import_unread images moment images_since old new st s s' left left' held unread same steps disk = record {
   pending = [];
   imported = record {
@@ -185,11 +185,11 @@ pub imported : {D : Type 0} (seen : D → Option (List ℕ)) (images : D → Lis
     (steps begun steps' : ℕ) (left left' held held' : Option (List ℕ)) (log log' : Option (List Stamp))
     → IsOpened seen images moment images_since old mid steps begun (e.journal.size - lengths_of e.history) e.history → e.journal.limit ≡ journal_limit
     → ImportEnds images moment images_since mid new st (stand (history_of e) begun) (stand h steps') left left' held held'
-    → IsAcknowledged AreFirstIn (moment new) (images_since new) h.commands (history_of e) left left' held log log'
+    → IsAcknowledged AreFirstIn (moment new) (images_since new) h (history_of e) left left' held log log'
     → IsImported seen images moment images_since old new st steps steps' left left' held held' log log'
 imported {D} seen images moment images_since old mid new st e h steps begun steps' left left' held held' log log' opening limit ends acked =
     run_over (λ s s' pending. Imports st s s' pending left left' held held'
-    × IsAcknowledged AreFirstIn (moment new) (images_since new) s'.history.commands s.history left left' held log log') seen images moment images_since old mid new e h steps begun steps' ends.pending opening limit
+    × IsAcknowledged AreFirstIn (moment new) (images_since new) s'.history s.history left left' held log log') seen images moment images_since old mid new e h steps begun steps' ends.pending opening limit
     (store_import st (stand (history_of e) begun) (stand h steps') ends.pending left left' held held' ends.imported) (ends.imported, acked) ends.disk
 
 -- ---- completeness

@@ -26,3 +26,4 @@ pub mod AnsweredLemmas
 pub mod GoingLemmas
 pub mod OrderLemmas
 pub mod EndLemmas
+pub mod MadeLemmas

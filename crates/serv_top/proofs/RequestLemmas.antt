@@ -5,7 +5,6 @@ use Rattle.svc_types.specs.declared.requests.Request.{Request}
 use Rattle.serv_disk.specs.Disks.{Each}
 use Rattle.serv_machine.specs.declared.faults.Halt.{Halt}
 use Rattle.serv_machine.specs.declared.faults.Halt.TheVariants as halt
-use Rattle.serv_machine.specs.History.{History}
 use Rattle.serv_machine.specs.OnDisk.{HasHistory, OnDisk}
 use Rattle.serv_machine.specs.Stages.{IsKeptBut, IsNear}
 use Rattle.serv_machine.specs.Replies.{reply_to_request, history_after_request, bound_of_request, commands_in, IsAppending}
@@ -37,8 +36,8 @@ idle_replied said t t' text text' added same idle all = record {
 module _ {D : Type 0} (images : D → List ℕ → Type 0) (moment : D → ℕ) (images_since : D → ℕ → List ℕ → Type 0) where
   pub request_halted : (old new : D) (r : Request) (result : Result (Unit {0}) Halt) (t t' : Running) → (result ≡ Err halt.OutOfMemory → IsNear t.held (history_after_request t.held r) t'.kept)
       → (result ≡ Err halt.DiskFault → t'.kept ≡ t.held) → (result ≡ Err halt.DiskFault → IsAppending t.held r)
-      → (result ≢ Err halt.DiskFault → OnDisk images moment images_since old new t.held.commands t'.kept.commands [])
-      → (result ≡ Err halt.DiskFault → OnDisk images moment images_since old new t.held.commands t.held.commands (commands_in r)) → t'.steps ≤ t.steps + bound_of_request t.held r
+      → (result ≢ Err halt.DiskFault → OnDisk images moment images_since old new t.held t'.kept [])
+      → (result ≡ Err halt.DiskFault → OnDisk images moment images_since old new t.held t.held (commands_in r)) → t'.steps ≤ t.steps + bound_of_request t.held r
       → IfErr result (λ why. IsHalted images moment images_since old new why (Asks r) t t')
   request_halted old new r (Ok done) t t' near same fresh disk torn cost = tt
   request_halted old new r (Err halt.OutOfMemory) t t' near same fresh disk torn cost = record { near = near refl; cost = cost; disk = disk (λ e. cc) }
@@ -46,6 +45,6 @@ module _ {D : Type 0} (images : D → List ℕ → Type 0) (moment : D → ℕ) 
       record { fresh = fresh refl; same = same refl; cost = cost; disk = rw (same refl) (torn refl) }
 
   -- there is no memory for the text of a fault
-  pub idle_starved : (d : D) (said : Said) (t : Running) → t.kept ≡ t.held → Each (images d) (HasHistory t.held.commands) → ((c : List ℕ) → images_since d (moment d) c → images d c) → IsStarved images moment images_since d d said t t
+  pub idle_starved : (d : D) (said : Said) (t : Running) → t.kept ≡ t.held → Each (images d) (HasHistory t.held) → ((c : List ℕ) → images_since d (moment d) c → images d c) → IsStarved images moment images_since d d said t t
   idle_starved d said t all has only =
-      record { near = inl all; cost = omega arith; disk = disk_none images moment images_since d t.held.commands t.kept.commands (ap (λ (h : History). h.commands) all) has only }
+      record { near = inl all; cost = omega arith; disk = disk_none images moment images_since d t.held t.kept all has only }

@@ -69,7 +69,7 @@ all_answered {text = text} run none kept =
 module _ {D : Type 0} (images : D → List ℕ → Type 0) (moment : D → ℕ) (images_since : D → ℕ → List ℕ → Type 0) (old mid new : D) {waiting : ℕ} {s : Stand} {t : Running}
     {left left' held held' : Option (List ℕ)} {line text : List ℕ} {count : ℕ} (run : Course waiting s t left left' held held' line text count) (s' : Stand) (left'' held'' : Option (List ℕ)) where
   -- it stops at one of the bytes that were taken last
-  pub ends_at_bytes : (bytes : List ℕ) (n : ℕ) → length bytes ≡ n → count + n ≤ input_limit → Consumes left' left'' bytes → OnDisk images moment images_since old mid s.history.commands t.kept.commands []
+  pub ends_at_bytes : (bytes : List ℕ) (n : ℕ) → length bytes ≡ n → count + n ≤ input_limit → Consumes left' left'' bytes → OnDisk images moment images_since old mid s.history t.kept []
       → (why : Stop) → Stops images moment images_since mid new why (AreSaidFirst (ended_lines (run.taken ++ bytes))) waiting s t.kept s' held held''
       → Ends images moment images_since old new waiting (status_of why) s s' left left'' held held''
   ends_at_bytes bytes n long within took first why stops =
@@ -79,11 +79,11 @@ module _ {D : Type 0} (images : D → List ℕ → Type 0) (moment : D → ℕ) 
       record {
         pending = stops.pending;
         ended = stopped_ended waiting why (run.taken ++ bytes) s s' stops.pending left left'' held held'' (Consumes-trans left left' left'' run.taken bytes run.took took) small stops.stopped;
-        disk = disk_more images moment images_since old mid new s.history.commands t.kept.commands s'.history.commands stops.pending first stops.disk;
+        disk = disk_more images moment images_since old mid new s.history t.kept s'.history stops.pending first stops.disk;
       }
 
   -- it stops at the last piece
-  pub ends_at_end : count < input_limit → Consumes left' left'' [] → IsAtEnd left'' → OnDisk images moment images_since old mid s.history.commands t.kept.commands []
+  pub ends_at_end : count < input_limit → Consumes left' left'' [] → IsAtEnd left'' → OnDisk images moment images_since old mid s.history t.kept []
       → (why : Stop) → Stops images moment images_since mid new why (AreSaidFirst (lines_of run.taken)) waiting s t.kept s' held held''
       → Ends images moment images_since old new waiting (status_of why) s s' left left'' held held''
   ends_at_end below took end first why stops =
@@ -92,24 +92,24 @@ module _ {D : Type 0} (images : D → List ℕ → Type 0) (moment : D → ℕ) 
       record {
         pending = stops.pending;
         ended = stopped_last waiting why run.taken s s' stops.pending left left'' held held'' (end_took run left'' took) small end stops.stopped;
-        disk = disk_more images moment images_since old mid new s.history.commands t.kept.commands s'.history.commands stops.pending first stops.disk;
+        disk = disk_more images moment images_since old mid new s.history t.kept s'.history stops.pending first stops.disk;
       }
 
   -- all lines are answered
-  pub ends_done : count < input_limit → Consumes left' left'' [] → IsAtEnd left'' → OnDisk images moment images_since old mid s.history.commands t.kept.commands []
-      → OnDisk images moment images_since mid new t.kept.commands s'.history.commands [] → AllServed (lines_of run.taken) s s' held held''
+  pub ends_done : count < input_limit → Consumes left' left'' [] → IsAtEnd left'' → OnDisk images moment images_since old mid s.history t.kept []
+      → OnDisk images moment images_since mid new t.kept s'.history [] → AllServed (lines_of run.taken) s s' held held''
       → Ends images moment images_since old new waiting status.Done s s' left left'' held held''
   ends_done below took end first second all =
       let counted = run.count_is in
       record {
         pending = [];
         ended = record { taken = run.taken; written = all.written; took = end_took run left'' took; wrote = all.wrote; says = (refl, end, omega arith, all.answers) };
-        disk = disk_more images moment images_since old mid new s.history.commands t.kept.commands s'.history.commands [] first second;
+        disk = disk_more images moment images_since old mid new s.history t.kept s'.history [] first second;
       }
 
 module _ {D : Type 0} (images : D → List ℕ → Type 0) (moment : D → ℕ) (images_since : D → ℕ → List ℕ → Type 0) (old new : D) {waiting : ℕ} {s : Stand} {t : Running}
     {left left' held held' : Option (List ℕ)} {line text : List ℕ} {count : ℕ} (run : Course waiting s t left left' held held' line text count) (none : text ≡ []) (kept : t.kept ≡ t.held)
-    (disk : OnDisk images moment images_since old new s.history.commands t.kept.commands []) where
+    (disk : OnDisk images moment images_since old new s.history t.kept []) where
   -- a read failed: what was taken before is served
   pub ends_unread : (left'' : Option (List ℕ)) → count < input_limit → left'' ≡ left' → Ends images moment images_since old new waiting status.ReadFault s (stand t.kept t.steps) left left'' held held'
   ends_unread left'' below same =

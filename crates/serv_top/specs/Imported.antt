@@ -79,7 +79,7 @@ pub record FileEnds {D : Type 0} (images : D → List ℕ → Type 0) (moment : 
   pub written : List ℕ
   pub wrote : Appends held held' written
   pub says : ((status ≡ OutOfMemory) × IsIdle s s' pending written) ⊎ IsFileOutput status bytes s s' pending written
-  pub disk : OnDisk images moment images_since old new s.history.commands s'.history.commands pending
+  pub disk : OnDisk images moment images_since old new s.history s'.history pending
 
 pub record RowsEnd {D : Type 0} (images : D → List ℕ → Type 0) (moment : D → ℕ) (images_since : D → ℕ → List ℕ → Type 0) (old new : D)
     (status : Status) (saids : List Said) (s s' : Stand) (held held' : Option (List ℕ)) : Type 0 where
@@ -87,7 +87,7 @@ pub record RowsEnd {D : Type 0} (images : D → List ℕ → Type 0) (moment : D
   pub written : List ℕ
   pub wrote : Appends held held' written
   pub says : IsRowsOutput status saids s s' pending written
-  pub disk : OnDisk images moment images_since old new s.history.commands s'.history.commands pending
+  pub disk : OnDisk images moment images_since old new s.history s'.history pending
 
 -- the whole source is read first: then its rows are answered, or no row is acted on
 pub record Imports (status : Status) (s s' : Stand) (pending : List Accepted) (left left' held held' : Option (List ℕ)) : Type 0 where
@@ -102,7 +102,7 @@ pub record ImportEnds {D : Type 0} (images : D → List ℕ → Type 0) (moment 
     (status : Status) (s s' : Stand) (left left' held held' : Option (List ℕ)) : Type 0 where
   pub pending : List Accepted
   pub imported : Imports status s s' pending left left' held held'
-  pub disk : OnDisk images moment images_since old new s.history.commands s'.history.commands pending
+  pub disk : OnDisk images moment images_since old new s.history s'.history pending
 
 -- what some first rows of a file say
 pub record AreFirstIn (bytes : List ℕ) (said : List Said) : Type 0 where
@@ -116,4 +116,4 @@ abbrev pub IsImported : {D : Type 0} → (D → Option (List ℕ)) → (D → Li
     → Option (List ℕ) → Option (List ℕ) → Option (List ℕ) → Option (List ℕ) → Option (List Stamp) → Option (List Stamp) → Type 0
 IsImported seen images moment images_since old new status steps steps' left left' held held' log log' =
     IsRunOver (λ s s' pending. Imports status s s' pending left left' held held'
-    × IsAcknowledged AreFirstIn (moment new) (images_since new) s'.history.commands s.history left left' held log log') seen images moment images_since old new steps steps'
+    × IsAcknowledged AreFirstIn (moment new) (images_since new) s'.history s.history left left' held log log') seen images moment images_since old new steps steps'

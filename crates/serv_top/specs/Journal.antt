@@ -26,7 +26,7 @@ journal_limit = 2 ^ 28
 
 -- by the status, where the disk tells this content, and its count of faults was and is this; what a crash may leave
 abbrev pub IsInit : Status → Option (List ℕ) → Option (List ℕ) → (List ℕ → Type 0) → ℕ → ℕ → Type 0
-IsInit Done told told' images faults faults' = Each images (HasHistory [])
+IsInit Done told told' images faults faults' = Each images (HasHistory (in_journal 9 journal_limit []))
 IsInit AlreadyThere told told' images faults faults' = ((s : List ℕ) → told ≡ Some s → 9 < length s) × (told' ≡ told)
 IsInit DiskFault told told' images faults faults' = HasRisen faults faults'
 IsInit other told told' images faults faults' = ⊥
@@ -74,7 +74,7 @@ pub record IsOpened {D : Type 0} (seen : D → Option (List ℕ)) (images : D �
   pub good : KeepsGood seen images moment images_since old opened
   pub either : (s : List ℕ) → seen old ≡ Some s → (h : List Accepted) (a : Accepted) → IsHistory (h ++ a ∷ [])
       → Each (images old) (IsGoodFound h a) → (commands ≡ h) ⊎ (commands ≡ h ++ a ∷ [])
-  pub whole : Each (images opened) (HasHistory commands)
+  pub whole : Each (images opened) (HasHistory (in_journal base journal_limit commands))
   pub cost : begun ≤ steps + history_bound [] commands
 
 -- one was opened, after which the disk was this one; and then requests were answered over it, which ends so
@@ -91,7 +91,7 @@ pub record IsRunOver {D : Type 0} (Ends : Stand → Stand → List Accepted → 
   pub ended : Ends (stand (in_journal base journal_limit commands) begun) (stand (in_journal base journal_limit after) steps') pending
   pub sound : StaySound commands after pending
   -- at each moment each image has some first ones of these commands, or is torn with the next one
-  pub disk : OnDisk images moment images_since opened new commands after pending
+  pub disk : OnDisk images moment images_since opened new (in_journal base journal_limit commands) (in_journal base journal_limit after) pending
 
 -- one was opened, and then lines were answered over it; from the moment of each write on, and at exit, each image has every
 -- command that is answered by what was written by then
@@ -99,4 +99,4 @@ abbrev pub IsApplied : {D : Type 0} → (D → Option (List ℕ)) → (D → Lis
     → Option (List ℕ) → Option (List ℕ) → Option (List ℕ) → Option (List ℕ) → Option (List Stamp) → Option (List Stamp) → Type 0
 IsApplied seen images moment images_since old new status steps steps' left left' held held' log log' =
     IsRunOver (λ s s' pending. Ended 0 status s s' pending left left' held held'
-    × IsAcknowledged (λ taken. AreSaidFirst (lines_of taken)) (moment new) (images_since new) s'.history.commands s.history left left' held log log') seen images moment images_since old new steps steps'
+    × IsAcknowledged (λ taken. AreSaidFirst (lines_of taken)) (moment new) (images_since new) s'.history s.history left left' held log log') seen images moment images_since old new steps steps'

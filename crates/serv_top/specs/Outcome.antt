@@ -51,7 +51,7 @@ pub record Ends {D : Type 0} (images : D → List ℕ → Type 0) (moment : D �
     (waiting : ℕ) (status : Status) (s s' : Stand) (left left' held held' : Option (List ℕ)) : Type 0 where
   pub pending : List Accepted
   pub ended : Ended waiting status s s' pending left left' held held'
-  pub disk : OnDisk images moment images_since old new s.history.commands s'.history.commands pending
+  pub disk : OnDisk images moment images_since old new s.history s'.history pending
 
 -- the same of a run in memory, which begins with nothing; of what is held at the exit nothing else is seen than that it is sound
 pub record Ran (waiting : ℕ) (status : Status) (steps steps' : ℕ) (left left' held held' : Option (List ℕ)) : Type 0 where

@@ -40,7 +40,7 @@ pub record LinksEnd {D : Type 0} (images : D → List ℕ → Type 0) (moment : 
     {C : Type 0} (P : Stand → OneServed C) (status : Status) (most : ℕ) (coming coming' backed backed' : Option (List C)) (held held' : Option (List ℕ)) (s s' : Stand) : Type 0 where
   pub pending : List Accepted
   pub served : ServesLinks P status most coming coming' backed backed' held held' s s' pending
-  pub disk : OnDisk images moment images_since old new s.history.commands s'.history.commands pending
+  pub disk : OnDisk images moment images_since old new s.history s'.history pending
 
 -- a journal was opened, and then links were served over it
 abbrev pub IsServedOver : {D : Type 0} → (D → Option (List ℕ)) → (D → List ℕ → Type 0) → (D → ℕ) → (D → ℕ → List ℕ → Type 0) → D → D → {C : Type 0} → (Stand → OneServed C) → Status → ℕ → ℕ → ℕ

@@ -30,13 +30,13 @@ module _ {D : Type 0} (images : D → List ℕ → Type 0) (moment : D → ℕ) 
   pub record IsStarved (said : Said) (t t' : Running) : Type 0 where
     pub near : IsNear t.held (history_after t.held said) t'.kept
     pub cost : t'.steps ≤ t.steps + bound_of t.held said
-    pub disk : OnDisk images moment images_since old new t.held.commands t'.kept.commands []
+    pub disk : OnDisk images moment images_since old new t.held t'.kept []
 
   pub record IsStuck (said : Said) (t t' : Running) : Type 0 where
     pub fresh : IsFresh t.held said
     pub same : t'.kept ≡ t.held
     pub cost : t'.steps ≤ t.steps + bound_of t.held said
-    pub disk : OnDisk images moment images_since old new t.held.commands t'.kept.commands (commands_of said)
+    pub disk : OnDisk images moment images_since old new t.held t'.kept (commands_of said)
 
   abbrev pub IsHalted : Halt → Said → Running → Running → Type 0
   IsHalted halt.OutOfMemory said t t' = IsStarved said t t'
@@ -104,4 +104,4 @@ pub record Stops {D : Type 0} (images : D → List ℕ → Type 0) (moment : D �
     (why : Stop) (First : List Said → Type 0) (waiting : ℕ) (s : Stand) (kept : History) (s' : Stand) (held held' : Option (List ℕ)) : Type 0 where
   pub pending : List Accepted
   pub stopped : Stopped why First waiting s s' pending held held'
-  pub disk : OnDisk images moment images_since old new kept.commands s'.history.commands pending
+  pub disk : OnDisk images moment images_since old new kept s'.history pending

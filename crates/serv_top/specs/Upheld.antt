@@ -35,6 +35,6 @@ pub record AreReplies (First : List Said → Type 0) (h : History) (bytes : ℕ)
   pub commands_are : commands ≡ (history_after_all h said).commands
 
 -- of a run that took its requests from a source, over a history: each write that it noted is upheld
-abbrev pub IsAcknowledged : (List ℕ → List Said → Type 0) → ℕ → (ℕ → List ℕ → Type 0) → List Accepted → History → Option (List ℕ) → Option (List ℕ) → Option (List ℕ) → Option (List Stamp) → Option (List Stamp) → Type 0
+abbrev pub IsAcknowledged : (List ℕ → List Said → Type 0) → ℕ → (ℕ → List ℕ → Type 0) → History → History → Option (List ℕ) → Option (List ℕ) → Option (List ℕ) → Option (List Stamp) → Option (List Stamp) → Type 0
 IsAcknowledged First moment since now h left left' held log log' =
     upheld.IsAcknowledged (λ taken. AreReplies (First taken) h) moment since now left left' held log log'

@@ -68,7 +68,7 @@ fn import_by<D: Disk, M: Machine<D>, S: Source, K: Sink, L: Ledger>(
         (stand (M.history machine.old) steps.old) (stand (M.kept machine.new) steps.new)
         (S.left src.old) (S.left src.new) (K.held snk.old) (K.held snk.new) }
     ensures acknowledged { IsAcknowledged AreFirstIn (D.moment disk.new) (D.images_since disk.new)
-        (M.kept machine.new).commands (M.history machine.old)
+        (M.kept machine.new) (M.history machine.old)
         (S.left src.old) (S.left src.new) (K.held snk.old) (K.log snk.old) (K.log snk.new) }
     ensures read { result ≡ Status.ReadFault → HasRisen (S.faults src.old) (S.faults src.new) }
     ensures write { result ≡ Status.WriteFault → HasRisen (K.faults snk.old) (K.faults snk.new) }
@@ -125,7 +125,7 @@ fn answer_file<D: Disk, M: Machine<D>, K: Sink, L: Ledger>(
         (stand (M.history machine.old) steps.old) (stand (M.kept machine.new) steps.new)
         (K.held snk.old) (K.held snk.new) }
     ensures upheld { Upholds (AreReplies (AreFirstIn bytes.now) (M.history machine.old)) (D.moment disk.new)
-        (D.images_since disk.new) (M.kept machine.new).commands (K.held snk.old) (K.log snk.old) (K.log snk.new) }
+        (D.images_since disk.new) (M.kept machine.new) (K.held snk.old) (K.log snk.old) (K.log snk.new) }
     ensures write { result ≡ Status.WriteFault → HasRisen (K.faults snk.old) (K.faults snk.new) }
     ensures disk { result ≡ Status.DiskFault → HasRisen (D.faults disk.old) (D.faults disk.new) }
     ensures write_later { K.faults snk.old ≤ K.faults snk.new }
@@ -155,7 +155,7 @@ fn answer_rows<D: Disk, M: Machine<D>, K: Sink, L: Ledger>(
         (stand (M.history machine.old) steps.old) (stand (M.kept machine.new) steps.new)
         (K.held snk.old) (K.held snk.new) }
     ensures upheld { Upholds (AreReplies (AreFirst (map said_of rows.now)) (M.history machine.old)) (D.moment disk.new)
-        (D.images_since disk.new) (M.kept machine.new).commands (K.held snk.old) (K.log snk.old) (K.log snk.new) }
+        (D.images_since disk.new) (M.kept machine.new) (K.held snk.old) (K.log snk.old) (K.log snk.new) }
     ensures write { result ≡ Status.WriteFault → HasRisen (K.faults snk.old) (K.faults snk.new) }
     ensures disk { result ≡ Status.DiskFault → HasRisen (D.faults disk.old) (D.faults disk.new) }
     ensures write_later { K.faults snk.old ≤ K.faults snk.new }

@@ -2,7 +2,7 @@
 
 ghost use Rattle.std.specs.Prelude.{◌≡◌, ◌≤◌, ◌<◌, ◌⊎◌, ◌↔◌, ℕ, List, Some, length, true, false};
 ghost use Rattle.serv_disk.specs.Faults.{HasRisen};
-ghost use Rattle.serv_engine.specs.Engines.{IsDurable, kept_of};
+ghost use Rattle.serv_engine.specs.Engines.{IsDurable};
 ghost use Rattle.serv_machine.specs.Engines.{history_of, kept_history};
 ghost use Rattle.serv_machine.specs.Stands.{stand};
 ghost use Rattle.serv_machine.specs.Upheld.{Upholds};
@@ -33,10 +33,10 @@ pub fn serve_one<B: Frugal, D: Disk, C: Link, L: Ledger>(
     ensures served { Writes D.images D.moment D.images_since disk.old disk.new
         (Serves result (HasRisen (C.Source.faults link.old) (C.Source.faults link.new))
         (HasRisen (C.Sink.faults link.old) (C.Sink.faults link.new))
-        (λ covers. Upholds covers (D.moment disk.new) (D.images_since disk.new) (kept_of engine.new)
+        (λ covers. Upholds covers (D.moment disk.new) (D.images_since disk.new) (kept_history engine.new)
         (C.held link.old) (C.log link.old) (C.log link.new)) (C.left link.old) (C.left link.new)
         (stand (history_of engine.old) steps.old) (stand (kept_history engine.new) steps.new))
-        engine.old.history (kept_of engine.new) (C.held link.old) (C.held link.new) }
+        (history_of engine.old) (kept_history engine.new) (C.held link.old) (C.held link.new) }
     ensures few { number_in result ≤ link_limit }
     ensures disk { IsDiskEnd result → HasRisen (D.faults disk.old) (D.faults disk.new) }
     // The engine is spent exactly where the disk failed, and can be used on otherwise.

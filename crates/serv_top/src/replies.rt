@@ -76,9 +76,9 @@ impl Replies {
             (running (M.history machine.old) (M.kept machine.old) steps.old) held (K.held snk.old)
             self.old.text.items
             → Upholds (AreReplies (AreFirst (before ++ said.now ∷ [])) s.history) (D.moment disk.new)
-            (D.images_since disk.new) (M.kept machine.new).commands held (K.log snk.old) (K.log snk.new) }
+            (D.images_since disk.new) (M.kept machine.new) held (K.log snk.old) (K.log snk.new) }
         ensures disk { OnOk result (OnDisk D.images D.moment D.images_since disk.old disk.new
-            (M.kept machine.old).commands (M.kept machine.new).commands []) }
+            (M.kept machine.old) (M.kept machine.new) []) }
         ensures running { OnOk result (M.running machine.new disk.new) }
         ensures waiting { self.new.waiting ≡ self.old.waiting }
         ensures later { K.faults snk.old ≤ K.faults snk.new }
@@ -126,10 +126,10 @@ impl Replies {
             → Gathered self.old.waiting said s (running (M.history machine.old) (M.kept machine.old) steps)
             held (K.held snk.old) self.old.text.items
             → Upholds (AreReplies (AreFirst said) s.history) (D.moment disk.new) (D.images_since disk.new)
-            (M.kept machine.new).commands held (K.log snk.old) (K.log snk.new) }
+            (M.kept machine.new) held (K.log snk.old) (K.log snk.new) }
         ensures few { OnOk result (length self.new.text.items ≤ most) }
         ensures disk { OnOk result (OnDisk D.images D.moment D.images_since disk.old disk.new
-            (M.kept machine.old).commands (M.kept machine.new).commands []) }
+            (M.kept machine.old) (M.kept machine.new) []) }
         ensures ready { OnOk result (M.ready machine.new disk.new) }
         ensures waiting { self.new.waiting ≡ self.old.waiting }
         ensures later { K.faults snk.old ≤ K.faults snk.new }
@@ -167,7 +167,7 @@ impl Replies {
         ensures kept { OnErr result (self.new.text.items ≡ self.old.text.items) }
         ensures waiting { self.new.waiting ≡ self.old.waiting }
         ensures disk { OnOk result (OnDisk D.images D.moment D.images_since disk.old disk.new
-            (M.history machine.old).commands (M.kept machine.new).commands []) }
+            (M.history machine.old) (M.kept machine.new) []) }
         ensures running { OnOk result (M.running machine.new disk.new) }
         ensures stopped { result ≡ Err Halt.DiskFault → HasRisen (D.faults disk.old) (D.faults disk.new) }
         ensures faults { D.faults disk.old ≤ D.faults disk.new }

@@ -116,13 +116,13 @@ impl Serving {
             (running (M.history machine.old) (M.kept machine.old) steps.old) held (K.held snk.old)
             self.old.line.items self.old.replies.text.items
             → Upholds (AreReplies (AreSaidFirst lines) s.history) (D.moment disk.old)
-            (D.images_since disk.old) (M.kept machine.old).commands held log (K.log snk.old)
+            (D.images_since disk.old) (M.kept machine.old) held log (K.log snk.old)
             → Upholds (AreReplies (AreSaidFirst lines) s.history) (D.moment disk.new)
-            (D.images_since disk.new) (M.kept machine.new).commands held log (K.log snk.new) }
+            (D.images_since disk.new) (M.kept machine.new) held log (K.log snk.new) }
         ensures empty { OnOk result (self.new.replies.text.items ≡ []) }
         ensures waiting { self.new.replies.waiting ≡ self.old.replies.waiting }
         ensures disk { OnOk result (OnDisk D.images D.moment D.images_since disk.old disk.new
-            (M.kept machine.old).commands (M.kept machine.new).commands []) }
+            (M.kept machine.old) (M.kept machine.new) []) }
         ensures ready { OnOk result (M.ready machine.new disk.new) }
         ensures later { K.faults snk.old ≤ K.faults snk.new }
         ensures cause { result ≡ Err Stop.WriteFault → HasRisen (K.faults snk.old) (K.faults snk.new) }
@@ -170,12 +170,12 @@ impl Serving {
             (running (M.history machine.old) (M.kept machine.old) steps.old) held (K.held snk.old)
             self.old.line.items self.old.replies.text.items
             → Upholds (AreReplies (AreSaidFirst lines) s.history) (D.moment disk.old)
-            (D.images_since disk.old) (M.kept machine.old).commands held log (K.log snk.old)
+            (D.images_since disk.old) (M.kept machine.old) held log (K.log snk.old)
             → Upholds (AreReplies (AreSaidFirst lines) s.history) (D.moment disk.new)
-            (D.images_since disk.new) (M.kept machine.new).commands held log (K.log snk.new) }
+            (D.images_since disk.new) (M.kept machine.new) held log (K.log snk.new) }
         ensures waiting { self.new.replies.waiting ≡ self.old.replies.waiting }
         ensures disk { OnOk result (OnDisk D.images D.moment D.images_since disk.old disk.new
-            (M.kept machine.old).commands (M.kept machine.new).commands []) }
+            (M.kept machine.old) (M.kept machine.new) []) }
         ensures running { OnOk result (M.running machine.new disk.new) }
         ensures later { K.faults snk.old ≤ K.faults snk.new }
         ensures cause { result ≡ Err Stop.WriteFault → HasRisen (K.faults snk.old) (K.faults snk.new) }
@@ -227,12 +227,12 @@ impl Serving {
             (running (M.history machine.old) (M.kept machine.old) steps.old) held (K.held snk.old)
             self.old.line.items self.old.replies.text.items
             → Upholds (AreReplies (AreSaidFirst lines) s.history) (D.moment disk.old)
-            (D.images_since disk.old) (M.kept machine.old).commands held log (K.log snk.old)
+            (D.images_since disk.old) (M.kept machine.old) held log (K.log snk.old)
             → Upholds (AreReplies (AreSaidFirst lines) s.history) (D.moment disk.new)
-            (D.images_since disk.new) (M.kept machine.new).commands held log (K.log snk.new) }
+            (D.images_since disk.new) (M.kept machine.new) held log (K.log snk.new) }
         ensures waiting { self.new.replies.waiting ≡ self.old.replies.waiting }
         ensures disk { OnOk result (OnDisk D.images D.moment D.images_since disk.old disk.new
-            (M.kept machine.old).commands (M.kept machine.new).commands []) }
+            (M.kept machine.old) (M.kept machine.new) []) }
         ensures running { OnOk result (M.running machine.new disk.new) }
         ensures later { K.faults snk.old ≤ K.faults snk.new }
         ensures cause { result ≡ Err Stop.WriteFault → HasRisen (K.faults snk.old) (K.faults snk.new) }
@@ -276,13 +276,13 @@ impl Serving {
             (running (M.history machine.old) (M.kept machine.old) steps) held (K.held snk.old)
             self.old.line.items self.old.replies.text.items
             → Upholds (AreReplies (AreSaidFirst lines) s.history) (D.moment disk.old)
-            (D.images_since disk.old) (M.kept machine.old).commands held log (K.log snk.old)
+            (D.images_since disk.old) (M.kept machine.old) held log (K.log snk.old)
             → Upholds (AreReplies (AreSaidFirst lines) s.history) (D.moment disk.new)
-            (D.images_since disk.new) (M.kept machine.new).commands held log (K.log snk.new) }
+            (D.images_since disk.new) (M.kept machine.new) held log (K.log snk.new) }
         ensures same { OnOk result ((machine.new ≡ machine.old) × (disk.new ≡ disk.old) × (snk.new ≡ snk.old)) }
         ensures waiting { self.new.replies.waiting ≡ self.old.replies.waiting }
         ensures disk { OnOk result (OnDisk D.images D.moment D.images_since disk.old disk.new
-            (M.kept machine.old).commands (M.kept machine.new).commands []) }
+            (M.kept machine.old) (M.kept machine.new) []) }
         ensures running { OnOk result (M.running machine.new disk.new) }
         ensures later { K.faults snk.old ≤ K.faults snk.new }
         ensures cause { result ≡ Err Stop.WriteFault → HasRisen (K.faults snk.old) (K.faults snk.new) }
@@ -327,12 +327,12 @@ impl Serving {
             (running (M.history machine.old) (M.kept machine.old) steps.old) held (K.held snk.old)
             self.old.line.items self.old.replies.text.items
             → Upholds (AreReplies (AreSaidFirst lines) s.history) (D.moment disk.old)
-            (D.images_since disk.old) (M.kept machine.old).commands held log (K.log snk.old)
+            (D.images_since disk.old) (M.kept machine.old) held log (K.log snk.old)
             → Upholds (AreReplies (AreSaidFirst lines) s.history) (D.moment disk.new)
-            (D.images_since disk.new) (M.kept machine.new).commands held log (K.log snk.new) }
+            (D.images_since disk.new) (M.kept machine.new) held log (K.log snk.new) }
         ensures waiting { self.new.replies.waiting ≡ self.old.replies.waiting }
         ensures disk { OnOk result (OnDisk D.images D.moment D.images_since disk.old disk.new
-            (M.kept machine.old).commands (M.kept machine.new).commands []) }
+            (M.kept machine.old) (M.kept machine.new) []) }
         ensures running { OnOk result (M.running machine.new disk.new) }
         ensures later { K.faults snk.old ≤ K.faults snk.new }
         ensures cause { result ≡ Err Stop.WriteFault → HasRisen (K.faults snk.old) (K.faults snk.new) }
@@ -379,11 +379,11 @@ impl Serving {
             (running (M.history machine.old) (M.kept machine.old) steps.old) held (K.held snk.old)
             self.old.line.items self.old.replies.text.items
             → Upholds (AreReplies (AreSaidFirst lines) s.history) (D.moment disk.old)
-            (D.images_since disk.old) (M.kept machine.old).commands held log (K.log snk.old)
+            (D.images_since disk.old) (M.kept machine.old) held log (K.log snk.old)
             → Upholds (AreReplies (AreSaidFirst lines) s.history) (D.moment disk.new)
-            (D.images_since disk.new) (M.kept machine.new).commands held log (K.log snk.new) }
+            (D.images_since disk.new) (M.kept machine.new) held log (K.log snk.new) }
         ensures disk { OnOk result (OnDisk D.images D.moment D.images_since disk.old disk.new
-            (M.kept machine.old).commands (M.kept machine.new).commands []) }
+            (M.kept machine.old) (M.kept machine.new) []) }
         ensures later { K.faults snk.old ≤ K.faults snk.new }
         ensures cause { result ≡ Err Stop.WriteFault → HasRisen (K.faults snk.old) (K.faults snk.new) }
         ensures disk_later { D.faults disk.old ≤ D.faults disk.new }

@@ -37,7 +37,7 @@ pub(crate) fn serve<D: Disk, M: Machine<D>, S: Source, K: Sink, L: Ledger>(
         (stand (M.history machine.old) steps.old) (stand (M.kept machine.new) steps.new)
         (S.left src.old) (S.left src.new) (K.held snk.old) (K.held snk.new) }
     ensures acknowledged { IsAcknowledged (λ taken. AreSaidFirst (lines_of taken)) (D.moment disk.new)
-        (D.images_since disk.new) (M.kept machine.new).commands (M.history machine.old)
+        (D.images_since disk.new) (M.kept machine.new) (M.history machine.old)
         (S.left src.old) (S.left src.new) (K.held snk.old) (K.log snk.old) (K.log snk.new) }
     ensures read { result ≡ Status.ReadFault → HasRisen (S.faults src.old) (S.faults src.new) }
     ensures write { result ≡ Status.WriteFault → HasRisen (K.faults snk.old) (K.faults snk.new) }

@@ -86,7 +86,7 @@ returns-in-Ok-settle-clause-upheld g c =
     let all : take c.loop-ask.ask-index asks ≡ asks = take_all c.loop-ask.ask-index asks (omega (arith, c.loop-ask-test.false)) in
     let gathered = rw all at c.loop-ask.invariant.gathered in
     let kept = (g.met.M.Machine.settled c.settle.new.machine c.settle.new.disk c.in-Ok-settle.ensures.ready).1 in
-    let run = subst (λ (h : History). OnDisk g.D.Disk.images g.D.Disk.moment g.D.Disk.images_since c.loop-ask.disk c.settle.new.disk (g.M.Machine.kept c.loop-ask.machine).commands h.commands []) (sym kept) c.in-Ok-settle.ensures.disk in
+    let run = subst (λ (h : History). OnDisk g.D.Disk.images g.D.Disk.moment g.D.Disk.images_since c.loop-ask.disk c.settle.new.disk (g.M.Machine.kept c.loop-ask.machine) h []) (sym kept) c.in-Ok-settle.ensures.disk in
     call_upheld g.D.Disk.images g.D.Disk.moment g.D.Disk.images_since c.loop-ask.disk c.settle.new.disk _ _ [] run (g.M.Machine.kept c.args.machine.now)
     asks [] asks (sym (append-nil asks)) (g.K.Sink.held c.args.link.now) _ _ _ c.loop-ask.invariant.upheld
     (c.settle.ensures.upheld asks (stand (g.M.Machine.kept c.args.machine.now) c.args.steps.now) c.loop-ask.steps (g.K.Sink.held c.args.link.now) gathered)

@@ -11,9 +11,9 @@ abbrev pub invariant-loop-ask : goal.invariant-loop-ask
 invariant-loop-ask g l = record {
   gathered : Gathered l.responses.answered l.responses.waits l.responses.text.items (take l.ask-index l.asks) (stand (g.M.Machine.kept l.fn.machine) l.fn.steps)
       (running (g.M.Machine.history l.machine) (g.M.Machine.kept l.machine) l.steps) (g.K.Sink.held l.fn.link) (g.K.Sink.held l.link);
-  upheld : Upholds (AreAnswers l.asks (g.M.Machine.kept l.fn.machine)) (g.D.Disk.moment l.disk) (g.D.Disk.images_since l.disk) (g.M.Machine.kept l.machine).commands
+  upheld : Upholds (AreAnswers l.asks (g.M.Machine.kept l.fn.machine)) (g.D.Disk.moment l.disk) (g.D.Disk.images_since l.disk) (g.M.Machine.kept l.machine)
       (g.K.Sink.held l.fn.link) (g.K.Sink.log l.fn.link) (g.K.Sink.log l.link);
-  disk : OnDisk g.D.Disk.images g.D.Disk.moment g.D.Disk.images_since l.fn.disk l.disk (g.M.Machine.kept l.fn.machine).commands (g.M.Machine.kept l.machine).commands [];
+  disk : OnDisk g.D.Disk.images g.D.Disk.moment g.D.Disk.images_since l.fn.disk l.disk (g.M.Machine.kept l.fn.machine) (g.M.Machine.kept l.machine) [];
   count : l.responses.answered + as_one l.responses.waits ≡ l.ask-index;
   running : g.M.Machine.running l.machine l.disk;
   later : g.K.Sink.faults l.fn.link ≤ g.K.Sink.faults l.link;

@@ -1,5 +1,4 @@
-use Rattle.std.proofs.Common.{ap, refl}
-use Rattle.serv_machine.specs.History.{History}
+use Rattle.std.proofs.Common.{refl}
 use Rattle.serv_machine.proofs.OnDiskLemmas.{disk_none}
 use Rattle.serv_links.specs.Responses.{response_to}
 use Rattle.serv_links.specs.Verdicts.{response_of}
@@ -7,12 +6,12 @@ use Rattle.serv_links.proofs.deciding.decide.Goals as goal
 
 pub returns-in-Ok-clause-disk : goal.returns-in-Ok-clause-disk
 returns-in-Ok-clause-disk g c = λ other.
-    disk_none g.D.Disk.images g.D.Disk.moment g.D.Disk.images_since c.args.disk.now _ _ (ap (λ (h : History). h.commands) (g.met.M.Machine.settled c.args.machine.now c.args.disk.now c.requires.ready).1)
+    disk_none g.D.Disk.images g.D.Disk.moment g.D.Disk.images_since c.args.disk.now _ _ (g.met.M.Machine.settled c.args.machine.now c.args.disk.now c.requires.ready).1
     (g.met.M.Machine.keeps c.args.machine.now c.args.disk.now c.requires.ready) (g.met.D.Disk.only_now c.args.disk.now)
 
 pub returns-in-Err-clause-disk : goal.returns-in-Err-clause-disk
 returns-in-Err-clause-disk g c = λ other.
-    disk_none g.D.Disk.images g.D.Disk.moment g.D.Disk.images_since c.args.disk.now _ _ (ap (λ (h : History). h.commands) (g.met.M.Machine.settled c.args.machine.now c.args.disk.now c.requires.ready).1)
+    disk_none g.D.Disk.images g.D.Disk.moment g.D.Disk.images_since c.args.disk.now _ _ (g.met.M.Machine.settled c.args.machine.now c.args.disk.now c.requires.ready).1
     (g.met.M.Machine.keeps c.args.machine.now c.args.disk.now c.requires.ready) (g.met.D.Disk.only_now c.args.disk.now)
 
 pub returns-in-Faulty-clause-response : goal.returns-in-Faulty-clause-response
@@ -21,5 +20,5 @@ returns-in-Faulty-clause-response g c = rw c.in-Faulty.is refl
 
 pub returns-in-Faulty-clause-disk : goal.returns-in-Faulty-clause-disk
 returns-in-Faulty-clause-disk g c = λ other.
-    disk_none g.D.Disk.images g.D.Disk.moment g.D.Disk.images_since c.args.disk.now _ _ (ap (λ (h : History). h.commands) (g.met.M.Machine.settled c.args.machine.now c.args.disk.now c.requires.ready).1)
+    disk_none g.D.Disk.images g.D.Disk.moment g.D.Disk.images_since c.args.disk.now _ _ (g.met.M.Machine.settled c.args.machine.now c.args.disk.now c.requires.ready).1
     (g.met.M.Machine.keeps c.args.machine.now c.args.disk.now c.requires.ready) (g.met.D.Disk.only_now c.args.disk.now)

@@ -42,7 +42,7 @@ returns-in-Ok-eq0-clause-served g c =
     same_log (g.C.Source.beside c.pieces.link) (g.C.Source.beside c.read_some.new.src) _ _ _ _ _ _ _ _ (g.met.C.Link.writing c.pieces.link) (g.met.C.Link.writing c.read_some.new.src) c.read_some.ensures.beside in
     let none : c.in-Ok-eq0.field-0 ≡ 0 = omega (arith, c.in-Ok-eq0.field-0-test) in
     run_ends g.D.Disk.images g.D.Disk.moment g.D.Disk.images_since c.args.disk.now c.pieces.disk
-    (λ log covers. Upholds covers (g.D.Disk.moment c.pieces.disk) (g.D.Disk.images_since c.pieces.disk) (g.M.Machine.kept c.pieces.machine).commands (g.C.Sink.held c.args.link.now) (g.C.Sink.log c.args.link.now) log) _ _ unnoted _ _ _ _ c.pieces.conn c.pieces.answered c.pieces.taken
+    (λ log covers. Upholds covers (g.D.Disk.moment c.pieces.disk) (g.D.Disk.images_since c.pieces.disk) (g.M.Machine.kept c.pieces.machine) (g.C.Sink.held c.args.link.now) (g.C.Sink.log c.args.link.now) log) _ _ unnoted _ _ _ _ c.pieces.conn c.pieces.answered c.pieces.taken
     (stand (g.M.Machine.kept c.args.machine.now) c.args.steps.now) (stand (g.M.Machine.kept c.pieces.machine) c.pieces.steps) c.pieces.invariant.run _ _ kept c.pieces.invariant.below _ _
     (rw none at c.in-Ok-eq0.ensures.taken) (c.in-Ok-eq0.ensures.end none)
 
@@ -53,7 +53,7 @@ returns-in-Err-clause-served g c =
     let unnoted : g.C.Sink.log c.read_some.new.src ≡ g.C.Sink.log c.pieces.link =
     same_log (g.C.Source.beside c.pieces.link) (g.C.Source.beside c.read_some.new.src) _ _ _ _ _ _ _ _ (g.met.C.Link.writing c.pieces.link) (g.met.C.Link.writing c.read_some.new.src) c.read_some.ensures.beside in
     run_breaks g.D.Disk.images g.D.Disk.moment g.D.Disk.images_since c.args.disk.now c.pieces.disk
-    (λ log covers. Upholds covers (g.D.Disk.moment c.pieces.disk) (g.D.Disk.images_since c.pieces.disk) (g.M.Machine.kept c.pieces.machine).commands (g.C.Sink.held c.args.link.now) (g.C.Sink.log c.args.link.now) log) _ _ unnoted _ _ _ _ c.pieces.conn c.pieces.answered c.pieces.taken
+    (λ log covers. Upholds covers (g.D.Disk.moment c.pieces.disk) (g.D.Disk.images_since c.pieces.disk) (g.M.Machine.kept c.pieces.machine) (g.C.Sink.held c.args.link.now) (g.C.Sink.log c.args.link.now) log) _ _ unnoted _ _ _ _ c.pieces.conn c.pieces.answered c.pieces.taken
     (stand (g.M.Machine.kept c.args.machine.now) c.args.steps.now) (stand (g.M.Machine.kept c.pieces.machine) c.pieces.steps) c.pieces.invariant.run _ _ kept c.pieces.invariant.below _ _
     c.in-Err.ensures.kept (risen_last _ _ _ c.pieces.invariant.read_later c.read_some.ensures.cause.later c.in-Err.ensures.cause.failed)
 

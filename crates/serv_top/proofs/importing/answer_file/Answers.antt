@@ -1,6 +1,5 @@
-use Rattle.std.proofs.Common.{[], refl, ap, arith, inl}
+use Rattle.std.proofs.Common.{[], refl, arith, inl}
 use Rattle.std.proofs.KnownBytes.{Appends-nil}
-use Rattle.serv_machine.specs.History.{History}
 use Rattle.serv_machine.proofs.OnDiskLemmas.{disk_none}
 use Rattle.serv_top.proofs.ImportLemmas.{batch_rows, file_rows, file_headless}
 use Rattle.serv_top.specs.Imported.{rows, headless}
@@ -25,7 +24,7 @@ returns-in-Err-OutOfMemory-clause-ends g c = record {
   written = [];
   wrote = Appends-nil _;
   says = inl (refl, record { none_pending = refl; nothing = refl; stays = ((g.met.M.Machine.settled c.args.machine.now c.args.disk.now c.requires.ready).1, omega arith) });
-  disk = disk_none g.D.Disk.images g.D.Disk.moment g.D.Disk.images_since c.args.disk.now _ _ (ap (λ (h : History). h.commands) (g.met.M.Machine.settled c.args.machine.now c.args.disk.now c.requires.ready).1)
+  disk = disk_none g.D.Disk.images g.D.Disk.moment g.D.Disk.images_since c.args.disk.now _ _ (g.met.M.Machine.settled c.args.machine.now c.args.disk.now c.requires.ready).1
       (g.met.M.Machine.keeps c.args.machine.now c.args.disk.now c.requires.ready) (g.met.D.Disk.only_now c.args.disk.now);
 }
 

@@ -1,6 +1,5 @@
-use Rattle.std.proofs.Common.{take, drop, map, refl, ap, arith, suc, []}
+use Rattle.std.proofs.Common.{take, drop, map, refl, arith, suc, []}
 use Rattle.std.proofs.lemmas.List.{take_all}
-use Rattle.serv_machine.specs.History.{History}
 use Rattle.serv_machine.proofs.OnDiskLemmas.{disk_none, disk_more}
 use Rattle.serv_machine.proofs.UpheldLemmas.{upheld_none}
 use Rattle.serv_top.specs.Imported.{said_of}
@@ -17,7 +16,7 @@ loop-row-init g c =
     record {
       gathers = gathered_none 0 _ _ _ _ c.new-replies.ensures.text refl settled.1 (omega arith);
       upheld = upheld_none _ _ _ _ _ _;
-      disk = disk_none g.D.Disk.images g.D.Disk.moment g.D.Disk.images_since c.args.disk.now _ _ (ap (λ (h : History). h.commands) settled.1)
+      disk = disk_none g.D.Disk.images g.D.Disk.moment g.D.Disk.images_since c.args.disk.now _ _ settled.1
           (g.met.M.Machine.keeps c.args.machine.now c.args.disk.now c.requires.ready) (g.met.D.Disk.only_now c.args.disk.now);
       running = settled.0;
       waiting = c.new-replies.ensures.waiting;

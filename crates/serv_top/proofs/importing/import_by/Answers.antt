@@ -1,5 +1,4 @@
-use Rattle.std.proofs.Common.{refl, ap}
-use Rattle.serv_machine.specs.History.{History}
+use Rattle.std.proofs.Common.{refl}
 use Rattle.serv_machine.proofs.OnDiskLemmas.{disk_none}
 use Rattle.serv_top.proofs.ImportLemmas.{import_unread}
 use Rattle.serv_machine.proofs.UpheldLemmas.{upheld_none}
@@ -8,7 +7,7 @@ use Rattle.serv_top.proofs.importing.import_by.Goals as goal
 pub returns-in-Err-clause-ends : goal.returns-in-Err-clause-ends
 returns-in-Err-clause-ends g c =
     import_unread g.D.Disk.images g.D.Disk.moment g.D.Disk.images_since _ _ _ _ _ _ _ _ c.in-Err.ensures.unread (g.met.M.Machine.settled c.args.machine.now c.args.disk.now c.requires).1 refl
-    (disk_none g.D.Disk.images g.D.Disk.moment g.D.Disk.images_since c.args.disk.now _ _ (ap (λ (h : History). h.commands) (g.met.M.Machine.settled c.args.machine.now c.args.disk.now c.requires).1) (g.met.M.Machine.keeps c.args.machine.now c.args.disk.now c.requires) (g.met.D.Disk.only_now c.args.disk.now))
+    (disk_none g.D.Disk.images g.D.Disk.moment g.D.Disk.images_since c.args.disk.now _ _ (g.met.M.Machine.settled c.args.machine.now c.args.disk.now c.requires).1 (g.met.M.Machine.keeps c.args.machine.now c.args.disk.now c.requires) (g.met.D.Disk.only_now c.args.disk.now))
 
 pub returns-in-Ok-clause-acknowledged : goal.returns-in-Ok-clause-acknowledged
 returns-in-Ok-clause-acknowledged g c = record {

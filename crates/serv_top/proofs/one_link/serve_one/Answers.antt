@@ -1,4 +1,3 @@
-use Rattle.serv_engine.specs.Engines.{kept_of}
 use Rattle.serv_disk.specs.Faults.{HasRisen}
 use Rattle.serv_machine.specs.History.{History}
 use Rattle.serv_machine.specs.Engines.{kept_history}
@@ -16,9 +15,9 @@ returns-clause-served g c =
     subst
     (λ (h : History). Writes g.D.Disk.images g.D.Disk.moment g.D.Disk.images_since c.args.disk.now c.serve_link.new.disk
     (Serves c.serve_link.result (HasRisen (g.C.Source.faults c.args.link.now) (g.C.Source.faults c.serve_link.new.link)) (HasRisen (g.C.Sink.faults c.args.link.now) (g.C.Sink.faults c.serve_link.new.link))
-    (λ covers. Upholds covers (g.D.Disk.moment c.serve_link.new.disk) (g.D.Disk.images_since c.serve_link.new.disk) (kept_of c.serve_link.new.machine) (g.C.Sink.held c.args.link.now) (g.C.Sink.log c.args.link.now) (g.C.Sink.log c.serve_link.new.link))
+    (λ covers. Upholds covers (g.D.Disk.moment c.serve_link.new.disk) (g.D.Disk.images_since c.serve_link.new.disk) (kept_history c.serve_link.new.machine) (g.C.Sink.held c.args.link.now) (g.C.Sink.log c.args.link.now) (g.C.Sink.log c.serve_link.new.link))
     (g.C.Source.left c.args.link.now) (g.C.Source.left c.serve_link.new.link) (stand h c.args.steps.now) (stand (kept_history c.serve_link.new.machine) c.serve_link.new.steps))
-    h.commands (kept_of c.serve_link.new.machine) (g.C.Sink.held c.args.link.now) (g.C.Sink.held c.serve_link.new.link))
+    h (kept_history c.serve_link.new.machine) (g.C.Sink.held c.args.link.now) (g.C.Sink.held c.serve_link.new.link))
     (durable_kept (g.D.Disk.images c.args.disk.now) c.args.engine.now c.requires.durable) c.serve_link.ensures.served
 
 pub returns-clause-complete : goal.returns-clause-complete

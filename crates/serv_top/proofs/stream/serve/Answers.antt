@@ -1,7 +1,6 @@
-use Rattle.std.proofs.Common.{◌≡◌, ◌+◌, ◌<◌, ◌≤◌, ◌++◌, [], length, take, refl, sym, ap, arith, append-nil}
+use Rattle.std.proofs.Common.{◌≡◌, ◌+◌, ◌<◌, ◌≤◌, ◌++◌, [], length, take, refl, sym, arith, append-nil}
 use Rattle.std.proofs.KnownBytes.{Consumes-trans}
 use Rattle.serv_machine.proofs.OnDiskLemmas.{disk_none, disk_more}
-use Rattle.serv_machine.specs.History.{History}
 use Rattle.serv_top.specs.Outcome.{input_limit}
 use Rattle.serv_top.specs.Lines.{ended_lines, lines_of}
 use Rattle.serv_top.proofs.GoingLemmas.{going_more, upheld_taken, upheld_end, acknowledged}
@@ -17,7 +16,7 @@ loop-taken-init g c =
         run = course_none _ _ _ _ _ _ _ c.new-serving.ensures.line c.new-serving.ensures.replies refl settled.1 (omega arith);
         upheld = upheld_none _ _ _ _ _ _;
       };
-      disk = disk_none g.D.Disk.images g.D.Disk.moment g.D.Disk.images_since c.args.disk.now _ _ (ap (λ (h : History). h.commands) settled.1)
+      disk = disk_none g.D.Disk.images g.D.Disk.moment g.D.Disk.images_since c.args.disk.now _ _ settled.1
           (g.met.M.Machine.keeps c.args.machine.now c.args.disk.now c.requires) (g.met.D.Disk.only_now c.args.disk.now);
       ready = c.requires;
       waiting = c.new-serving.ensures.waiting;

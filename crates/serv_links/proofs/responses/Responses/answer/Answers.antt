@@ -1,6 +1,5 @@
-use Rattle.std.proofs.Common.{[], ◌∷◌, ◌++◌, refl, ap, inl, inr, arith, Err}
+use Rattle.std.proofs.Common.{[], ◌∷◌, ◌++◌, refl, inl, inr, arith, Err}
 use Rattle.serv_disk.specs.Faults.{HasRisen}
-use Rattle.serv_machine.specs.History.{History}
 use Rattle.serv_machine.specs.Stands.{running, stand}
 use Rattle.serv_machine.proofs.OnDiskLemmas.{disk_none}
 use Rattle.serv_machine.proofs.UpheldLemmas.{upheld_wider}
@@ -30,7 +29,7 @@ returns-in-Ok-read-clause-stopped g c = λ done s held gathers.
 pub returns-in-Ok-read-clause-upheld : goal.returns-in-Ok-read-clause-upheld
 returns-in-Ok-read-clause-upheld g c = λ done s held gathers.
     let run = run_of g.D.Disk.images g.D.Disk.moment g.D.Disk.images_since c.settle.new.disk c.act.new.disk c.act.result _ _ _ _ _ c.act.ensures.disk (c.act.ensures.one c.args.ask.now (rw c.in-Ok-read.is at c.read_ask-read.ensures.means)) in
-    then_upheld g.D.Disk.images g.D.Disk.moment g.D.Disk.images_since c.settle.new.disk c.act.new.disk (g.met.D.Disk.only_now c.act.new.disk) (g.M.Machine.kept c.act.new.machine).commands run.0
+    then_upheld g.D.Disk.images g.D.Disk.moment g.D.Disk.images_since c.settle.new.disk c.act.new.disk (g.met.D.Disk.only_now c.act.new.disk) (g.M.Machine.kept c.act.new.machine) run.0
     (c.in-Ok.ensures.gathered done s c.args.steps.now held gathers) (c.args.ask.now ∷ []) _ _ _ run.1 (c.settle.ensures.upheld done s c.args.steps.now held gathers) (c.act.ensures.upheld (c.args.ask.now ∷ []))
 
 pub returns-in-Ok-read-clause-disk : goal.returns-in-Ok-read-clause-disk
@@ -49,16 +48,16 @@ returns-in-Err-read-clause-stopped g c = λ done s held gathers.
       wrote = c.write_no_memory.ensures.front.part;
       appends = c.write_no_memory.ensures.front.appends;
       says_so = (refl, inl (all, omega arith), c.write_no_memory.ensures.front.front);
-      disk = disk_none g.D.Disk.images g.D.Disk.moment g.D.Disk.images_since c.settle.new.disk _ _ (ap (λ (h : History). h.commands) all) (g.met.M.Machine.keeps c.settle.new.machine c.settle.new.disk c.in-Ok.ensures.ready)
+      disk = disk_none g.D.Disk.images g.D.Disk.moment g.D.Disk.images_since c.settle.new.disk _ _ all (g.met.M.Machine.keeps c.settle.new.machine c.settle.new.disk c.in-Ok.ensures.ready)
           (g.met.D.Disk.only_now c.settle.new.disk);
     })
 
 pub returns-in-Err-read-clause-upheld : goal.returns-in-Err-read-clause-upheld
 returns-in-Err-read-clause-upheld g c = λ done s held gathers.
-    let run = disk_none g.D.Disk.images g.D.Disk.moment g.D.Disk.images_since c.settle.new.disk (g.M.Machine.history c.settle.new.machine).commands (g.M.Machine.kept c.settle.new.machine).commands
-    (ap (λ (h : History). h.commands) (g.met.M.Machine.settled c.settle.new.machine c.settle.new.disk c.in-Ok.ensures.ready).1) (g.met.M.Machine.keeps c.settle.new.machine c.settle.new.disk c.in-Ok.ensures.ready)
+    let run = disk_none g.D.Disk.images g.D.Disk.moment g.D.Disk.images_since c.settle.new.disk (g.M.Machine.history c.settle.new.machine) (g.M.Machine.kept c.settle.new.machine)
+    (g.met.M.Machine.settled c.settle.new.machine c.settle.new.disk c.in-Ok.ensures.ready).1 (g.met.M.Machine.keeps c.settle.new.machine c.settle.new.disk c.in-Ok.ensures.ready)
     (g.met.D.Disk.only_now c.settle.new.disk) in
-    then_upheld g.D.Disk.images g.D.Disk.moment g.D.Disk.images_since c.settle.new.disk c.settle.new.disk (g.met.D.Disk.only_now c.settle.new.disk) (g.M.Machine.kept c.settle.new.machine).commands []
+    then_upheld g.D.Disk.images g.D.Disk.moment g.D.Disk.images_since c.settle.new.disk c.settle.new.disk (g.met.D.Disk.only_now c.settle.new.disk) (g.M.Machine.kept c.settle.new.machine) []
     (c.in-Ok.ensures.gathered done s c.args.steps.now held gathers) (c.args.ask.now ∷ []) _ _ _ run (c.settle.ensures.upheld done s c.args.steps.now held gathers)
     (last_alone g.D.Disk.images g.D.Disk.moment g.D.Disk.images_since c.settle.new.disk c.settle.new.disk (g.met.D.Disk.only_now c.settle.new.disk) _ [] (c.args.ask.now ∷ []) (g.M.Machine.history c.settle.new.machine) _ _ _ response_503
     (inr (inr refl)) run c.write_no_memory.ensures.noted)

@@ -1,6 +1,5 @@
-use Rattle.std.proofs.Common.{[], ◌∷◌, ◌∙◌, refl, ap}
+use Rattle.std.proofs.Common.{[], ◌∷◌, ◌∙◌, refl}
 use Rattle.serv_disk.specs.Faults.{HasRisen}
-use Rattle.serv_machine.specs.History.{History}
 use Rattle.serv_machine.specs.Stands.{running}
 use Rattle.serv_links.proofs.GatheredLemmas.{before_begun, cut_stops, settled, torn_stops}
 use Rattle.serv_links.proofs.UpheldLemmas.{failed_upheld, waiting_upheld}
@@ -14,7 +13,7 @@ returns-in-Ok-write_waiting-clause-gathered g c = λ done s steps held gathers.
 pub returns-in-Ok-write_waiting-clause-upheld : goal.returns-in-Ok-write_waiting-clause-upheld
 returns-in-Ok-write_waiting-clause-upheld g c = λ done s steps held gathers.
     let all = (g.met.M.Machine.settled c.commit.new.self c.commit.new.disk c.in-Ok.ensures.ready).1 ∙ c.commit.ensures.history in
-    waiting_upheld g.D.Disk.images g.D.Disk.moment g.D.Disk.images_since c.args.disk.now c.commit.new.disk (g.met.D.Disk.only_now c.commit.new.disk) _ [] gathers _ _ (ap (λ (h : History). h.commands) all) c.in-Ok.ensures.disk.left
+    waiting_upheld g.D.Disk.images g.D.Disk.moment g.D.Disk.images_since c.args.disk.now c.commit.new.disk (g.met.D.Disk.only_now c.commit.new.disk) _ [] gathers _ _ all c.in-Ok.ensures.disk.left
     c.write_waiting.ensures.noted
 
 pub returns-in-Err-write_waiting-clause-stopped : goal.returns-in-Err-write_waiting-clause-stopped
@@ -26,7 +25,7 @@ returns-in-Err-write_waiting-clause-stopped g c = λ done s steps held gathers.
 pub returns-in-Err-write_waiting-clause-upheld : goal.returns-in-Err-write_waiting-clause-upheld
 returns-in-Err-write_waiting-clause-upheld g c = λ done s steps held gathers.
     let all = (g.met.M.Machine.settled c.commit.new.self c.commit.new.disk c.in-Ok.ensures.ready).1 ∙ c.commit.ensures.history in
-    waiting_upheld g.D.Disk.images g.D.Disk.moment g.D.Disk.images_since c.args.disk.now c.commit.new.disk (g.met.D.Disk.only_now c.commit.new.disk) _ [] gathers _ _ (ap (λ (h : History). h.commands) all) c.in-Ok.ensures.disk.left
+    waiting_upheld g.D.Disk.images g.D.Disk.moment g.D.Disk.images_since c.args.disk.now c.commit.new.disk (g.met.D.Disk.only_now c.commit.new.disk) _ [] gathers _ _ all c.in-Ok.ensures.disk.left
     c.write_waiting.ensures.noted
 
 pub returns-in-Err-clause-stopped : goal.returns-in-Err-clause-stopped

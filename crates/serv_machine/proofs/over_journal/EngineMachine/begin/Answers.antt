@@ -1,4 +1,4 @@
-use Rattle.std.proofs.Common.{subst}
+use Rattle.std.proofs.Common.{[], subst}
 use Rattle.svc_types.specs.Keys.{IsKey}
 use Rattle.svc_types.specs.declared.replies.Reply.{Reply}
 use Rattle.svc_world.specs.World.{accepted}
@@ -6,8 +6,10 @@ use Rattle.svc_world.specs.Judging.{IsHistory}
 use Rattle.svc_core.proofs.CoreLemmas.{history_more}
 use Rattle.serv_engine.specs.Engines.{reply_of}
 use Rattle.serv_engine.proofs.RunningLemmas.{none_kept_of, none_begun_of}
-use Rattle.serv_machine.specs.EngineLaws.{durable_kept, durable_runs}
-use Rattle.serv_machine.proofs.EngineLemmas.{long_enough, running_base, act_reply, act_fault_is, act_after, kept_but, same_held, taken_disk, kept_disk, stopped_disk, err_same, disk_fault_is, fault_fresh}
+use Rattle.serv_machine.specs.Engines.{kept_history}
+use Rattle.serv_machine.specs.EngineLaws.{durable_kept, durable_runs, running_whole}
+use Rattle.serv_machine.specs.OnDisk.{OnDisk}
+use Rattle.serv_machine.proofs.EngineLemmas.{long_enough, running_base, act_reply, act_fault_is, act_after, kept_but, kept_behind, same_held, taken_disk, kept_disk, stopped_disk, err_same, disk_fault_is, fault_fresh}
 use Rattle.serv_machine.proofs.over_journal.EngineMachine.begin.Goals as goal
 
 pub begin-requires-clause-running : goal.begin-requires-clause-running
@@ -35,10 +37,12 @@ returns-in-Ok-clause-kept g c =
 pub returns-in-Ok-clause-disk : goal.returns-in-Ok-clause-disk
 returns-in-Ok-clause-disk g c = λ _.
     let e = c.args.self.now in
-    rw (none_kept_of e c.requires.ready.2.kept.gate) at
+    let b = running_base (g.D.Disk.images c.args.disk.now) e (durable_runs (g.D.Disk.images c.args.disk.now) e c.requires.ready.2) c.requires.ready.1 in
+    subst (λ h. OnDisk g.D.Disk.images g.D.Disk.moment g.D.Disk.images_since c.args.disk.now c.begin.new.disk h (kept_history c.begin.new.self) []) (durable_kept (g.D.Disk.images c.args.disk.now) e c.requires.ready.2)
     (taken_disk g.D.Disk.images g.D.Disk.moment g.D.Disk.images_since c.args.disk.now c.begin.new.disk e c.begin.new.self
-    (g.met.D.Disk.only_now c.args.disk.now) (durable_runs (g.D.Disk.images c.args.disk.now) e c.requires.ready.2) c.begin.ensures.moments _ (λ behind. behind.0) c.in-Ok.taken _ c.in-Ok.ensures.taken
-    (subst IsHistory c.core.ensures c.history_holds.ensures.history) c.in-Ok.ensures.running)
+    (g.met.D.Disk.only_now c.args.disk.now) c.requires.ready.1 (durable_runs (g.D.Disk.images c.args.disk.now) e c.requires.ready.2) c.begin.ensures.moments _
+    (λ behind. kept_behind e c.begin.new.self b.0 behind.0 b.1 (c.in-Ok.ensures.length b.0 b.1) c.begin.ensures.limit) c.in-Ok.taken _ c.in-Ok.ensures.taken
+    (subst IsHistory c.core.ensures c.history_holds.ensures.history) (running_whole (g.D.Disk.images c.begin.new.disk) c.begin.new.self c.begin.ensures.version c.in-Ok.ensures.running))
 
 pub returns-in-Err-clause-fault : goal.returns-in-Err-clause-fault
 returns-in-Err-clause-fault g c =
@@ -56,9 +60,9 @@ pub returns-in-Err-clause-disk : goal.returns-in-Err-clause-disk
 returns-in-Err-clause-disk g c =
     let e = c.args.self.now in
     rw c.act_fault.ensures (λ other.
-    rw (none_kept_of e c.requires.ready.2.kept.gate) at
+    subst (λ h. OnDisk g.D.Disk.images g.D.Disk.moment g.D.Disk.images_since c.args.disk.now c.begin.new.disk h (kept_history c.begin.new.self) []) (durable_kept (g.D.Disk.images c.args.disk.now) e c.requires.ready.2)
     (kept_disk g.D.Disk.images g.D.Disk.moment g.D.Disk.images_since c.args.disk.now c.begin.new.disk e c.begin.new.self
-    (g.met.D.Disk.only_now c.args.disk.now) (durable_runs (g.D.Disk.images c.args.disk.now) e c.requires.ready.2) c.begin.ensures.moments
+    (g.met.D.Disk.only_now c.args.disk.now) c.requires.ready.1 (durable_runs (g.D.Disk.images c.args.disk.now) e c.requires.ready.2) c.begin.ensures.moments
     (err_same {T = Reply} c.args.disk.now c.begin.new.disk e c.begin.new.self c.in-Err.fault other c.in-Err.ensures.kept)))
 
 pub returns-in-Err-clause-torn : goal.returns-in-Err-clause-torn
@@ -69,6 +73,7 @@ returns-in-Err-clause-torn g c =
     let fresh = fault_fresh e a _ _ _ c.in-Err.fault c.in-Err.ensures.fault (disk_fault_is c.in-Err.fault stopped) in
     let gate = c.requires.ready.2.kept.gate in
     stopped_disk g.D.Disk.images g.D.Disk.moment g.D.Disk.images_since c.args.disk.now c.begin.new.disk e c.begin.new.self
-    (g.met.D.Disk.only_now c.args.disk.now) (durable_runs (g.D.Disk.images c.args.disk.now) e c.requires.ready.2) c.begin.ensures.moments a (none_kept_of e gate) (none_begun_of e gate)
+    (g.met.D.Disk.only_now c.args.disk.now) c.requires.ready.1 (durable_runs (g.D.Disk.images c.args.disk.now) e c.requires.ready.2) c.begin.ensures.moments a
+    (durable_kept (g.D.Disk.images c.args.disk.now) e c.requires.ready.2) (none_begun_of e gate)
     (history_more e.history c.args.key.now c.args.command.now (subst IsHistory c.core.ensures c.history_holds.ensures.history)
     (subst IsKey c.bytes.ensures.value c.bytes.ensures.key) c.requires.command fresh) c.begin.ensures.good)

@@ -1,5 +1,4 @@
-use Rattle.std.proofs.Common.{[], sym, ap}
-use Rattle.serv_machine.specs.History.{History}
+use Rattle.std.proofs.Common.{[], sym}
 use Rattle.serv_machine.proofs.OnDiskLemmas.{disk_more}
 use Rattle.serv_top.specs.Upheld.{AreFirst}
 use Rattle.serv_top.proofs.AnsweredLemmas.{all_first, first_push, replies_wider, upheld_halted, upheld_more}
@@ -14,13 +13,13 @@ returns-in-Ok-answer-clause-gathered g c = λ before s held gathers.
 pub returns-in-Ok-answer-clause-upheld : goal.returns-in-Ok-answer-clause-upheld
 returns-in-Ok-answer-clause-upheld g c = λ before s held gathers.
     let all = (g.met.M.Machine.settled c.let_go.new.machine c.let_go.new.disk c.in-Ok.ensures.ready).1 in
-    upheld_more g.D.Disk.images g.D.Disk.moment g.D.Disk.images_since c.let_go.new.disk c.answer.new.disk _ _ (rw (ap (λ (h : History). h.commands) (sym all)) at c.in-Ok-answer.ensures.disk) before c.args.said.now s.history held _ _
+    upheld_more g.D.Disk.images g.D.Disk.moment g.D.Disk.images_since c.let_go.new.disk c.answer.new.disk _ _ (rw (sym all) at c.in-Ok-answer.ensures.disk) before c.args.said.now s.history held _ _
     (c.let_go.ensures.upheld before s c.args.steps.now held gathers)
 
 pub returns-in-Ok-answer-clause-disk : goal.returns-in-Ok-answer-clause-disk
 returns-in-Ok-answer-clause-disk g c =
     let all = (g.met.M.Machine.settled c.let_go.new.machine c.let_go.new.disk c.in-Ok.ensures.ready).1 in
-    disk_more g.D.Disk.images g.D.Disk.moment g.D.Disk.images_since c.args.disk.now c.let_go.new.disk c.answer.new.disk _ _ _ [] c.in-Ok.ensures.disk (rw (ap (λ (h : History). h.commands) (sym all)) at c.in-Ok-answer.ensures.disk)
+    disk_more g.D.Disk.images g.D.Disk.moment g.D.Disk.images_since c.args.disk.now c.let_go.new.disk c.answer.new.disk _ _ _ [] c.in-Ok.ensures.disk (rw (sym all) at c.in-Ok-answer.ensures.disk)
 
 pub returns-in-Err-answer-clause-stopped : goal.returns-in-Err-answer-clause-stopped
 returns-in-Err-answer-clause-stopped g c = λ before s held gathers.

@@ -1,6 +1,5 @@
-use Rattle.std.proofs.Common.{refl, ap}
+use Rattle.std.proofs.Common.{refl}
 use Rattle.serv_machine.specs.declared.faults.Halt.TheVariants as halt
-use Rattle.serv_machine.specs.History.{History}
 use Rattle.serv_machine.proofs.OnDiskLemmas.{disk_none}
 use Rattle.serv_top.specs.declared.said.Said.TheVariants.{Faulty, Unfit}
 use Rattle.serv_top.proofs.ResultLemmas.{ok_unless}
@@ -29,7 +28,7 @@ returns-in-Ok-clause-replied g c =
 
 pub returns-in-Ok-clause-disk : goal.returns-in-Ok-clause-disk
 returns-in-Ok-clause-disk g c =
-    disk_none g.D.Disk.images g.D.Disk.moment g.D.Disk.images_since c.args.disk.now _ _ (ap (λ (h : History). h.commands) (g.met.M.Machine.settled c.args.machine.now c.args.disk.now c.requires.ready).1)
+    disk_none g.D.Disk.images g.D.Disk.moment g.D.Disk.images_since c.args.disk.now _ _ (g.met.M.Machine.settled c.args.machine.now c.args.disk.now c.requires.ready).1
     (g.met.M.Machine.keeps c.args.machine.now c.args.disk.now c.requires.ready) (g.met.D.Disk.only_now c.args.disk.now)
 
 pub returns-in-Ok-clause-running : goal.returns-in-Ok-clause-running
@@ -46,7 +45,7 @@ returns-in-Ok-push_bad_row-clause-replied g c =
 
 pub returns-in-Ok-push_bad_row-clause-disk : goal.returns-in-Ok-push_bad_row-clause-disk
 returns-in-Ok-push_bad_row-clause-disk g c =
-    disk_none g.D.Disk.images g.D.Disk.moment g.D.Disk.images_since c.args.disk.now _ _ (ap (λ (h : History). h.commands) (g.met.M.Machine.settled c.args.machine.now c.args.disk.now c.requires.ready).1)
+    disk_none g.D.Disk.images g.D.Disk.moment g.D.Disk.images_since c.args.disk.now _ _ (g.met.M.Machine.settled c.args.machine.now c.args.disk.now c.requires.ready).1
     (g.met.M.Machine.keeps c.args.machine.now c.args.disk.now c.requires.ready) (g.met.D.Disk.only_now c.args.disk.now)
 
 pub returns-in-Ok-push_bad_row-clause-running : goal.returns-in-Ok-push_bad_row-clause-running
