@@ -83,102 +83,19 @@ pub const OF_LOAN_2: &str = "k1 day 2024-06-15\n\
     k7 disburse 2 2024-06-12 2000.00 1\n\
     k8 deposit 2 2024-06-14 600.00\n";
 
-pub const OF_LOAN_3: &str = "k1 day 2024-06-15\n\
+const OF_LOAN_3: &str = "k1 day 2024-06-15\n\
     k3 board 3 2024-06-01 200000.00 6000 250 1199.10 360 2024-07 15 500 2 130.00 AA\n\
     k6 deposit 3 2024-06-10 300.00\n";
 
-/// One loan goes; all go; none go, where the range has no loan that was boarded: business days stay.
-const ONE_OR_ALL: [Row; 4] = [
-    Row {
+/// One loan goes, and the others stay. Further rows stand in `tests/real/worked.py`.
+#[test]
+fn loans_go_with_their_commands(rt: HostRuntime) -> Result<(), Fail> {
+    let row = Row {
         history: TWO_LOANS,
         from: 2,
         to: 2,
         inside: OF_LOAN_2,
         outside: OF_LOAN_3,
-    },
-    Row {
-        history: TWO_LOANS,
-        from: 3,
-        to: 3,
-        inside: OF_LOAN_3,
-        outside: OF_LOAN_2,
-    },
-    Row {
-        history: TWO_LOANS,
-        from: 0,
-        to: 4_294_967_295,
-        inside: TWO_LOANS,
-        outside: "k1 day 2024-06-15\n",
-    },
-    Row {
-        history: TWO_LOANS,
-        from: 0,
-        to: 1,
-        inside: "k1 day 2024-06-15\n",
-        outside: TWO_LOANS,
-    },
-];
-
-#[test]
-fn loans_go_with_their_commands(rt: HostRuntime) -> Result<(), Fail> {
-    for (i, row) in ONE_OR_ALL.iter().enumerate() {
-        assert!(rt; is_split(rt.alloc(), row)?, "row {i}");
-    }
-    Ok(())
-}
-
-const REVERSED: &str = "k1 day 2024-03-01\n\
-    k2 board 2 2023-12-15 200000.00 6000 250 1199.10 360 2024-02 15 500 2 0.00 AA\n\
-    k3 board 1 2023-12-15 200000.00 6000 250 1199.10 360 2024-02 15 500 2 0.00 AA\n\
-    k4 pay 1 2024-02-01 1199.10\n\
-    k5 reverse 1 4\n";
-
-/// A reversal names its entry by the number that this has in the part.
-#[test]
-fn reversals_are_renumbered(rt: HostRuntime) -> Result<(), Fail> {
-    let row = Row {
-        history: REVERSED,
-        from: 1,
-        to: 1,
-        inside: "k1 day 2024-03-01\n\
-            k3 board 1 2023-12-15 200000.00 6000 250 1199.10 360 2024-02 15 500 2 0.00 AA\n\
-            k4 pay 1 2024-02-01 1199.10\n\
-            k5 reverse 1 3\n",
-        outside: "k1 day 2024-03-01\n\
-            k2 board 2 2023-12-15 200000.00 6000 250 1199.10 360 2024-02 15 500 2 0.00 AA\n",
-    };
-    assert!(rt; is_split(rt.alloc(), &row)?);
-    Ok(())
-}
-
-const CLOSED: &str = "k1 day 2024-03-01\n\
-    k2 board 1 2023-12-15 200000.00 6000 250 1199.10 360 2024-02 15 500 2 0.00 AA\n\
-    k3 close 2023-12\n\
-    k4 board 2 2024-01-15 200000.00 6000 250 1199.10 360 2024-03 15 500 2 0.00 AA\n\
-    k5 remit 2023-12\n\
-    k6 close 2024-01\n\
-    k7 close 2024-02\n\
-    k8 remit 2024-01\n";
-
-/// A part has the closings and remittances from the least boarded month of its loans on.
-#[test]
-fn months_before_a_part_are_dropped(rt: HostRuntime) -> Result<(), Fail> {
-    let row = Row {
-        history: CLOSED,
-        from: 2,
-        to: 9,
-        inside: "k1 day 2024-03-01\n\
-            k4 board 2 2024-01-15 200000.00 6000 250 1199.10 360 2024-03 15 500 2 0.00 AA\n\
-            k6 close 2024-01\n\
-            k7 close 2024-02\n\
-            k8 remit 2024-01\n",
-        outside: "k1 day 2024-03-01\n\
-            k2 board 1 2023-12-15 200000.00 6000 250 1199.10 360 2024-02 15 500 2 0.00 AA\n\
-            k3 close 2023-12\n\
-            k5 remit 2023-12\n\
-            k6 close 2024-01\n\
-            k7 close 2024-02\n\
-            k8 remit 2024-01\n",
     };
     assert!(rt; is_split(rt.alloc(), &row)?);
     Ok(())
