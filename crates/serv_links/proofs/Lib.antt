@@ -6,4 +6,5 @@ pub mod AnsweredLemmas
 pub mod GatheredLemmas
 pub mod UpheldLemmas
 pub mod GoingLemmas
+pub mod LinkLemmas
 pub mod DoorsLemmas

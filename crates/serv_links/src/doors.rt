@@ -1,15 +1,18 @@
 //! Links, served one after another.
 
-ghost use Rattle.std.specs.Prelude.{◌≡◌, ◌≢◌, ◌≤◌};
+ghost use Rattle.std.specs.Prelude.{◌≡◌, ◌≢◌, ◌≤◌, false};
 ghost use Rattle.serv_disk.specs.Faults.{HasRisen};
+ghost use Rattle.serv_engine.specs.Engines.{IsDurable};
+ghost use Rattle.serv_machine.specs.Engines.{history_of, kept_history};
 ghost use Rattle.serv_machine.specs.Stands.{stand};
 ghost use Rattle.serv_links.specs.Doors.{ServedLink, ServesDoors};
 
 use crate::link_end::LinkEnd;
-use crate::serving::serve_link;
+use crate::one_link::serve_one;
 use crate::summary::Summary;
 use serv_disk::{Disk, Doors};
-use serv_machine::Machine;
+use serv_engine::Engine;
+use serv_machine::Frugal;
 use std::alloc::Global;
 use std::sync::ledger::Ledger;
 use svc_base::Steps;
@@ -35,10 +38,11 @@ pub struct Service {
     pub end: DoorsEnd,
 }
 
-/// Serves links one after another, up to so many, as long as they come. Each is handed back as it was left.
-pub fn serve_doors<D: Disk, M: Machine<D>, G: Doors, L: Ledger>(
+/// Serves links over an engine one after another, up to so many, as long as they come. Each is handed back as it was
+/// left.
+pub fn serve_doors<B: Frugal, D: Disk, G: Doors, L: Ledger>(
     alloc: Global,
-    machine: &mut M,
+    engine: &mut Engine<B>,
     disk: &mut D,
     doors: &mut G,
     most: u32,
@@ -46,24 +50,27 @@ pub fn serve_doors<D: Disk, M: Machine<D>, G: Doors, L: Ledger>(
 ) -> Service
     requires most { most ≤ MOST_LINKS }
     requires out { G.out doors.old ≡ 0 }
-    requires ready { M.ready machine.old disk.old }
+    requires unspent { engine.old.journal.spent ≡ false }
+    requires durable { IsDurable (D.images disk.old) engine.old }
     ensures served { ServesDoors D.images D.moment D.images_since disk.old disk.new
         (ServedLink G.Conn.left G.Conn.held G.Conn.log G.Conn.Source.faults G.Conn.Sink.faults
         (D.moment disk.new) (D.images_since disk.new)) result.end result.summary
         most (G.coming doors.old) (G.coming doors.new) (G.backed doors.old) (G.backed doors.new)
-        (stand (M.kept machine.old) steps.old) (stand (M.kept machine.new) steps.new) }
+        (stand (history_of engine.old) steps.old) (stand (kept_history engine.new) steps.new) }
     ensures out { G.out doors.new ≡ 0 }
-    ensures ready { result.end ≢ DoorsEnd.DiskFault → M.ready machine.new disk.new }
+    ensures unspent { result.end ≢ DoorsEnd.DiskFault → engine.new.journal.spent ≡ false }
+    ensures durable { result.end ≢ DoorsEnd.DiskFault → IsDurable (D.images disk.new) engine.new }
     ensures net { result.end ≡ DoorsEnd.NetFault → HasRisen (G.faults doors.old) (G.faults doors.new) }
     ensures stopped { result.end ≡ DoorsEnd.DiskFault → HasRisen (D.faults disk.old) (D.faults disk.new) }
     ensures net_later { G.faults doors.old ≤ G.faults doors.new }
     ensures faults { D.faults disk.old ≤ D.faults disk.new }
 {
+    engine.version_holds();
     let mut summary = Summary::new();
     for _ in 0..most {
         match doors.next() {
             Ok(Some(mut link)) => {
-                let end = serve_link(alloc, machine, disk, &mut link, steps);
+                let end = serve_one(alloc, engine, disk, &mut link, steps);
                 doors.back(link);
                 summary.count(end);
                 match end {

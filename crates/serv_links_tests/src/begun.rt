@@ -7,6 +7,7 @@ use crate::engines::{DAY, NEXT, ONE_LINE, TWO_LINES, disk_of, engine_of, is_laid
 use serv_disk::{Disk, MemDisk};
 use serv_engine::{Engine, EngineFault, Taken};
 use serv_line::read_line;
+use serv_machine::Frugal;
 use std::alloc::{AllocError, Global};
 use std::marker::Brand;
 use std::sync::ledger::{Blank, Ledger};
@@ -15,8 +16,8 @@ use svc_checkpoint::Checked;
 use svc_types::Request;
 
 /// Begins the command of a line.
-fn take<D: Disk, L: Ledger>(
-    engine: &mut Engine<Checked>,
+fn take<B: Frugal, D: Disk, L: Ledger>(
+    engine: &mut Engine<B>,
     disk: &mut D,
     line: &str,
     steps: &mut Steps<L>,
@@ -38,8 +39,8 @@ fn take<D: Disk, L: Ledger>(
 
 /// Commits the command that is begun, and gives the engine that of a line, which may come next.
 #[tactic(auto, using(serv_engine::proofs::RunningLemmas::durable_running))]
-fn commit<D: Disk>(
-    engine: &mut Engine<Checked>,
+fn commit<B: Frugal, D: Disk>(
+    engine: &mut Engine<B>,
     disk: &mut D,
     line: &str,
 ) -> Result<(), EngineFault>
@@ -73,8 +74,8 @@ struct Sent<'a> {
 }
 
 /// What became of both.
-fn take_both<D: Disk, L: Ledger>(
-    engine: &mut Engine<Checked>,
+fn take_both<B: Frugal, D: Disk, L: Ledger>(
+    engine: &mut Engine<B>,
     disk: &mut D,
     sent: &Sent,
     steps: &mut Steps<L>,
@@ -93,7 +94,7 @@ fn take_both<D: Disk, L: Ledger>(
 }
 
 #[tactic(auto, using(serv_engine::proofs::RunningLemmas::durable_running))]
-fn taken_counted<L: Ledger>(
+fn taken_counted<B: Frugal, L: Ledger>(
     alloc: Global,
     blank: Blank,
     sent: &Sent,
@@ -104,7 +105,7 @@ fn taken_counted<L: Ledger>(
     requires some { 0 < L.parts }
 {
     let mut steps = Steps::<L>::new(blank);
-    match engine_of(alloc, disk, 1000, &mut steps) {
+    match engine_of::<B, MemDisk, L>(alloc, disk, 1000, &mut steps) {
         Ok(mut engine) => take_both(&mut engine, disk, sent, &mut steps),
         Err(fault) => Err(fault),
     }
@@ -112,7 +113,7 @@ fn taken_counted<L: Ledger>(
 
 /// What becomes of the commands of both lines over a disk, as a text.
 fn taken(alloc: Global, sent: &Sent, disk: &mut MemDisk) -> Result<String, AllocError> {
-    let taken = taken_counted::<Brand>(alloc, Blank::new(1), sent, disk);
+    let taken = taken_counted::<Checked, Brand>(alloc, Blank::new(1), sent, disk);
     format!(in alloc; "{taken:?}")
 }
 

@@ -2,14 +2,16 @@
 
 ghost use Rattle.std.specs.Prelude.{◌≡◌, ◌<◌};
 
-use crate::engines::{disk_of, engine_of};
-use crate::serving::{link_of, serve_by_engine};
+use crate::engines::{EMPTY, disk_of, engine_of};
+use crate::serving::{link_of, serve_by};
 use serv_disk::{Disk, Failed, MemDisk, MemLink};
 use serv_links::LinkEnd;
+use serv_machine::Frugal;
 use std::alloc::Global;
 use std::marker::Brand;
 use std::sync::ledger::{Blank, Ledger};
 use svc_base::{OutOfMemory, Steps};
+use svc_checkpoint::Checked;
 
 /// A disk in memory that counts its syncs.
 #[derive(Drop)]
@@ -69,7 +71,7 @@ impl Disk for Counted {
 }
 
 /// How a link ended over an engine, and how often the disk was synced.
-fn synced_by<L: Ledger>(
+fn synced_by<B: Frugal, L: Ledger>(
     alloc: Global,
     blank: Blank,
     disk: &mut Counted,
@@ -80,10 +82,10 @@ fn synced_by<L: Ledger>(
     requires some { 0 < L.parts }
 {
     let mut steps = Steps::<L>::new(blank);
-    match engine_of(alloc, disk, 1_000_000, &mut steps) {
+    match engine_of::<B, Counted, L>(alloc, disk, 1_000_000, &mut steps) {
         Ok(mut engine) => {
             let before = disk.syncs;
-            let end = serve_by_engine(alloc, &mut engine, disk, link, &mut steps);
+            let end = serve_by(alloc, &mut engine, disk, link, &mut steps);
             Ok((end, disk.syncs.saturating_sub(before)))
         }
         Err(_) => Err(OutOfMemory),
@@ -93,10 +95,10 @@ fn synced_by<L: Ledger>(
 /// The same over an empty journal.
 fn synced(alloc: Global, link: &mut MemLink) -> Result<(LinkEnd, u32), OutOfMemory> {
     let mut disk = Counted {
-        disk: disk_of(alloc, b"MSRVJ002\x00")?,
+        disk: disk_of(alloc, EMPTY)?,
         syncs: 0,
     };
-    synced_by::<Brand>(alloc, Blank::new(1), &mut disk, link)
+    synced_by::<Checked, Brand>(alloc, Blank::new(1), &mut disk, link)
 }
 
 /// Three days are asked for, one behind the other.

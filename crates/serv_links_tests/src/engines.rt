@@ -7,12 +7,16 @@ use serv_disk::{Disk, MemDisk};
 use serv_engine::{Engine, EngineFault};
 use serv_journal::init;
 use serv_line::read_line;
+use serv_machine::Frugal;
 use std::alloc::{AllocError, Global};
 use std::marker::Brand;
 use std::sync::ledger::{Blank, Ledger};
 use svc_base::{OutOfMemory, Steps};
 use svc_checkpoint::Checked;
 use svc_types::{Reply, Request};
+
+/// The journal of no command.
+pub(crate) const EMPTY: &[u8] = b"MSRVJ002\x00";
 
 /// The journal of the line `k1 day 2024-02-01`, 33 bytes.
 pub(crate) const ONE_LINE: &[u8] = b"MSRVJ002\x01\x00\x00\x00\x01\x00\x11k1 day 2024-02-01\x00";
@@ -42,11 +46,22 @@ fn push_record(bytes: &mut Vec<u8>, number: u8, line: &str) -> Result<(), AllocE
     bytes.extend_from_slice(line.as_bytes())
 }
 
-/// A disk with this content.
-pub(crate) fn disk_of(alloc: Global, content: &[u8]) -> Result<MemDisk, OutOfMemory> {
-    let mut disk = MemDisk::new(content.to_vec(alloc)?, Vec::new(alloc))?;
+/// The disk with room for some calls.
+fn with_room(disk: MemDisk) -> Result<MemDisk, OutOfMemory> {
+    let mut disk = disk;
     disk.reserve(64, 70_000)?;
     Ok(disk)
+}
+
+/// A disk with this content, of which this call fails, or none where it is 0.
+pub(crate) fn failing_at(alloc: Global, content: &[u8], call: u32) -> Result<MemDisk, OutOfMemory> {
+    let content = content.to_vec(alloc)?;
+    with_room(MemDisk::new(content, [call].to_vec(alloc)?)?)
+}
+
+/// A disk with this content.
+pub(crate) fn disk_of(alloc: Global, content: &[u8]) -> Result<MemDisk, OutOfMemory> {
+    failing_at(alloc, content, 0)
 }
 
 /// Whether a disk holds this file, with nothing or zeros behind it.
@@ -58,27 +73,27 @@ pub(crate) fn is_laid(content: &[u8], file: &[u8]) -> bool {
 }
 
 /// The engine of a disk's journal with this limit.
-pub(crate) fn engine_of<D: Disk, L: Ledger>(
+pub(crate) fn engine_of<B: Frugal, D: Disk, L: Ledger>(
     alloc: Global,
     disk: &mut D,
     limit: u32,
     steps: &mut Steps<L>,
-) -> Result<Engine<Checked>, EngineFault>
+) -> Result<Engine<B>, EngineFault>
     ensures unspent { IfOk result (λ e. e.journal.spent ≡ false) }
     ensures durable { IfOk result (λ e. IsDurable (D.images disk.new) e) }
 {
-    Engine::<Checked>::open(alloc, disk, u64::from(limit), steps)
+    Engine::<B>::open(alloc, disk, u64::from(limit), steps)
 }
 
 /// The number of its commands, where it can take further ones.
-fn count_of(engine: &Engine<Checked>) -> Result<u32, EngineFault> {
+fn count_of<B: Frugal>(engine: &Engine<B>) -> Result<u32, EngineFault> {
     if engine.is_spent() {
         return Err(EngineFault::DiskFault);
     }
     Ok(engine.core().count())
 }
 
-fn opened_counted<L: Ledger>(
+fn opened_counted<B: Frugal, L: Ledger>(
     alloc: Global,
     blank: Blank,
     disk: &mut MemDisk,
@@ -88,7 +103,7 @@ fn opened_counted<L: Ledger>(
     requires some { 0 < L.parts }
 {
     let mut steps = Steps::<L>::new(blank);
-    match engine_of(alloc, disk, 1_000_000, &mut steps) {
+    match engine_of::<B, MemDisk, L>(alloc, disk, 1_000_000, &mut steps) {
         Ok(engine) => count_of(&engine),
         Err(fault) => Err(fault),
     }
@@ -97,7 +112,7 @@ fn opened_counted<L: Ledger>(
 /// What opening a disk with this content answers: the number of commands, or the fault.
 pub(crate) fn opened(alloc: Global, content: &[u8]) -> Result<u32, EngineFault> {
     let mut disk = disk_of(alloc, content)?;
-    opened_counted::<Brand>(alloc, Blank::new(1), &mut disk)
+    opened_counted::<Checked, Brand>(alloc, Blank::new(1), &mut disk)
 }
 
 /// Whether opening a disk with this content answers so.
@@ -162,8 +177,8 @@ fn a_record_that_is_no_further_command_is_damage(rt: HostRuntime) {
 }
 
 /// Submits the command of a line.
-fn act<D: Disk, L: Ledger>(
-    engine: &mut Engine<Checked>,
+fn act<B: Frugal, D: Disk, L: Ledger>(
+    engine: &mut Engine<B>,
     disk: &mut D,
     line: &str,
     steps: &mut Steps<L>,
@@ -187,7 +202,7 @@ struct Sent<'a> {
     line: &'a str,
 }
 
-fn acted_counted<L: Ledger>(
+fn acted_counted<B: Frugal, L: Ledger>(
     alloc: Global,
     blank: Blank,
     sent: &Sent,
@@ -198,7 +213,7 @@ fn acted_counted<L: Ledger>(
     requires some { 0 < L.parts }
 {
     let mut steps = Steps::<L>::new(blank);
-    match engine_of(alloc, disk, sent.limit, &mut steps) {
+    match engine_of::<B, MemDisk, L>(alloc, disk, sent.limit, &mut steps) {
         Ok(mut engine) => act(&mut engine, disk, sent.line, &mut steps),
         Err(fault) => Err(fault),
     }
@@ -206,7 +221,7 @@ fn acted_counted<L: Ledger>(
 
 /// Opens the journal of a disk, and submits the command.
 fn acted(alloc: Global, sent: &Sent, disk: &mut MemDisk) -> Result<Reply, EngineFault> {
-    acted_counted::<Brand>(alloc, Blank::new(1), sent, disk)
+    acted_counted::<Checked, Brand>(alloc, Blank::new(1), sent, disk)
 }
 
 /// Whether the command that is sent to a disk has this answer.
@@ -259,7 +274,7 @@ const NO_LOAN: &str = "Err(Refused(NoSuchLoan))";
 
 const ROWS: [Row; 10] = [
     // A command is in the journal once; a repeat and a refused one are not.
-    (b"MSRVJ002\x00", 99, DAY, OK_1, ONE_LINE),
+    (EMPTY, 99, DAY, OK_1, ONE_LINE),
     (ONE_LINE, 99, DAY, OK_1, ONE_LINE),
     (
         ONE_LINE,

@@ -2,7 +2,8 @@
 
 /// A day is asked for, twice; another day under its key; a path that is no route; a method that is not the
 /// route's.
-pub const EXCHANGE: &str = "POST /v1/commands HTTP/1.1\r\nHost: a\r\nContent-Length: 42\r\n\r\n\
+pub(crate) const EXCHANGE: &str =
+    "POST /v1/commands HTTP/1.1\r\nHost: a\r\nContent-Length: 42\r\n\r\n\
     {\"key\":\"k1\",\"do\":\"day\",\"day\":\"2024-02-01\"}\
     POST /v1/commands HTTP/1.1\r\nHost: a\r\nContent-Length: 42\r\n\r\n\
     {\"key\":\"k1\",\"do\":\"day\",\"day\":\"2024-02-01\"}\
@@ -12,7 +13,7 @@ pub const EXCHANGE: &str = "POST /v1/commands HTTP/1.1\r\nHost: a\r\nContent-Len
     GET /v1/commands HTTP/1.1\r\n\r\n";
 
 /// What is said to it.
-pub const SAID: &str =
+pub(crate) const SAID: &str =
     "HTTP/1.1 200 OK\r\nContent-Length: 35\r\nContent-Type: application/json\r\n\r\n\
     {\"code\":0,\"number\":1,\"text\":\"ok 1\"}\
     HTTP/1.1 200 OK\r\nContent-Length: 35\r\nContent-Type: application/json\r\n\r\n\

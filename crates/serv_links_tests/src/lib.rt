@@ -6,8 +6,6 @@ mod begun;
 #[cfg(test)]
 mod counted;
 #[cfg(test)]
-mod doors;
-#[cfg(test)]
 mod engines;
 mod exchange;
 #[cfg(test)]
@@ -21,4 +19,4 @@ mod serving;
 #[cfg(test)]
 mod years;
 
-pub use exchange::{DAY, DAY_SAID, EXCHANGE, SAID};
+pub use exchange::{DAY, DAY_SAID};

@@ -1,10 +1,11 @@
 //! What is said on a link, and what faults leave of it.
 
 use crate::counted::{DAYS, SAID_TO_DAYS};
+use crate::engines::{EMPTY, failing_at};
 use crate::exchange::{DAY, DAY_SAID, EXCHANGE, SAID};
 use crate::other_links::Waiting;
-use crate::serving::{is_said, link_of, serve, serve_on_disk};
-use serv_disk::MemDisk;
+use crate::serving::{is_said, link_of, serve, serve_on};
+use serv_disk::MemLink;
 use serv_links::LinkEnd;
 use std::alloc::Global;
 use svc_base::OutOfMemory;
@@ -55,40 +56,29 @@ fn a_fault_of_the_link_breaks_it(rt: HostRuntime) {
 const FAILED: &str =
     "HTTP/1.1 500 Internal Server Error\r\nConnection: close\r\nContent-Length: 0\r\n\r\n";
 
-/// Whether a day that is asked for over a disk of which these calls fail ends so, and is told this.
-fn is_told(alloc: Global, fails: &[u32], end: LinkEnd, said: &str) -> Result<bool, OutOfMemory> {
-    let journal = b"MSRVJ002\x00".to_vec(alloc)?;
-    let mut disk = MemDisk::new(journal, fails.to_vec(alloc)?)?;
-    disk.reserve(64, 70_000)?;
-    let mut link = link_of(alloc, DAY.as_bytes(), &[], &[])?;
-    let ended = serve_on_disk(alloc, &mut disk, &mut link)?;
-    Ok(ended == end && link.content() == said.as_bytes())
+/// Serves a link over an empty journal on a disk of which this call fails, or none where it is 0.
+fn serve_failing(alloc: Global, call: u32, link: &mut MemLink) -> Result<LinkEnd, OutOfMemory> {
+    let mut disk = failing_at(alloc, EMPTY, call)?;
+    serve_on(alloc, &mut disk, link)
 }
 
-#[test]
-fn a_fault_of_the_disk_is_told(rt: HostRuntime) {
-    let alloc = rt.alloc();
-    assert!(rt; matches!(is_told(alloc, &[], LinkEnd::Ended(1), DAY_SAID), Ok(true)));
-    // The first call of an append fails, and the last one.
-    assert!(rt; matches!(is_told(alloc, &[4], LinkEnd::Disk(0), FAILED), Ok(true)));
-    assert!(rt; matches!(is_told(alloc, &[9], LinkEnd::Disk(0), FAILED), Ok(true)));
+/// Whether what is said on a link is this text and then that one.
+fn is_told(link: &MemLink, said: &[u8], last: &str) -> bool {
+    link.content().strip_prefix(said) == Some(last.as_bytes())
 }
 
 /// Whether three days that are asked for in one piece over a disk of which this call fails end so: first ones of them are
 /// answered, and where not all are, a 500 follows.
 fn stops_at(alloc: Global, call: u32, answered: u32) -> Result<bool, OutOfMemory> {
-    let mut disk = MemDisk::new(b"MSRVJ002\x00".to_vec(alloc)?, [call].to_vec(alloc)?)?;
-    disk.reserve(64, 70_000)?;
-    let mut link = link_of(alloc, DAYS.as_bytes(), &[], &[])?;
-    let ended = serve_on_disk(alloc, &mut disk, &mut link)?;
     let (end, last) = if answered < 3 {
         (LinkEnd::Disk(answered), FAILED)
     } else {
         (LinkEnd::Ended(3), "")
     };
     let said = &SAID_TO_DAYS.as_bytes()[..DAY_SAID.len() * answered.min(3) as usize];
-    let told = link.content();
-    Ok(ended == end && told.starts_with(said) && &told[said.len()..] == last.as_bytes())
+    let mut link = link_of(alloc, DAYS.as_bytes(), &[], &[])?;
+    let ended = serve_failing(alloc, call, &mut link)?;
+    Ok(ended == end && is_told(&link, said, last))
 }
 
 /// How many of the three days are answered where this call fails. Two calls lay the file ahead. The first

@@ -1,58 +1,24 @@
-//! Links that are served over books in memory that begin with nothing, or over an empty journal.
+//! Links that are served over a journal in memory.
 
 ghost use Rattle.std.specs.Prelude.{◌≡◌, ◌<◌, false};
 ghost use Rattle.serv_engine.specs.Engines.{IsDurable};
 
-use crate::engines::engine_of;
+use crate::engines::{EMPTY, disk_of, engine_of};
 use crate::other_links::Pieces;
-use serv_disk::{Disk, Link, MemDisk, MemLink};
+use serv_disk::{Disk, Link, MemLink};
 use serv_engine::Engine;
-use serv_links::{LinkEnd, serve_link};
-use serv_machine::{Machine, Nowhere};
+use serv_links::{LinkEnd, serve_one};
+use serv_machine::Frugal;
 use std::alloc::Global;
 use std::marker::Brand;
 use std::sync::ledger::{Blank, Ledger};
 use svc_base::{OutOfMemory, Steps};
 use svc_checkpoint::Checked;
-use svc_core::Core;
-
-/// Serves a link over a machine.
-fn serve_by<D: Disk, M: Machine<D>, C: Link, L: Ledger>(
-    alloc: Global,
-    machine: &mut M,
-    disk: &mut D,
-    link: &mut C,
-    steps: &mut Steps<L>,
-) -> LinkEnd
-    requires { M.ready machine.old disk.old }
-{
-    serve_link(alloc, machine, disk, link, steps)
-}
-
-fn serve_counted<L: Ledger, C: Link>(
-    alloc: Global,
-    blank: Blank,
-    books: &mut Core<Checked>,
-    link: &mut C,
-) -> LinkEnd
-    requires name { blank.name ≡ L.name }
-    requires parts { blank.parts ≡ L.parts }
-    requires some { 0 < L.parts }
-{
-    let mut steps = Steps::<L>::new(blank);
-    serve_by(alloc, books, &mut Nowhere, link, &mut steps)
-}
-
-/// Serves a link over books in memory.
-pub(crate) fn serve<C: Link>(alloc: Global, link: &mut C) -> Result<LinkEnd, OutOfMemory> {
-    let mut books = Core::<Checked>::new(alloc)?;
-    Ok(serve_counted::<Brand, C>(alloc, Blank::new(1), &mut books, link))
-}
 
 /// Serves a link over an engine.
-pub(crate) fn serve_by_engine<D: Disk, C: Link, L: Ledger>(
+pub(crate) fn serve_by<B: Frugal, D: Disk, C: Link, L: Ledger>(
     alloc: Global,
-    engine: &mut Engine<Checked>,
+    engine: &mut Engine<B>,
     disk: &mut D,
     link: &mut C,
     steps: &mut Steps<L>,
@@ -60,34 +26,39 @@ pub(crate) fn serve_by_engine<D: Disk, C: Link, L: Ledger>(
     requires unspent { engine.old.journal.spent ≡ false }
     requires durable { IsDurable (D.images disk.old) engine.old }
 {
-    engine.version_holds();
-    serve_by(alloc, engine, disk, link, steps)
+    serve_one(alloc, engine, disk, link, steps)
 }
 
-fn serve_on_disk_counted<L: Ledger>(
+fn serve_counted<B: Frugal, L: Ledger, D: Disk, C: Link>(
     alloc: Global,
     blank: Blank,
-    disk: &mut MemDisk,
-    link: &mut MemLink,
+    disk: &mut D,
+    link: &mut C,
 ) -> Result<LinkEnd, OutOfMemory>
     requires name { blank.name ≡ L.name }
     requires parts { blank.parts ≡ L.parts }
     requires some { 0 < L.parts }
 {
     let mut steps = Steps::<L>::new(blank);
-    match engine_of(alloc, disk, 1_000_000, &mut steps) {
-        Ok(mut engine) => Ok(serve_by_engine(alloc, &mut engine, disk, link, &mut steps)),
+    match engine_of::<B, D, L>(alloc, disk, 1_000_000, &mut steps) {
+        Ok(mut engine) => Ok(serve_by(alloc, &mut engine, disk, link, &mut steps)),
         Err(_) => Err(OutOfMemory),
     }
 }
 
 /// Serves a link over the journal of a disk.
-pub(crate) fn serve_on_disk(
+pub(crate) fn serve_on<D: Disk, C: Link>(
     alloc: Global,
-    disk: &mut MemDisk,
-    link: &mut MemLink,
+    disk: &mut D,
+    link: &mut C,
 ) -> Result<LinkEnd, OutOfMemory> {
-    serve_on_disk_counted::<Brand>(alloc, Blank::new(1), disk, link)
+    serve_counted::<Checked, Brand, D, C>(alloc, Blank::new(1), disk, link)
+}
+
+/// Serves a link over an empty journal.
+pub(crate) fn serve<C: Link>(alloc: Global, link: &mut C) -> Result<LinkEnd, OutOfMemory> {
+    let mut disk = disk_of(alloc, EMPTY)?;
+    serve_on(alloc, &mut disk, link)
 }
 
 /// A link that gives these bytes, and whose reads and writes with these numbers fail.

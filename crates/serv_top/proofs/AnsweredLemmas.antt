@@ -13,7 +13,6 @@ use Rattle.serv_machine.specs.OnDisk.{HasHistory, OnDisk}
 use Rattle.serv_machine.specs.Upheld.{HasCommands, Upholds}
 use Rattle.serv_machine.proofs.UpheldLemmas.{commands_kept, commands_left, upheld_none, upheld_wider, upheld_later, upheld_written, upheld_then}
 use Rattle.serv_top.specs.declared.serving.Stop.{Stop}
-use Rattle.serv_top.specs.Lines.{ended_lines, open_line}
 use Rattle.serv_machine.specs.Stands.{Stand, stand, Running}
 use Rattle.serv_top.specs.declared.said.Said.{Said}
 use Rattle.serv_top.specs.Machine.{commands_of}
@@ -21,7 +20,6 @@ use Rattle.serv_top.specs.Replies.{replies_to, history_after_all}
 use Rattle.serv_top.specs.Serving.{Gathered, IsHalted, Stops}
 use Rattle.serv_top.specs.Imported.{AreFirstIn, FileSays}
 use Rattle.serv_top.specs.Upheld.{Say, AreFirst, AreSaidFirst, AreReplies}
-use Rattle.serv_top.proofs.Cutting.{ended_from, ended_lines-append}
 
 -- of more requests these are the first too
 pub replies_wider : (First Wider : List Said → Type 0) (moment : ℕ) (since : ℕ → List ℕ → Type 0) (now h : History) (held : Option (List ℕ)) (log log' : Option (List Stamp))
@@ -121,10 +119,6 @@ module _ {D : Type 0} (images : D → List ℕ → Type 0) (moment : D → ℕ) 
       (upheld_later images moment images_since old new now now' [] disk (AreReplies (AreFirst said) h) held log log' up)
 
 -- ---- lines
-
--- those that end in a front part of some bytes come first
-pub lines_before : (bytes more : List ℕ) (lines others : List (List ℕ)) → lines ≡ ended_lines (bytes ++ more) ++ others → lines ≡ ended_lines bytes ++ (ended_from (open_line bytes) more ++ others)
-lines_before bytes more lines others is = is ∙ ap (λ ls. ls ++ others) (ended_lines-append bytes more) ∙ append_assoc (ended_lines bytes) (ended_from (open_line bytes) more) others
 
 pub first_of_more : (lines more : List (List ℕ)) (said : List Said) → AreSaidFirst lines said → AreSaidFirst (lines ++ more) said
 first_of_more lines more said is = record { acted = is.acted; others = is.others ++ more; lines_are = ap (λ ls. ls ++ more) is.lines_are ∙ append_assoc is.acted is.others more; say = is.say }

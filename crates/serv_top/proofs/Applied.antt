@@ -1,7 +1,6 @@
 -- A run over a journal: what stands where it was opened, and where it was not.
-use Rattle.std.proofs.Common.{◌≡◌, ◌⊎◌, ℕ, ◌+◌, ◌-◌, ◌<◌, ◌≤◌, List, [], ◌∷◌, ◌++◌, length, refl, sym, ap, subst, ◌∙◌, inl, inr, ⊎_elim, arith, length-append}
-use Rattle.std.specs.Prelude.{Option, Some, None}
-use Rattle.std.specs.Io.KnownBytes.{Consumes}
+use Rattle.std.proofs.Common.{◌≡◌, ◌⊎◌, ℕ, ◌+◌, ◌-◌, ◌<◌, ◌≤◌, List, [], ◌∷◌, ◌++◌, length, refl, ap, subst, ◌∙◌, inl, inr, ⊎_elim, arith}
+use Rattle.std.specs.Prelude.{Option, Some}
 use Rattle.svc_types.specs.declared.requests.Request.{Request}
 use Rattle.svc_types.specs.declared.requests.Request.TheVariants as request
 use Rattle.svc_world.specs.World.{Accepted, accepted}
@@ -23,6 +22,7 @@ use Rattle.serv_machine.specs.Engines.{history_of}
 use Rattle.serv_machine.specs.EngineLaws.{durable_whole}
 use Rattle.serv_machine.specs.OnDisk.{OnDisk}
 use Rattle.serv_machine.proofs.EngineLemmas.{long_enough}
+use Rattle.serv_links.proofs.LinkLemmas.{few_taken}
 use Rattle.serv_top.specs.declared.status.Status.{Status}
 use Rattle.serv_top.specs.declared.status.Status.TheVariants as status
 use Rattle.serv_machine.specs.Stands.{Stand, stand}
@@ -176,13 +176,6 @@ unopened_ends (status.JournalFull bytes) s h a faults faults' told is hist good 
 unopened_ends status.DiskFault s h a faults faults' told is hist good cause calm = absurd (calm cause)
 unopened_ends status.OutOfMemory s h a faults faults' told is hist good cause calm = inr (inl refl)
 unopened_ends other s h a faults faults' told is hist good cause calm = absurd cause
-
-pub few_taken : (left left' : Option (List ℕ)) (input taken : List ℕ) → left ≡ Some input → Consumes left left' taken → length taken ≤ length input
-few_taken None left' input taken is took = absurd (cc)
-few_taken (Some xs) None input taken is took = absurd took
-few_taken (Some xs) (Some ys) input taken is took =
-    let same : xs ≡ input = cc in
-    omega (arith, ap length (sym same ∙ took), length-append taken ys)
 
 applied_ends : (waiting : ℕ) (st : Status) (s s' : Stand) (pending : List Accepted) (left left' held held' : Option (List ℕ)) (input : List ℕ) → left ≡ Some input → length input < input_limit
     → (st ≡ status.ReadFault → ⊥) → (st ≡ status.WriteFault → ⊥) → (st ≡ status.DiskFault → ⊥) → Ended waiting st s s' pending left left' held held' → Completes st

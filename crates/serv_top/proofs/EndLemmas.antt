@@ -9,7 +9,7 @@ use Rattle.serv_top.specs.Ends.{Finishes}
 use Rattle.serv_top.specs.Journal.{IsInit}
 use Rattle.serv_machine.specs.Stands.{Stand}
 use Rattle.serv_top.specs.Outcome.{Ended, input_limit}
-use Rattle.serv_top.proofs.Applied.{few_taken}
+use Rattle.serv_links.proofs.LinkLemmas.{few_taken}
 
 pub init_ends : (st : Status) (told told' : Option (List ℕ)) (images : List ℕ → Type 0) (faults faults' : ℕ) → (HasRisen faults faults' → ⊥) → IsInit st told told' images faults faults' → (st ≡ status.Done) ⊎ (st ≡ status.AlreadyThere)
 init_ends status.Done told told' images faults faults' calm is = inl refl

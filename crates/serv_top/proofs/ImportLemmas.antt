@@ -31,7 +31,8 @@ use Rattle.serv_top.specs.Stop.{status_of}
 use Rattle.serv_top.specs.Upheld.{AreFirst, IsAcknowledged}
 use Rattle.serv_top.specs.Imported.{AreFirstIn, FileSays, said_of, IsRow, AreRows, IsRowsOutput, RowsEnd, IsUnread, rows, headless, FileEnds, Imports, ImportEnds, IsImported}
 use Rattle.serv_top.specs.Journal.{IsOpened, IsUnopened, journal_limit}
-use Rattle.serv_top.proofs.Applied.{run_over, unopened_ends, few_taken, store_of, store_moves, store_cut, store_begun, store_held_up}
+use Rattle.serv_links.proofs.LinkLemmas.{few_taken}
+use Rattle.serv_top.proofs.Applied.{run_over, unopened_ends, store_of, store_moves, store_cut, store_begun, store_held_up}
 use Rattle.serv_top.proofs.GatheredLemmas.{stopped_wider}
 use Rattle.serv_top.proofs.ServedLemmas.{none_more}
 use Rattle.serv_top.specs.Ends.{Completes}

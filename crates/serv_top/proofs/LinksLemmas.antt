@@ -1,5 +1,5 @@
 -- Links that are served over a journal.
-use Rattle.std.proofs.Common.{◌≡◌, ◌⊎◌, ℕ, ◌-◌, ◌<◌, List, [], ◌∷◌, ◌++◌, length, refl, ap, subst, ◌∙◌, inl, inr, ⊎_elim, arith}
+use Rattle.std.proofs.Common.{◌≡◌, ◌⊎◌, ℕ, ◌-◌, List, [], ◌∷◌, ◌++◌, refl, ap, subst, ◌∙◌, inl, inr, ⊎_elim}
 use Rattle.std.specs.Prelude.{Option, Some}
 use Rattle.std.specs.Io.KnownBytes.{Appends}
 use Rattle.svc_world.specs.World.{Accepted}
@@ -22,7 +22,7 @@ use Rattle.serv_links.specs.declared.meaning.Meaning.{Meaning}
 use Rattle.serv_links.specs.declared.meaning.Meaning.TheVariants.{Asks, Faulty}
 use Rattle.serv_links.specs.Responses as links
 use Rattle.serv_links.specs.Outcomes.{IsAnswered, IsCut, IsCutOff, IsOne, IsStopped, IsTriedAs}
-use Rattle.serv_links.specs.Links.{IsDiskEnd, IsServed, IsStarved, Serves, link_limit}
+use Rattle.serv_links.specs.Links.{IsServed, IsStarved}
 use Rattle.serv_links.specs.Doors.{AreServed, IsDoorsEnd, IsSummary, OneServed, ServedLink, ServesDoors, text_of_summary}
 use Rattle.serv_top.specs.declared.status.Status.{Status}
 use Rattle.serv_top.specs.declared.status.Status.TheVariants as status
@@ -30,7 +30,7 @@ use Rattle.serv_machine.specs.Stands.{Stand, stand, Stays}
 use Rattle.serv_top.specs.Journal.{IsUnopened, IsOpened, journal_limit}
 use Rattle.serv_top.specs.Served.{IsCountOf, IsServedAs, IsServedOver, LinksEnd, ServesLinks}
 use Rattle.serv_top.specs.Written.{IsWrittenAs, Writes}
-use Rattle.serv_top.proofs.Applied.{few_taken, run_over, store_of, store_request, unopened_ends}
+use Rattle.serv_top.proofs.Applied.{run_over, store_of, store_request, unopened_ends}
 use Rattle.serv_top.proofs.WrittenLemmas.{written_of}
 use Rattle.serv_top.specs.Ends.{Completes}
 
@@ -167,17 +167,3 @@ complete_served seen images moment images_since faults old new Q st most steps s
     (λ closed. unopened_ends st s h a (faults old) (faults new) (seen old) told is_history good closed.0.cause calm)
     (λ over. served_ends st most coming' over.ended.ends over.ended.written writes disks nets over.ended.says)
     which
-
--- ---- one link
-
--- no count has risen, and the limit was not reached
-pub complete_link : (end : LinkEnd) (reads writes : Type 0) (U : (ℕ → List Accepted → Type 0) → Type 0) (left left' : Option (List ℕ)) (s s' : Stand) (pending : List Accepted) (added input : List ℕ)
-    → left ≡ Some input → length input < link_limit → (reads → ⊥) → (writes → ⊥) → (IsDiskEnd end → ⊥) → Serves end reads writes U left left' s s' pending added
-    → ((n : ℕ) × (end ≡ link_end.Ended n)) ⊎ ((n : ℕ) × (end ≡ link_end.NoMemory n))
-complete_link (link_end.Ended n) reads writes U left left' s s' pending added input is short read write disk serves = inl (n, refl)
-complete_link (link_end.NoMemory n) reads writes U left left' s s' pending added input is short read write disk serves = inr (n, refl)
-complete_link (link_end.Disk n) reads writes U left left' s s' pending added input is short read write disk serves = absurd (disk tt)
-complete_link (link_end.Cut n) reads writes U left left' s s' pending added input is short read write disk serves =
-    absurd (omega (arith, few_taken left left' input serves.taken is serves.took, short, serves.says.1))
-complete_link (link_end.Broken n) reads writes U left left' s s' pending added input is short read write disk serves =
-    absurd (⊎_elim (λ failed. read failed.0) (λ failed. write failed.0) serves.says)

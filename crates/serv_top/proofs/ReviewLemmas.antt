@@ -11,7 +11,8 @@ use Rattle.serv_top.specs.declared.status.Status.TheVariants as status
 use Rattle.serv_top.specs.Journal.{IsUnopened}
 use Rattle.serv_top.specs.Outcome.{input_limit}
 use Rattle.serv_top.specs.Reviews.{IsReviewed}
-use Rattle.serv_top.proofs.Applied.{unopened_ends, few_taken}
+use Rattle.serv_links.proofs.LinkLemmas.{few_taken}
+use Rattle.serv_top.proofs.Applied.{unopened_ends}
 use Rattle.serv_top.proofs.ImportLemmas.{unread_ends}
 use Rattle.serv_top.proofs.WrittenLemmas.{written_ends}
 use Rattle.serv_top.specs.Ends.{Completes}

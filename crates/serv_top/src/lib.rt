@@ -6,7 +6,6 @@ mod drilling;
 mod extracts;
 mod importing;
 mod laws;
-mod one_link;
 mod over_doors;
 mod over_journal;
 mod query_words;
@@ -25,7 +24,7 @@ pub use laws::{
     files_say_one_thing, histories_are_taken_on, lines_have_one_answer, months_are_read,
     old_journals_have_room, replies_are_whole,
 };
-pub use one_link::serve_one;
+pub use serv_links::serve_one;
 pub use status::Status;
 pub use stream::INPUT_LIMIT;
 pub use top::run;

@@ -1,8 +1,10 @@
 //! Links that are served over a journal.
 
-ghost use Rattle.std.specs.Prelude.{◌≡◌, ◌≤◌, ◌⊎◌};
+ghost use Rattle.std.specs.Prelude.{◌≡◌, ◌≤◌, ◌⊎◌, false};
 ghost use Rattle.serv_disk.specs.Faults.{HasRisen};
+ghost use Rattle.serv_engine.specs.Engines.{IsDurable};
 ghost use Rattle.serv_links.specs.Doors.{ServedLink, text_of_summary};
+ghost use Rattle.serv_machine.specs.Engines.{history_of, kept_history};
 ghost use Rattle.serv_top.specs.Journal.{HasFileFaults, IsUnopened};
 ghost use Rattle.serv_machine.specs.Stands.{stand};
 ghost use Rattle.serv_top.specs.Served.{IsServedOver, LinksEnd};
@@ -12,8 +14,9 @@ use crate::over_journal::open_journal;
 use crate::status::Status;
 use crate::writing::write_text;
 use serv_disk::{Disk, Doors, Sink};
+use serv_engine::Engine;
 use serv_links::{DoorsEnd, MOST_LINKS, Summary, serve_doors, write_summary};
-use serv_machine::Machine;
+use serv_machine::Frugal;
 use std::alloc::Global;
 use std::sync::ledger::Ledger;
 use svc_base::Steps;
@@ -52,10 +55,10 @@ pub(crate) fn serve_over<K: Sink, D: Disk, G: Doors, L: Ledger>(
     }
 }
 
-/// Serves links by the machine, and writes their summary.
-fn serve_by<D: Disk, M: Machine<D>, K: Sink, G: Doors, L: Ledger>(
+/// Serves links over the engine, and writes their summary.
+fn serve_by<B: Frugal, D: Disk, K: Sink, G: Doors, L: Ledger>(
     alloc: Global,
-    machine: &mut M,
+    engine: &mut Engine<B>,
     most: u32,
     snk: &mut K,
     disk: &mut D,
@@ -64,13 +67,14 @@ fn serve_by<D: Disk, M: Machine<D>, K: Sink, G: Doors, L: Ledger>(
 ) -> Status
     requires most { most ≤ MOST_LINKS }
     requires out { G.out doors.old ≡ 0 }
-    requires ready { M.ready machine.old disk.old }
+    requires unspent { engine.old.journal.spent ≡ false }
+    requires durable { IsDurable (D.images disk.old) engine.old }
     ensures ends { LinksEnd D.images D.moment D.images_since disk.old disk.new
         (ServedLink G.Conn.left G.Conn.held G.Conn.log G.Conn.Source.faults G.Conn.Sink.faults
         (D.moment disk.new) (D.images_since disk.new)) result most
         (G.coming doors.old) (G.coming doors.new) (G.backed doors.old) (G.backed doors.new)
         (K.held snk.old) (K.held snk.new)
-        (stand (M.history machine.old) steps.old) (stand (M.kept machine.new) steps.new) }
+        (stand (history_of engine.old) steps.old) (stand (kept_history engine.new) steps.new) }
     ensures write { result ≡ Status.WriteFault → HasRisen (K.faults snk.old) (K.faults snk.new) }
     ensures disk { result ≡ Status.DiskFault → HasRisen (D.faults disk.old) (D.faults disk.new) }
     ensures net { result ≡ Status.NetFault → HasRisen (G.faults doors.old) (G.faults doors.new) }
@@ -79,7 +83,7 @@ fn serve_by<D: Disk, M: Machine<D>, K: Sink, G: Doors, L: Ledger>(
     ensures net_later { G.faults doors.old ≤ G.faults doors.new }
     ensures out { G.out doors.new ≡ 0 }
 {
-    let service = serve_doors(alloc, machine, disk, doors, most, steps);
+    let service = serve_doors(alloc, engine, disk, doors, most, steps);
     match service.end {
         DoorsEnd::Done => write_counts(alloc, &service.summary, snk),
         DoorsEnd::DiskFault => Status::DiskFault,

@@ -3,7 +3,6 @@
 ghost use Rattle.std.specs.Prelude.{◌≡◌, ℕ, ◌+◌, ◌<◌, ◌≤◌, ◌==◌, ◌++◌, List, [], ◌∷◌, Option, Some, Err, false, true, OnErr, OnOk, IfErr, IfOk, length, take, vec_len};
 ghost use Rattle.std.specs.List.{position};
 ghost use Rattle.serv_disk.specs.Faults.{HasRisen};
-ghost use Rattle.serv_disk.specs.Stamps.{Stamp};
 ghost use Rattle.serv_machine.specs.OnDisk.{OnDisk};
 ghost use Rattle.serv_machine.specs.Stands.{Stand, running, stand};
 ghost use Rattle.serv_top.specs.Serving.{AllServed, Served, Stops};
@@ -85,7 +84,7 @@ impl Serving {
     }
 
     /// Takes bytes in their order, and writes the replies to the lines that they end. Where it stops, the
-    /// rest of the bytes is left out.
+    /// rest of the bytes is left out. Each write of this call is upheld, as of those below.
     pub(crate) fn feed_all<D: Disk, M: Machine<D>, K: Sink, L: Ledger>(
         &mut self,
         bytes: &[u8],
@@ -110,15 +109,12 @@ impl Serving {
             → IfErr result (λ why. Stops D.images D.moment D.images_since disk.old disk.new why
             (AreSaidFirst (ended_lines (before ++ bytes.now))) self.old.replies.waiting s (M.kept machine.old)
             (stand (M.kept machine.new) steps.new) held (K.held snk.new)) }
-        ensures upheld { (before : List ℕ) (s : Stand) (held : Option (List ℕ)) (log : Option (List Stamp))
-            (lines others : List (List ℕ)) → lines ≡ ended_lines (before ++ bytes.now) ++ others
+        ensures upheld { (before : List ℕ) (s : Stand) (held : Option (List ℕ))
             → Served self.old.replies.waiting before s
             (running (M.history machine.old) (M.kept machine.old) steps.old) held (K.held snk.old)
             self.old.line.items self.old.replies.text.items
-            → Upholds (AreReplies (AreSaidFirst lines) s.history) (D.moment disk.old)
-            (D.images_since disk.old) (M.kept machine.old) held log (K.log snk.old)
-            → Upholds (AreReplies (AreSaidFirst lines) s.history) (D.moment disk.new)
-            (D.images_since disk.new) (M.kept machine.new) held log (K.log snk.new) }
+            → Upholds (AreReplies (AreSaidFirst (ended_lines (before ++ bytes.now))) s.history) (D.moment disk.new)
+            (D.images_since disk.new) (M.kept machine.new) held (K.log snk.old) (K.log snk.new) }
         ensures empty { OnOk result (self.new.replies.text.items ≡ []) }
         ensures waiting { self.new.replies.waiting ≡ self.old.replies.waiting }
         ensures disk { OnOk result (OnDisk D.images D.moment D.images_since disk.old disk.new
@@ -164,15 +160,12 @@ impl Serving {
             → IfErr result (λ why. Stops D.images D.moment D.images_since disk.old disk.new why
             (AreSaidFirst (ended_lines (before ++ bytes.now))) self.old.replies.waiting s (M.kept machine.old)
             (stand (M.kept machine.new) steps.new) held (K.held snk.new)) }
-        ensures upheld { (before : List ℕ) (s : Stand) (held : Option (List ℕ)) (log : Option (List Stamp))
-            (lines others : List (List ℕ)) → lines ≡ ended_lines (before ++ bytes.now) ++ others
+        ensures upheld { (before : List ℕ) (s : Stand) (held : Option (List ℕ))
             → Served self.old.replies.waiting before s
             (running (M.history machine.old) (M.kept machine.old) steps.old) held (K.held snk.old)
             self.old.line.items self.old.replies.text.items
-            → Upholds (AreReplies (AreSaidFirst lines) s.history) (D.moment disk.old)
-            (D.images_since disk.old) (M.kept machine.old) held log (K.log snk.old)
-            → Upholds (AreReplies (AreSaidFirst lines) s.history) (D.moment disk.new)
-            (D.images_since disk.new) (M.kept machine.new) held log (K.log snk.new) }
+            → Upholds (AreReplies (AreSaidFirst (ended_lines (before ++ bytes.now))) s.history) (D.moment disk.new)
+            (D.images_since disk.new) (M.kept machine.new) held (K.log snk.old) (K.log snk.new) }
         ensures waiting { self.new.replies.waiting ≡ self.old.replies.waiting }
         ensures disk { OnOk result (OnDisk D.images D.moment D.images_since disk.old disk.new
             (M.kept machine.old) (M.kept machine.new) []) }
@@ -221,15 +214,13 @@ impl Serving {
             → IfErr result (λ why. Stops D.images D.moment D.images_since disk.old disk.new why
             (AreSaidFirst (ended_lines (before ++ (piece.now ++ 10 ∷ [])))) self.old.replies.waiting s (M.kept machine.old)
             (stand (M.kept machine.new) steps.new) held (K.held snk.new)) }
-        ensures upheld { (before : List ℕ) (s : Stand) (held : Option (List ℕ)) (log : Option (List Stamp))
-            (lines others : List (List ℕ)) → lines ≡ ended_lines (before ++ (piece.now ++ 10 ∷ [])) ++ others
+        ensures upheld { (before : List ℕ) (s : Stand) (held : Option (List ℕ))
             → Served self.old.replies.waiting before s
             (running (M.history machine.old) (M.kept machine.old) steps.old) held (K.held snk.old)
             self.old.line.items self.old.replies.text.items
-            → Upholds (AreReplies (AreSaidFirst lines) s.history) (D.moment disk.old)
-            (D.images_since disk.old) (M.kept machine.old) held log (K.log snk.old)
-            → Upholds (AreReplies (AreSaidFirst lines) s.history) (D.moment disk.new)
-            (D.images_since disk.new) (M.kept machine.new) held log (K.log snk.new) }
+            → Upholds (AreReplies (AreSaidFirst (ended_lines (before ++ (piece.now ++ 10 ∷ [])))) s.history)
+            (D.moment disk.new) (D.images_since disk.new) (M.kept machine.new)
+            held (K.log snk.old) (K.log snk.new) }
         ensures waiting { self.new.replies.waiting ≡ self.old.replies.waiting }
         ensures disk { OnOk result (OnDisk D.images D.moment D.images_since disk.old disk.new
             (M.kept machine.old) (M.kept machine.new) []) }
@@ -270,15 +261,11 @@ impl Serving {
             (AreSaidFirst (ended_lines (before ++ piece.now))) self.old.replies.waiting s (M.kept machine.old)
             (stand (M.kept machine.new) steps) held (K.held snk.new)) }
         ensures upheld { (before : List ℕ) (s : Stand) (steps : ℕ) (held : Option (List ℕ))
-            (log : Option (List Stamp)) (lines others : List (List ℕ))
-            → lines ≡ ended_lines (before ++ piece.now) ++ others
             → Served self.old.replies.waiting before s
             (running (M.history machine.old) (M.kept machine.old) steps) held (K.held snk.old)
             self.old.line.items self.old.replies.text.items
-            → Upholds (AreReplies (AreSaidFirst lines) s.history) (D.moment disk.old)
-            (D.images_since disk.old) (M.kept machine.old) held log (K.log snk.old)
-            → Upholds (AreReplies (AreSaidFirst lines) s.history) (D.moment disk.new)
-            (D.images_since disk.new) (M.kept machine.new) held log (K.log snk.new) }
+            → Upholds (AreReplies (AreSaidFirst (ended_lines (before ++ piece.now))) s.history) (D.moment disk.new)
+            (D.images_since disk.new) (M.kept machine.new) held (K.log snk.old) (K.log snk.new) }
         ensures same { OnOk result ((machine.new ≡ machine.old) × (disk.new ≡ disk.old) × (snk.new ≡ snk.old)) }
         ensures waiting { self.new.replies.waiting ≡ self.old.replies.waiting }
         ensures disk { OnOk result (OnDisk D.images D.moment D.images_since disk.old disk.new
@@ -321,15 +308,12 @@ impl Serving {
             → IfErr result (λ why. Stops D.images D.moment D.images_since disk.old disk.new why
             (AreSaidFirst (ended_lines (before ++ 10 ∷ []))) self.old.replies.waiting s (M.kept machine.old)
             (stand (M.kept machine.new) steps.new) held (K.held snk.new)) }
-        ensures upheld { (before : List ℕ) (s : Stand) (held : Option (List ℕ)) (log : Option (List Stamp))
-            (lines others : List (List ℕ)) → lines ≡ ended_lines (before ++ 10 ∷ []) ++ others
+        ensures upheld { (before : List ℕ) (s : Stand) (held : Option (List ℕ))
             → Served self.old.replies.waiting before s
             (running (M.history machine.old) (M.kept machine.old) steps.old) held (K.held snk.old)
             self.old.line.items self.old.replies.text.items
-            → Upholds (AreReplies (AreSaidFirst lines) s.history) (D.moment disk.old)
-            (D.images_since disk.old) (M.kept machine.old) held log (K.log snk.old)
-            → Upholds (AreReplies (AreSaidFirst lines) s.history) (D.moment disk.new)
-            (D.images_since disk.new) (M.kept machine.new) held log (K.log snk.new) }
+            → Upholds (AreReplies (AreSaidFirst (ended_lines (before ++ 10 ∷ []))) s.history) (D.moment disk.new)
+            (D.images_since disk.new) (M.kept machine.new) held (K.log snk.old) (K.log snk.new) }
         ensures waiting { self.new.replies.waiting ≡ self.old.replies.waiting }
         ensures disk { OnOk result (OnDisk D.images D.moment D.images_since disk.old disk.new
             (M.kept machine.old) (M.kept machine.new) []) }
@@ -373,15 +357,12 @@ impl Serving {
             → IfErr result (λ why. Stops D.images D.moment D.images_since disk.old disk.new why
             (AreSaidFirst (lines_of bytes)) self.old.replies.waiting s (M.kept machine.old)
             (stand (M.kept machine.new) steps.new) held (K.held snk.new)) }
-        ensures upheld { (before : List ℕ) (s : Stand) (held : Option (List ℕ)) (log : Option (List Stamp))
-            (lines others : List (List ℕ)) → lines ≡ lines_of before ++ others
-            → Served self.old.replies.waiting before s
+        ensures upheld { (bytes : List ℕ) (s : Stand) (held : Option (List ℕ))
+            → Served self.old.replies.waiting bytes s
             (running (M.history machine.old) (M.kept machine.old) steps.old) held (K.held snk.old)
             self.old.line.items self.old.replies.text.items
-            → Upholds (AreReplies (AreSaidFirst lines) s.history) (D.moment disk.old)
-            (D.images_since disk.old) (M.kept machine.old) held log (K.log snk.old)
-            → Upholds (AreReplies (AreSaidFirst lines) s.history) (D.moment disk.new)
-            (D.images_since disk.new) (M.kept machine.new) held log (K.log snk.new) }
+            → Upholds (AreReplies (AreSaidFirst (lines_of bytes)) s.history) (D.moment disk.new)
+            (D.images_since disk.new) (M.kept machine.new) held (K.log snk.old) (K.log snk.new) }
         ensures disk { OnOk result (OnDisk D.images D.moment D.images_since disk.old disk.new
             (M.kept machine.old) (M.kept machine.new) []) }
         ensures later { K.faults snk.old ≤ K.faults snk.new }

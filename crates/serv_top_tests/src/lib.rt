@@ -16,8 +16,6 @@ mod noted;
 #[cfg(test)]
 mod noting;
 #[cfg(test)]
-mod one_link;
-#[cfg(test)]
 mod reviews;
 #[cfg(test)]
 mod statuses;

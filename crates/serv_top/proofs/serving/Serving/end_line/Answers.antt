@@ -1,6 +1,6 @@
 use Rattle.std.proofs.Common.{rules, sym, [], append-nil}
 use Rattle.serv_top.specs.Upheld.{AreFirst, AreSaidFirst}
-use Rattle.serv_top.proofs.AnsweredLemmas.{upheld_call}
+use Rattle.serv_top.proofs.AnsweredLemmas.{replies_wider}
 use Rattle.serv_top.proofs.GatheredLemmas.{stopped_wider}
 use Rattle.serv_top.proofs.ServedLemmas.{served_line, first_line}
 use Rattle.serv_top.proofs.serving.Serving.end_line.Goals as goal
@@ -10,9 +10,9 @@ returns-in-Ok-clause-fed g c = λ before s held run.
     served_line _ before run c.said_in-said.result (rw c.deref.ensures.value at c.said_in-said.ensures.says) _ _ _ _ (search rules) (c.in-Ok.ensures.gathered run.said s held run.gathers)
 
 pub returns-in-Ok-clause-upheld : goal.returns-in-Ok-clause-upheld
-returns-in-Ok-clause-upheld g c = λ before s held log lines others is run up.
-    upheld_call g.D.Disk.images g.D.Disk.moment g.D.Disk.images_since c.args.disk.now c.act.new.disk _ _ [] c.in-Ok.ensures.disk (AreFirst _) (AreSaidFirst lines) s.history held log _ _
-    (first_line _ before run c.said_in-said.result (rw c.deref.ensures.value at c.said_in-said.ensures.says) lines others is) up (c.act.ensures.upheld run.said s held run.gathers)
+returns-in-Ok-clause-upheld g c = λ before s held run.
+    replies_wider (AreFirst _) (AreSaidFirst _) (g.D.Disk.moment c.act.new.disk) (g.D.Disk.images_since c.act.new.disk) (g.M.Machine.kept c.act.new.machine) s.history held _ _
+    (first_line _ before run c.said_in-said.result (rw c.deref.ensures.value at c.said_in-said.ensures.says) _ [] (sym (append-nil _))) (c.act.ensures.upheld run.said s held run.gathers)
 
 pub returns-in-Err-clause-stopped : goal.returns-in-Err-clause-stopped
 returns-in-Err-clause-stopped g c = λ before s held run.
@@ -24,7 +24,6 @@ returns-in-Err-clause-stopped g c = λ before s held run.
     }
 
 pub returns-in-Err-clause-upheld : goal.returns-in-Err-clause-upheld
-returns-in-Err-clause-upheld g c = λ before s held log lines others is run up.
-    let stops = c.in-Err.ensures.stopped run.said s held run.gathers in
-    upheld_call g.D.Disk.images g.D.Disk.moment g.D.Disk.images_since c.args.disk.now c.act.new.disk _ _ stops.pending stops.disk (AreFirst _) (AreSaidFirst lines) s.history held log _ _
-    (first_line _ before run c.said_in-said.result (rw c.deref.ensures.value at c.said_in-said.ensures.says) lines others is) up (c.act.ensures.upheld run.said s held run.gathers)
+returns-in-Err-clause-upheld g c = λ before s held run.
+    replies_wider (AreFirst _) (AreSaidFirst _) (g.D.Disk.moment c.act.new.disk) (g.D.Disk.images_since c.act.new.disk) (g.M.Machine.kept c.act.new.machine) s.history held _ _
+    (first_line _ before run c.said_in-said.result (rw c.deref.ensures.value at c.said_in-said.ensures.says) _ [] (sym (append-nil _))) (c.act.ensures.upheld run.said s held run.gathers)

@@ -3,7 +3,8 @@ use Rattle.std.proofs.lemmas.List.{take_all, take_rest}
 use Rattle.std.proofs.lemmas.Result.{on_ok_weaker, IfErr-weaker}
 use Rattle.serv_machine.proofs.OnDiskLemmas.{disk_none, disk_more}
 use Rattle.serv_top.specs.Upheld.{AreFirst, AreSaidFirst}
-use Rattle.serv_top.proofs.AnsweredLemmas.{upheld_result}
+use Rattle.serv_machine.proofs.UpheldLemmas.{upheld_none}
+use Rattle.serv_top.proofs.AnsweredLemmas.{upheld_call, upheld_result}
 use Rattle.serv_top.proofs.GatheredLemmas.{stops_after}
 use Rattle.serv_top.proofs.PlainLemmas.{part_more, part_rest}
 use Rattle.serv_top.proofs.ServedLemmas.{first_here, none_more, served_gone}
@@ -15,7 +16,7 @@ loop-at-init g c =
     record {
       within = omega arith;
       served = λ before s held run. rw (append-nil before) run;
-      upheld = λ before s held log lines others is run up. up;
+      upheld = λ before s held run. upheld_none _ _ _ _ _ _;
       disk = disk_none g.D.Disk.images g.D.Disk.moment g.D.Disk.images_since c.args.disk.now _ _ refl (g.met.M.Machine.keeps_running c.args.machine.now c.args.disk.now running) (g.met.D.Disk.only_now c.args.disk.now);
       running = running;
       waiting = refl;
@@ -35,10 +36,10 @@ loop-at-preserved g c =
       served = λ before s held run.
           let fed = rw inv.waiting at said.fed in
           rw (sym (part_more before bytes at n)) (fed (before ++ take at bytes) s held (inv.served before s held run));
-      upheld = λ before s held log lines others is run up.
+      upheld = λ before s held run.
           let next = rw inv.waiting at (rw take_rest at c.feed_some.ensures.upheld) in
-          next (before ++ take at bytes) s held log lines others (rw (sym (part_rest before bytes at)) at is) (inv.served before s held run)
-          (inv.upheld before s held log lines others is run up);
+          upheld_call g.D.Disk.images g.D.Disk.moment g.D.Disk.images_since c.loop-at.disk c.feed_some.new.disk _ _ [] said.disk (AreSaidFirst _) (AreSaidFirst _) s.history held _ _ _ (λ said is. is)
+          (inv.upheld before s held run) (rw (part_rest before bytes at) at (next (before ++ take at bytes) s held (inv.served before s held run)));
       disk = disk_more g.D.Disk.images g.D.Disk.moment g.D.Disk.images_since _ _ _ _ _ _ _ inv.disk said.disk;
       running = said.running;
       waiting = rw c.feed_some.ensures.waiting inv.waiting;
@@ -56,13 +57,14 @@ returns-in-Err-clause-stopped g c = λ before s held run.
     (stops_after (AreSaidFirst _) (AreSaidFirst _) (λ said is. is) _ s _ g.D.Disk.images g.D.Disk.moment g.D.Disk.images_since c.args.disk.now c.loop-at.disk c.feed_some.new.disk c.in-Err.stop _ _ held _ inv.disk said)
 
 pub returns-in-Err-clause-upheld : goal.returns-in-Err-clause-upheld
-returns-in-Err-clause-upheld g c = λ before s held log lines others is run up.
+returns-in-Err-clause-upheld g c = λ before s held run.
     let bytes = c.args.bytes.now in
     let at = c.loop-at.at in
     let inv = c.loop-at.invariant in
+    let stops = (rw inv.waiting at (rw take_rest at c.in-Err.ensures.stopped)) (before ++ take at bytes) s held (inv.served before s held run) in
     let next = rw inv.waiting at (rw take_rest at c.feed_some.ensures.upheld) in
-    next (before ++ take at bytes) s held log lines others (rw (sym (part_rest before bytes at)) at is) (inv.served before s held run)
-    (inv.upheld before s held log lines others is run up)
+    upheld_call g.D.Disk.images g.D.Disk.moment g.D.Disk.images_since c.loop-at.disk c.feed_some.new.disk _ _ stops.pending stops.disk (AreSaidFirst _) (AreSaidFirst _) s.history held _ _ _ (λ said is. is)
+    (inv.upheld before s held run) (rw (part_rest before bytes at) at (next (before ++ take at bytes) s held (inv.served before s held run)))
 
 pub returns-clause-fed : goal.returns-clause-fed
 returns-clause-fed g c = λ before s held run.
@@ -86,15 +88,15 @@ returns-clause-stopped g c = λ before s held run.
     ((rw inv.waiting at c.let_go.ensures.stopped) so_far.said s _ held so_far.gathers)
 
 pub returns-clause-upheld : goal.returns-clause-upheld
-returns-clause-upheld g c = λ before s held log lines others is run up.
+returns-clause-upheld g c = λ before s held run.
     let bytes = c.args.bytes.now in
     let i = c.loop-at.at in
     let inv = c.loop-at.invariant in
     let all : take i bytes ≡ bytes = take_all i bytes (omega (arith, c.loop-at-test.false)) in
     let so_far = rw all at (inv.served before s held run) in
     let let_go = rw inv.waiting at c.let_go.ensures in
-    upheld_result g.D.Disk.images g.D.Disk.moment g.D.Disk.images_since c.loop-at.disk c.let_go.new.disk c.let_go.result _ _ _ _ s (AreFirst so_far.said) (AreSaidFirst lines) held _ log _ _ c.let_go.ensures.disk
-    (let_go.stopped so_far.said s _ held so_far.gathers) (first_here _ (before ++ bytes) so_far lines others is) (inv.upheld before s held log lines others is run up) (let_go.upheld so_far.said s _ held so_far.gathers)
+    upheld_result g.D.Disk.images g.D.Disk.moment g.D.Disk.images_since c.loop-at.disk c.let_go.new.disk c.let_go.result _ _ _ _ s (AreFirst so_far.said) (AreSaidFirst _) held _ _ _ _ c.let_go.ensures.disk
+    (let_go.stopped so_far.said s _ held so_far.gathers) (first_here _ (before ++ bytes) so_far _ [] (sym (append-nil _))) (inv.upheld before s held run) (let_go.upheld so_far.said s _ held so_far.gathers)
 
 pub returns-clause-empty : goal.returns-clause-empty
 returns-clause-empty g c = on_ok_weaker c.let_go.result (λ few. none_more _ few) c.let_go.ensures.few

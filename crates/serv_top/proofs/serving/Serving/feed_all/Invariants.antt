@@ -1,5 +1,4 @@
 use Rattle.std.proofs.Common.{◌≡◌, ℕ, ◌-◌, ◌≤◌, List, [], ◌++◌, length, take, Option}
-use Rattle.serv_disk.specs.Stamps.{Stamp}
 use Rattle.serv_machine.specs.OnDisk.{OnDisk}
 use Rattle.serv_top.specs.Lines.{ended_lines}
 use Rattle.serv_machine.specs.Stands.{Stand, running}
@@ -14,10 +13,8 @@ invariant-loop-at g l = record {
   within : l.at ≤ length l.bytes;
   served : (before : List ℕ) (s : Stand) (held : Option (List ℕ)) → Served l.fn.self.replies.waiting before s (running (g.M.Machine.history l.fn.machine) (g.M.Machine.kept l.fn.machine) l.fn.steps) held (g.K.Sink.held l.fn.snk) l.fn.self.line.items l.fn.self.replies.text.items
       → Served l.fn.self.replies.waiting (before ++ take l.at l.bytes) s (running (g.M.Machine.history l.machine) (g.M.Machine.kept l.machine) l.steps) held (g.K.Sink.held l.snk) l.self.line.items l.self.replies.text.items;
-  upheld : (before : List ℕ) (s : Stand) (held : Option (List ℕ)) (log : Option (List Stamp)) (lines others : List (List ℕ)) → lines ≡ ended_lines (before ++ l.bytes) ++ others
-      → Served l.fn.self.replies.waiting before s (running (g.M.Machine.history l.fn.machine) (g.M.Machine.kept l.fn.machine) l.fn.steps) held (g.K.Sink.held l.fn.snk) l.fn.self.line.items l.fn.self.replies.text.items
-      → Upholds (AreReplies (AreSaidFirst lines) s.history) (g.D.Disk.moment l.fn.disk) (g.D.Disk.images_since l.fn.disk) (g.M.Machine.kept l.fn.machine) held log (g.K.Sink.log l.fn.snk)
-      → Upholds (AreReplies (AreSaidFirst lines) s.history) (g.D.Disk.moment l.disk) (g.D.Disk.images_since l.disk) (g.M.Machine.kept l.machine) held log (g.K.Sink.log l.snk);
+  upheld : (before : List ℕ) (s : Stand) (held : Option (List ℕ)) → Served l.fn.self.replies.waiting before s (running (g.M.Machine.history l.fn.machine) (g.M.Machine.kept l.fn.machine) l.fn.steps) held (g.K.Sink.held l.fn.snk) l.fn.self.line.items l.fn.self.replies.text.items
+      → Upholds (AreReplies (AreSaidFirst (ended_lines (before ++ l.bytes))) s.history) (g.D.Disk.moment l.disk) (g.D.Disk.images_since l.disk) (g.M.Machine.kept l.machine) held (g.K.Sink.log l.fn.snk) (g.K.Sink.log l.snk);
   disk : OnDisk g.D.Disk.images g.D.Disk.moment g.D.Disk.images_since l.fn.disk l.disk (g.M.Machine.kept l.fn.machine) (g.M.Machine.kept l.machine) [];
   running : g.M.Machine.running l.machine l.disk;
   waiting : l.self.replies.waiting ≡ l.fn.self.replies.waiting;

@@ -1,8 +1,8 @@
-use Rattle.std.proofs.Common.{sym, ◌++◌, ◌∷◌, [], append_assoc}
+use Rattle.std.proofs.Common.{◌++◌, ◌∷◌, [], append_assoc}
 use Rattle.serv_top.specs.Lines.{ended_lines}
 use Rattle.serv_top.specs.Upheld.{AreSaidFirst}
-use Rattle.serv_top.proofs.AnsweredLemmas.{lines_before}
 use Rattle.serv_top.proofs.GatheredLemmas.{stopped_wider}
+use Rattle.serv_top.proofs.GoingLemmas.{upheld_taken}
 use Rattle.serv_top.proofs.ServedLemmas.{first_further}
 use Rattle.serv_top.proofs.serving.Serving.feed_line.Goals as goal
 
@@ -19,12 +19,10 @@ returns-in-Ok-clause-stopped g c = λ before s held run.
     rw (c.in-Ok.ensures.same.0, c.in-Ok.ensures.same.1) at (rw (append_assoc before piece (10 ∷ [])) at (stopped (before ++ piece) s held (c.in-Ok.ensures.fed before s _ held run)))
 
 pub returns-in-Ok-clause-upheld : goal.returns-in-Ok-clause-upheld
-returns-in-Ok-clause-upheld g c = λ before s held log lines others is run up.
+returns-in-Ok-clause-upheld g c = λ before s held run.
     let piece = c.args.piece.now in
-    let next = rw c.feed_piece.ensures.waiting at c.end_line.ensures.upheld in
-    let whole = rw (sym (append_assoc before piece (10 ∷ []))) at is in
-    next (before ++ piece) s held log lines others whole (c.in-Ok.ensures.fed before s _ held run)
-    (rw (c.in-Ok.ensures.same.0, c.in-Ok.ensures.same.1, c.in-Ok.ensures.same.2) up)
+    let upheld = rw c.feed_piece.ensures.waiting at c.end_line.ensures.upheld in
+    rw c.in-Ok.ensures.same.2 at (rw (append_assoc before piece (10 ∷ [])) at (upheld (before ++ piece) s held (c.in-Ok.ensures.fed before s _ held run)))
 
 pub returns-in-Ok-clause-disk : goal.returns-in-Ok-clause-disk
 returns-in-Ok-clause-disk g c = rw (c.in-Ok.ensures.same.0, c.in-Ok.ensures.same.1) at c.end_line.ensures.disk
@@ -41,6 +39,8 @@ returns-in-Err-clause-stopped g c = λ before s held run.
     }
 
 pub returns-in-Err-clause-upheld : goal.returns-in-Err-clause-upheld
-returns-in-Err-clause-upheld g c = λ before s held log lines others is run up.
+returns-in-Err-clause-upheld g c = λ before s held run.
     let piece = c.args.piece.now in
-    c.feed_piece.ensures.upheld before s _ held log lines _ (lines_before (before ++ piece) (10 ∷ []) lines others (rw (sym (append_assoc before piece (10 ∷ []))) at is)) run up
+    rw (append_assoc before piece (10 ∷ [])) at
+    (upheld_taken (g.D.Disk.moment c.feed_piece.new.disk) (g.D.Disk.images_since c.feed_piece.new.disk) (g.M.Machine.kept c.feed_piece.new.machine) s.history held _ _ (before ++ piece) (10 ∷ [])
+    (c.feed_piece.ensures.upheld before s _ held run))

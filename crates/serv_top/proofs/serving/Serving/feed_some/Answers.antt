@@ -5,7 +5,7 @@ use Rattle.serv_top.proofs.GatheredLemmas.{stops_after}
 use Rattle.serv_top.proofs.ServedLemmas.{first_further}
 use Rattle.serv_top.specs.Lines.{ended_lines}
 use Rattle.serv_top.specs.Upheld.{AreSaidFirst}
-use Rattle.serv_top.proofs.AnsweredLemmas.{lines_before}
+use Rattle.serv_top.proofs.GoingLemmas.{upheld_taken}
 use Rattle.serv_top.proofs.serving.Serving.feed_some.Goals as goal
 
 pub feed_line-requires-clause-plain : goal.feed_line-requires-clause-plain
@@ -34,23 +34,25 @@ pub returns-in-Err-feed_piece-clause-stopped : goal.returns-in-Err-feed_piece-cl
 returns-in-Err-feed_piece-clause-stopped g c = λ before s held run. c.in-Err-feed_piece.ensures.stopped before s _ held run
 
 pub returns-in-Ok-clause-upheld : goal.returns-in-Ok-clause-upheld
-returns-in-Ok-clause-upheld g c = λ before s held log lines others is run up.
+returns-in-Ok-clause-upheld g c = λ before s held run.
     let bytes = c.args.bytes.now in
     let n = c.in-Some.at + 1 in
     let front = line_before bytes c.in-Some.at (sym c.line_feed_in.ensures ∙ c.in-Some.is) in
-    let parted = lines_before (before ++ take n bytes) (drop n bytes) lines others (rw (sym (part_rest before bytes n)) at is) in
-    c.feed_line.ensures.upheld before s held log lines _ (rw front at parted) run up
+    rw (part_rest before bytes n) at
+    (upheld_taken (g.D.Disk.moment c.feed_line.new.disk) (g.D.Disk.images_since c.feed_line.new.disk) (g.M.Machine.kept c.feed_line.new.machine) s.history held _ _ (before ++ take n bytes) (drop n bytes)
+    (rw (sym front) at (c.feed_line.ensures.upheld before s held run)))
 
 pub returns-in-Err-clause-upheld : goal.returns-in-Err-clause-upheld
-returns-in-Err-clause-upheld g c = λ before s held log lines others is run up.
+returns-in-Err-clause-upheld g c = λ before s held run.
     let bytes = c.args.bytes.now in
     let n = c.in-Some.at + 1 in
     let front = line_before bytes c.in-Some.at (sym c.line_feed_in.ensures ∙ c.in-Some.is) in
-    let parted = lines_before (before ++ take n bytes) (drop n bytes) lines others (rw (sym (part_rest before bytes n)) at is) in
-    c.feed_line.ensures.upheld before s held log lines _ (rw front at parted) run up
+    rw (part_rest before bytes n) at
+    (upheld_taken (g.D.Disk.moment c.feed_line.new.disk) (g.D.Disk.images_since c.feed_line.new.disk) (g.M.Machine.kept c.feed_line.new.machine) s.history held _ _ (before ++ take n bytes) (drop n bytes)
+    (rw (sym front) at (c.feed_line.ensures.upheld before s held run)))
 
 pub returns-in-Ok-feed_piece-clause-upheld : goal.returns-in-Ok-feed_piece-clause-upheld
-returns-in-Ok-feed_piece-clause-upheld g c = λ before s held log lines others is run up. c.feed_piece.ensures.upheld before s _ held log lines others is run up
+returns-in-Ok-feed_piece-clause-upheld g c = λ before s held run. c.feed_piece.ensures.upheld before s _ held run
 
 pub returns-in-Err-feed_piece-clause-upheld : goal.returns-in-Err-feed_piece-clause-upheld
-returns-in-Err-feed_piece-clause-upheld g c = λ before s held log lines others is run up. c.feed_piece.ensures.upheld before s _ held log lines others is run up
+returns-in-Err-feed_piece-clause-upheld g c = λ before s held run. c.feed_piece.ensures.upheld before s _ held run

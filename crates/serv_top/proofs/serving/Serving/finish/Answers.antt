@@ -1,6 +1,7 @@
-use Rattle.std.proofs.Common.{rules, ◌≡◌, ◌++◌, ◌∷◌, [], refl, sym, ap, ◌∙◌, append-nil}
+use Rattle.std.proofs.Common.{rules, ◌≡◌, ◌++◌, ◌∷◌, [], refl, sym, ◌∙◌, append-nil}
 use Rattle.std.proofs.lemmas.Result.{on_ok_weaker, IfErr-weaker}
 use Rattle.serv_machine.proofs.OnDiskLemmas.{disk_none, disk_more}
+use Rattle.serv_machine.proofs.UpheldLemmas.{upheld_none}
 use Rattle.serv_top.specs.Lines.{lines_of}
 use Rattle.serv_top.specs.Upheld.{AreFirst, AreSaidFirst}
 use Rattle.serv_top.proofs.AnsweredLemmas.{upheld_result}
@@ -22,6 +23,9 @@ returns-then-is_empty-clause-disk g c =
     disk_none g.D.Disk.images g.D.Disk.moment g.D.Disk.images_since c.args.disk.now _ _ refl
     (g.met.M.Machine.keeps_running c.args.machine.now c.args.disk.now (g.met.M.Machine.settled c.args.machine.now c.args.disk.now c.requires.ready).0) (g.met.D.Disk.only_now c.args.disk.now)
 
+pub returns-then-is_empty-clause-upheld : goal.returns-then-is_empty-clause-upheld
+returns-then-is_empty-clause-upheld g c = λ bytes s held run. upheld_none _ _ _ _ _ _
+
 pub returns-in-Ok-clause-served : goal.returns-in-Ok-clause-served
 returns-in-Ok-clause-served g c = λ bytes s held run.
     let some : c.args.self.now.line.items ≡ [] → ⊥ = search rules in
@@ -42,13 +46,13 @@ returns-in-Ok-clause-stopped g c = λ bytes s held run.
     (gone fed.said s _ held fed.gathers)
 
 pub returns-in-Ok-clause-upheld : goal.returns-in-Ok-clause-upheld
-returns-in-Ok-clause-upheld g c = λ before s held log lines others is run up.
+returns-in-Ok-clause-upheld g c = λ bytes s held run.
     let some : c.args.self.now.line.items ≡ [] → ⊥ = search rules in
-    let fed = c.in-Ok.ensures.fed before s held run in
+    let fed = c.in-Ok.ensures.fed bytes s held run in
     let gone = rw c.end_line.ensures.waiting at c.let_go.ensures in
-    let all = is ∙ ap (λ ls. ls ++ others) (last_ended _ before run some) in
-    upheld_result g.D.Disk.images g.D.Disk.moment g.D.Disk.images_since c.end_line.new.disk c.let_go.new.disk c.let_go.result _ _ _ _ s (AreFirst fed.said) (AreSaidFirst lines) held _ log _ _ c.let_go.ensures.disk
-    (gone.stopped fed.said s _ held fed.gathers) (first_here _ (before ++ 10 ∷ []) fed lines others all) (c.end_line.ensures.upheld before s held log lines others all run up) (gone.upheld fed.said s _ held fed.gathers)
+    let last = last_ended _ bytes run some in
+    upheld_result g.D.Disk.images g.D.Disk.moment g.D.Disk.images_since c.end_line.new.disk c.let_go.new.disk c.let_go.result _ _ _ _ s (AreFirst fed.said) (AreSaidFirst (lines_of bytes)) held _ _ _ _ c.let_go.ensures.disk
+    (gone.stopped fed.said s _ held fed.gathers) (first_here _ (bytes ++ 10 ∷ []) fed (lines_of bytes) [] (last ∙ sym (append-nil _))) (rw (sym last) at (c.end_line.ensures.upheld bytes s held run)) (gone.upheld fed.said s _ held fed.gathers)
 
 pub returns-in-Ok-clause-disk : goal.returns-in-Ok-clause-disk
 returns-in-Ok-clause-disk g c = on_ok_weaker c.let_go.result (λ second. disk_more g.D.Disk.images g.D.Disk.moment g.D.Disk.images_since _ _ _ _ _ _ _ c.in-Ok.ensures.disk second) c.let_go.ensures.disk
@@ -59,6 +63,6 @@ returns-in-Err-clause-stopped g c = λ bytes s held run.
     rw (last_ended _ bytes run some) (c.in-Err.ensures.stopped bytes s held run)
 
 pub returns-in-Err-clause-upheld : goal.returns-in-Err-clause-upheld
-returns-in-Err-clause-upheld g c = λ before s held log lines others is run up.
+returns-in-Err-clause-upheld g c = λ bytes s held run.
     let some : c.args.self.now.line.items ≡ [] → ⊥ = search rules in
-    c.end_line.ensures.upheld before s held log lines others (is ∙ ap (λ ls. ls ++ others) (last_ended _ before run some)) run up
+    rw (last_ended _ bytes run some) (c.end_line.ensures.upheld bytes s held run)

@@ -7,8 +7,8 @@ use Rattle.serv_machine.specs.Upheld.{Upholds}
 use Rattle.serv_links.specs.Outcomes.{Writes}
 use Rattle.serv_links.specs.Links.{Serves}
 use Rattle.std.proofs.Common.{subst}
-use Rattle.serv_top.proofs.LinksLemmas.{complete_link}
-use Rattle.serv_top.proofs.one_link.serve_one.Goals as goal
+use Rattle.serv_links.proofs.LinkLemmas.{complete_link}
+use Rattle.serv_links.proofs.one_link.serve_one.Goals as goal
 
 pub returns-clause-served : goal.returns-clause-served
 returns-clause-served g c =

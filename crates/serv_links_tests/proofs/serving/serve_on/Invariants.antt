@@ -1,4 +1,4 @@
-use Rattle.serv_links_tests.proofs.doors.serve_all.Given as goal
+use Rattle.serv_links_tests.proofs.serving.serve_on.Given as goal
 
 abbrev pub ghosts-serve_counted : goal.ghosts-serve_counted
 ghosts-serve_counted g a = record { name = a.blank.name; parts = a.blank.parts }

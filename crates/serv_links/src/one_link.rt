@@ -9,9 +9,10 @@ ghost use Rattle.serv_machine.specs.Upheld.{Upholds};
 ghost use Rattle.serv_links.specs.Outcomes.{Writes};
 ghost use Rattle.serv_links.specs.Links.{IsDiskEnd, Serves, link_limit, number_in};
 
+use crate::link_end::LinkEnd;
+use crate::serving::serve_link;
 use serv_disk::{Disk, Link};
 use serv_engine::Engine;
-use serv_links::{LinkEnd, serve_link};
 use serv_machine::Frugal;
 use std::alloc::Global;
 use std::sync::ledger::Ledger;

@@ -1,4 +1,0 @@
-use Rattle.serv_links_tests.proofs.serving.serve.Given as goal
-
-abbrev pub ghosts-serve_counted : goal.ghosts-serve_counted
-ghosts-serve_counted g a = record { name = a.blank.name; parts = a.blank.parts }
