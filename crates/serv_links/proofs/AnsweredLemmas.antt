@@ -15,10 +15,12 @@ use Rattle.serv_machine.specs.OnDisk.{OnDisk}
 use Rattle.serv_machine.specs.Upheld.{HasCommands, Upholds}
 use Rattle.serv_machine.proofs.UpheldLemmas.{upheld_none, upheld_wider, upheld_later, upheld_then, upheld_written}
 use Rattle.serv_machine.specs.Stands.{Stand}
-use Rattle.serv_links.specs.Responses.{responses_to, after_all}
+use Rattle.serv_machine.specs.Sayings.{history_after_all, replies_to}
+use Rattle.serv_machine.proofs.SayingLemmas.{history_after_all-append, replies_to-append}
+use Rattle.serv_links.specs.Responses.{sayings_of}
 use Rattle.serv_links.specs.Outcomes.{IsAnswered}
 use Rattle.serv_links.specs.Answered.{AreAnswers, AreAnswersIn, AreAnswersOf, IsLastText}
-use Rattle.serv_links.proofs.RoundLemmas.{mean_append, after_append, responses_append}
+use Rattle.serv_links.proofs.RoundLemmas.{mean_append, sayings_append}
 
 -- ---- requests after others
 
@@ -42,11 +44,13 @@ answers_more asks more h bytes commands is = record {
 pub answers_then : (n : ℕ) (xs ys : List Ask) (s t : Stand) (wrote : List ℕ) (bytes : ℕ) (commands : List Accepted) → IsAnswered n xs s t wrote → AreAnswers ys t.history bytes commands
     → AreAnswers (xs ++ ys) s.history (length wrote + bytes) commands
 answers_then n xs ys s t wrote bytes commands first is =
-    let stands : t.history ≡ after_all s.history first.meant = first.moved.0 in
-    let texts : responses_to s.history (first.meant ++ is.meant) ++ is.last ≡ wrote ++ (responses_to t.history is.meant ++ is.last) =
-    ap (λ x. x ++ is.last) (responses_append first.meant s.history is.meant ∙ ap (λ x. x ++ responses_to (after_all s.history first.meant) is.meant) (sym first.wrote_is) ∙ ap (λ h. wrote ++ responses_to h is.meant) (sym stands))
-    ∙ append_assoc wrote (responses_to t.history is.meant) is.last in
-    let long = length-append wrote (responses_to t.history is.meant ++ is.last) in
+    let front = sayings_of first.meant in
+    let back = sayings_of is.meant in
+    let stands : t.history ≡ history_after_all s.history front = first.moved.0 in
+    let texts : replies_to s.history (sayings_of (first.meant ++ is.meant)) ++ is.last ≡ wrote ++ (replies_to t.history back ++ is.last) =
+    ap (λ x. x ++ is.last) (ap (replies_to s.history) (sayings_append first.meant is.meant) ∙ replies_to-append s.history front back ∙ ap (λ x. x ++ replies_to (history_after_all s.history front) back) (sym first.wrote_is) ∙ ap (λ h. wrote ++ replies_to h back) (sym stands))
+    ∙ append_assoc wrote (replies_to t.history back) is.last in
+    let long = length-append wrote (replies_to t.history back ++ is.last) in
     record {
       done = xs ++ is.done;
       others = is.others;
@@ -56,7 +60,8 @@ answers_then n xs ys s t wrote bytes commands first is =
       last = is.last;
       last_is = is.last_is;
       bytes_are = ap (λ k. length wrote + k) is.bytes_are ∙ sym (ap (λ (l : List ℕ). length l) texts ∙ long);
-      commands_are = is.commands_are ∙ ap (λ h. (after_all h is.meant).commands) stands ∙ ap (λ (h : History). h.commands) (sym (after_append first.meant s.history is.meant));
+      commands_are = is.commands_are ∙ ap (λ h. (history_after_all h back).commands) stands ∙ ap (λ (h : History). h.commands) (sym (history_after_all-append s.history front back))
+          ∙ ap (λ l. (history_after_all s.history l).commands) (sym (sayings_append first.meant is.meant));
     }
 
 -- of a piece: with the requests of the bytes before it
@@ -89,9 +94,9 @@ pub text_upheld : {D : Type 0} (images : D → List ℕ → Type 0) (moment : D 
     → (log log' log'' : Option (List Stamp)) → Upholds (AreAnswers asks s.history) (moment d) (images_since d) now held log log' → ((x : List ℕ) → held' ≡ Some x → Notes (moment d) (length x + length text) log' log'')
     → Upholds (AreAnswers asks s.history) (moment d) (images_since d) now held log log''
 text_upheld {D} images moment images_since d only {n} {done} {s} {mid} {w} answered more asks is last last_is now list now_is has held held' front text wrote small log log' log'' up notes =
-    let long = length-append (responses_to s.history answered.meant) last in
-    let same : length w ≡ length (responses_to s.history answered.meant) = ap (λ (l : List ℕ). length l) answered.wrote_is in
-    upheld_written images moment images_since d only (AreAnswers asks s.history) now mid.history.commands list now_is has (length (responses_to s.history answered.meant ++ last))
+    let long = length-append (replies_to s.history (sayings_of answered.meant)) last in
+    let same : length w ≡ length (replies_to s.history (sayings_of answered.meant)) = ap (λ (l : List ℕ). length l) answered.wrote_is in
+    upheld_written images moment images_since d only (AreAnswers asks s.history) now mid.history.commands list now_is has (length (replies_to s.history (sayings_of answered.meant) ++ last))
     (record {
       done = done;
       others = more;

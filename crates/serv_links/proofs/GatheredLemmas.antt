@@ -3,44 +3,25 @@ use Rattle.std.proofs.Common.{◌≡◌, ℕ, ◌+◌, ◌≤◌, Bool, true, fa
 use Rattle.std.specs.Prelude.{Option, Result, Ok, Err, OnOk, IfErr}
 use Rattle.std.specs.Io.KnownBytes.{Appends}
 use Rattle.std.proofs.KnownBytes.{Appends-nil, Appends-trans}
-use Rattle.svc_types.specs.declared.requests.Command.{Command}
-use Rattle.svc_types.specs.declared.requests.Request.TheVariants as request
-use Rattle.svc_world.specs.World.{Accepted, accepted}
+use Rattle.svc_world.specs.World.{Accepted}
 use Rattle.serv_disk.specs.Faults.{AppendsPart, IsProperPrefix}
 use Rattle.serv_http.specs.declared.ask.Ask.{Ask}
-use Rattle.serv_machine.specs.History.{History, Fresh, decided, after_decision, with_command}
-use Rattle.serv_machine.specs.Replies.{history_after_request}
+use Rattle.serv_machine.specs.History.{History}
 use Rattle.serv_machine.specs.OnDisk.{IsTorn, OnDisk}
 use Rattle.serv_machine.specs.Stages.{IsKeptBut, IsNear}
 use Rattle.serv_machine.specs.Stands.{Stand, stand, Running}
-use Rattle.serv_machine.proofs.NextLemmas.{next_is, no_more}
+use Rattle.serv_machine.proofs.NextLemmas.{no_more}
+use Rattle.serv_machine.proofs.SayingLemmas.{fresh_grows, fresh_one, next_alone}
 use Rattle.serv_machine.proofs.OnDiskLemmas.{disk_more}
 use Rattle.serv_links.specs.declared.meaning.Meaning.{Meaning}
-use Rattle.serv_links.specs.declared.meaning.Meaning.TheVariants.{Asks, Faulty}
-use Rattle.serv_links.specs.declared.outcome.Outcome.{Outcome}
-use Rattle.serv_links.specs.declared.outcome.Outcome.TheVariants.{Answered, Broken, Disk, NoMemory}
-use Rattle.serv_links.specs.Meanings.{IsAppended, Means}
-use Rattle.serv_links.specs.Responses.{Moves, bound_of, history_after, response_to, response_500, response_503}
+use Rattle.serv_machine.specs.declared.faults.Stop.{Stop}
+use Rattle.serv_machine.specs.declared.faults.Stop.TheVariants.{WriteFault, DiskFault, OutOfMemory}
+use Rattle.serv_machine.specs.Sayings.{reply_to, history_after, bound_of, commands_of, IsFresh, Moves}
+use Rattle.serv_links.specs.Meanings.{Means}
+use Rattle.serv_links.specs.Responses.{saying_of, response_500, response_503}
 use Rattle.serv_links.specs.Outcomes.{AppendsFront, IsAnswered, IsCut, IsOne, IsReplied, IsRound, IsStopped, IsStuck, Writes}
 use Rattle.serv_links.specs.Gathered.{as_one, text_if, Gathered, IsWaiting}
 use Rattle.serv_links.proofs.RoundLemmas.{answered_more, answered_none, answered_one, one_weaker}
-
--- ---- a command that is fresh
-
--- a request that brings one
-record Brings (h : History) (meant : Meaning) : Type 0 where
-  key : List ℕ
-  command : Command
-  ends : Bool
-  is : meant ≡ Asks (request.Do key command) ends
-  fresh : decided h key command ≡ Fresh
-  after : history_after h meant ≡ with_command h (accepted key command)
-
-brings : (h : History) (meant : Meaning) → IsAppended h meant → Brings h meant
-unfolding history_after_request
-brings h (Asks (request.Do key c) ends) is = record { key = key; command = c; ends = ends; is = refl; fresh = is; after = ap (after_decision h (accepted key c)) is }
-brings h (Asks (request.Ask q) ends) is = absurd is
-brings h (Faulty status ends allow) is = absurd is
 
 -- ---- one request
 
@@ -53,44 +34,43 @@ no_part part is = omega (arith, is.some, ap (λ (l : List ℕ). length l) is.joi
 
 module _ (a : Ask) (meant : Meaning) (means : Means a meant) (s : Stand) where
   -- the disk failed after its command was begun
-  torn_stuck : (t : Running) (kept' : History) (next : Accepted) (rest : List Accepted) → IsNear s.history (history_after s.history meant) t.held → IsKeptBut (IsAppended s.history meant) s.history t.held t.kept
-      → t.steps ≤ s.steps + bound_of s.history meant → kept' ≡ t.kept → t.held.commands ≡ t.kept.commands ++ next ∷ rest → IsStuck a s (stand kept' t.steps) (next ∷ [])
+  torn_stuck : (t : Running) (kept' : History) (next : Accepted) (rest : List Accepted) → IsNear s.history (history_after s.history (saying_of meant)) t.held → IsKeptBut (IsFresh s.history (saying_of meant)) s.history t.held t.kept
+      → t.steps ≤ s.steps + bound_of s.history (saying_of meant) → kept' ≡ t.kept → t.held.commands ≡ t.kept.commands ++ next ∷ rest → IsStuck a s (stand kept' t.steps) (next ∷ [])
   torn_stuck t kept' next rest near (inl all) cost same torn = absurd (no_more t.kept.commands rest next (ap (λ (h : History). h.commands) all ∙ torn))
   torn_stuck t kept' next rest (inl none) (inr begun) cost same torn = absurd (no_more t.kept.commands rest next (ap (λ (h : History). h.commands) (begun.1 ∙ sym none) ∙ torn))
   torn_stuck t kept' next rest (inr after) (inr begun) cost same torn =
-      let b = brings s.history meant begun.0 in
-      let one : Accepted = accepted b.key b.command in
-      let here : (s.history.commands ++ one ∷ []) ++ [] ≡ s.history.commands ++ next ∷ rest =
-      append-nil (s.history.commands ++ one ∷ []) ∙ ap (λ (h : History). h.commands) (sym (after ∙ b.after)) ∙ torn ∙ ap (λ (h : History). h.commands ++ next ∷ rest) begun.1 in
+      let grows = fresh_grows s.history (saying_of meant) begun.0 in
+      let here : s.history.commands ++ commands_of (saying_of meant) ≡ s.history.commands ++ next ∷ rest =
+      sym grows ∙ ap (λ (h : History). h.commands) (sym after) ∙ torn ∙ ap (λ (h : History). h.commands ++ next ∷ rest) begun.1 in
       record {
-        key = b.key;
-        command = b.command;
-        last = b.ends;
-        means = subst (Means a) b.is means;
-        fresh = b.fresh;
-        pending_is = ap (λ x. x ∷ []) (next_is s.history.commands [] rest one next here);
-        same = same ∙ begun.1;
-        cost = subst (λ m. t.steps ≤ s.steps + bound_of s.history m) b.is cost;
+        meant = meant;
+        means = means;
+        sticks = record {
+          fresh = begun.0;
+          pending_is = next_alone s.history.commands (commands_of (saying_of meant)) rest next (fresh_one s.history (saying_of meant) begun.0) here;
+          same = same ∙ begun.1;
+          cost = cost;
+        };
       }
 
   module _ {D : Type 0} (images : D → List ℕ → Type 0) (moment : D → ℕ) (images_since : D → ℕ → List ℕ → Type 0) (cut : Type 0) (held held' : Option (List ℕ)) where
     -- how it stops, with what is left on a disk
-    abbrev One : D → D → Outcome → Stand → Type 0
+    abbrev One : D → D → Stop → Stand → Type 0
     One old new o s' = Writes images moment images_since old new (IsOne cut o a s s') s.history s'.history held held'
 
     -- no memory was there for its response; then a command that is begun is committed
-    module _ (old mid new : D) (t : Running) (kept' : History) (near : IsNear s.history (history_after s.history meant) t.held) (cost : t.steps ≤ s.steps + bound_of s.history meant)
+    module _ (old mid new : D) (t : Running) (kept' : History) (near : IsNear s.history (history_after s.history (saying_of meant)) t.held) (cost : t.steps ≤ s.steps + bound_of s.history (saying_of meant))
         (first : OnDisk images moment images_since old mid s.history t.kept []) where
-      pub starved_one : kept' ≡ t.held → OnDisk images moment images_since mid new t.kept t.held [] → AppendsFront cut held held' response_503 → One old new NoMemory (stand kept' t.steps)
+      pub starved_one : kept' ≡ t.held → OnDisk images moment images_since mid new t.kept t.held [] → AppendsFront cut held held' response_503 → One old new OutOfMemory (stand kept' t.steps)
       starved_one same run left = record {
         pending = [];
         wrote = left.part;
         appends = left.appends;
-        says_so = (refl, inr (record { meant = meant; means = means; near = subst (IsNear s.history (history_after s.history meant)) (sym same) near; cost = cost }), left.front);
+        says_so = (refl, inr (record { meant = meant; means = means; starves = record { near = subst (IsNear s.history (history_after s.history (saying_of meant))) (sym same) near; cost = cost } }), left.front);
         disk = subst (λ (h : History). OnDisk images moment images_since old new s.history h []) (sym same) (disk_more images moment images_since old mid new _ _ _ [] first run);
       }
 
-      pub torn_one : IsKeptBut (IsAppended s.history meant) s.history t.held t.kept → kept' ≡ t.kept → IsTorn images moment images_since mid new t.kept t.held → AppendsFront cut held held' response_500 → One old new Disk (stand kept' t.steps)
+      pub torn_one : IsKeptBut (IsFresh s.history (saying_of meant)) s.history t.held t.kept → kept' ≡ t.kept → IsTorn images moment images_since mid new t.kept t.held → AppendsFront cut held held' response_500 → One old new DiskFault (stand kept' t.steps)
       torn_one kept same torn left = record {
         pending = torn.next ∷ [];
         wrote = left.part;
@@ -160,10 +140,10 @@ module _ {n : ℕ} {waits : Bool} {text : List ℕ} {asks : List Ask} {s : Stand
 
   -- the disk failed, or what waits is not written whole
   module _ {D : Type 0} (images : D → List ℕ → Type 0) (moment : D → ℕ) (images_since : D → ℕ → List ℕ → Type 0) (old new : D) (cut : Type 0) (kept' : History) (held'' : Option (List ℕ)) where
-    abbrev Stops : Outcome → Type 0
+    abbrev Stops : Stop → Type 0
     Stops o = Writes images moment images_since old new (IsStopped cut o n asks s (stand kept' t.steps)) t.kept kept' held held''
 
-    pub cut_stops : kept' ≡ t.held → OnDisk images moment images_since old new t.kept t.held [] → AppendsPart held' held'' (text_if waits text) → Stops Broken
+    pub cut_stops : kept' ≡ t.held → OnDisk images moment images_since old new t.kept t.held [] → AppendsPart held' held'' (text_if waits text) → Stops WriteFault
     cut_stops same run p = record {
       pending = [];
       wrote = g.written ++ p.part;
@@ -172,7 +152,7 @@ module _ {n : ℕ} {waits : Bool} {text : List ℕ} {asks : List Ask} {s : Stand
       disk = subst (λ (h : History). OnDisk images moment images_since old new t.kept h []) (sym same) run;
     }
       where
-        by_case : (b : Bool) → IsWaiting b text g.done asks g.mid t → (p : AppendsPart held' held'' (text_if b text)) → IsStopped cut Broken n asks s (stand kept' t.steps) [] (g.written ++ p.part)
+        by_case : (b : Bool) → IsWaiting b text g.done asks g.mid t → (p : AppendsPart held' held'' (text_if b text)) → IsStopped cut WriteFault n asks s (stand kept' t.steps) [] (g.written ++ p.part)
         by_case true back p = record {
           done = g.done;
           ask = back.last;
@@ -187,7 +167,7 @@ module _ {n : ℕ} {waits : Bool} {text : List ℕ} {asks : List Ask} {s : Stand
         }
         by_case false is p = absurd (no_part p.part p.partial)
 
-    pub torn_stops : kept' ≡ t.kept → IsTorn images moment images_since old new t.kept t.held → AppendsFront cut held' held'' response_500 → Stops Disk
+    pub torn_stops : kept' ≡ t.kept → IsTorn images moment images_since old new t.kept t.held → AppendsFront cut held' held'' response_500 → Stops DiskFault
     torn_stops same torn left = record {
       pending = torn.next ∷ [];
       wrote = g.written ++ left.part;
@@ -196,7 +176,7 @@ module _ {n : ℕ} {waits : Bool} {text : List ℕ} {asks : List Ask} {s : Stand
       disk = subst (λ (h : History). OnDisk images moment images_since old new t.kept h (torn.next ∷ [])) (sym same) torn.disk;
     }
       where
-        by_case : (b : Bool) → IsWaiting b text g.done asks g.mid t → IsStopped cut Disk n asks s (stand kept' t.steps) (torn.next ∷ []) (g.written ++ left.part)
+        by_case : (b : Bool) → IsWaiting b text g.done asks g.mid t → IsStopped cut DiskFault n asks s (stand kept' t.steps) (torn.next ∷ []) (g.written ++ left.part)
         by_case true back =
             let r = back.replied in
             record {
@@ -220,8 +200,8 @@ module _ {n : ℕ} {text : List ℕ} {asks : List Ask} {s : Stand} {t : Running}
   -- ---- one request more
 
   -- its response waits
-  pub held_back : {E : Type 0} (r : Result (Unit {0}) E) (m : ℕ) (waits : Bool) (a : Ask) (meant : Meaning) (u : Running) (own : List ℕ) (held'' : Option (List ℕ)) → Means a meant → m ≡ n → OnOk r (waits ≡ true) → OnOk r (own ≡ response_to t.held meant)
-      → OnOk r (Moves meant (stand t.held t.steps) (stand u.held u.steps)) → OnOk r (IsKeptBut (IsAppended t.held meant) t.held u.held u.kept) → OnOk r (held'' ≡ held') → OnOk r (Gathered m waits own (asks ++ a ∷ []) s u held held'')
+  pub held_back : {E : Type 0} (r : Result (Unit {0}) E) (m : ℕ) (waits : Bool) (a : Ask) (meant : Meaning) (u : Running) (own : List ℕ) (held'' : Option (List ℕ)) → Means a meant → m ≡ n → OnOk r (waits ≡ true) → OnOk r (own ≡ reply_to t.held (saying_of meant))
+      → OnOk r (Moves (saying_of meant) (stand t.held t.steps) (stand u.held u.steps)) → OnOk r (IsKeptBut (IsFresh t.held (saying_of meant)) t.held u.held u.kept) → OnOk r (held'' ≡ held') → OnOk r (Gathered m waits own (asks ++ a ∷ []) s u held held'')
   held_back (Err e) m waits a meant u own held'' means count one text_is moved kept same = tt
   held_back (Ok _) m waits a meant u own held'' means count one text_is moved kept same = record {
     done = asks;
@@ -234,7 +214,7 @@ module _ {n : ℕ} {text : List ℕ} {asks : List Ask} {s : Stand} {t : Running}
 
   module _ {D : Type 0} (images : D → List ℕ → Type 0) (moment : D → ℕ) (images_since : D → ℕ → List ℕ → Type 0) (old mid new : D) (h : History) (before : OnDisk images moment images_since old mid h t.held []) where
     -- it stops
-    pub one_stops : (r : Result (Unit {0}) Outcome) (m : ℕ) (cut later : Type 0) (a : Ask) (s' : Stand) (held'' : Option (List ℕ)) → m ≡ n → (cut → later)
+    pub one_stops : (r : Result (Unit {0}) Stop) (m : ℕ) (cut later : Type 0) (a : Ask) (s' : Stand) (held'' : Option (List ℕ)) → m ≡ n → (cut → later)
         → IfErr r (λ o. Writes images moment images_since mid new (IsOne cut o a (stand t.held t.steps) s') t.held s'.history held' held'')
         → IfErr r (λ o. Writes images moment images_since old new (IsStopped later o m (asks ++ a ∷ []) s s') h s'.history held held'')
     one_stops (Ok _) m cut later a s' held'' count then one = tt
@@ -260,7 +240,7 @@ module _ {n : ℕ} {text : List ℕ} {asks : List Ask} {s : Stand} {t : Running}
   -- ---- no further request
 
   pub round_done : {D : Type 0} (images : D → List ℕ → Type 0) (moment : D → ℕ) (images_since : D → ℕ → List ℕ → Type 0) (old new : D) (cut : Type 0) (h : History) → OnDisk images moment images_since old new h t.held []
-      → Writes images moment images_since old new (IsRound cut Answered n asks s (stand t.kept t.steps)) h t.kept held held'
+      → Writes images moment images_since old new (IsRound cut (Ok tt) n asks s (stand t.kept t.steps)) h t.kept held held'
   round_done images moment images_since old new cut h run = record {
     pending = [];
     wrote = g.written;

@@ -1,6 +1,6 @@
 -- A link in its course, and what it is where it ends.
 use Rattle.std.proofs.Common.{◌≡◌, ℕ, ◌+◌, ◌<◌, ◌≤◌, false, List, [], ◌++◌, length, refl, sym, ap, subst, ◌∙◌, inl, inr, arith, append-nil, length-append}
-use Rattle.std.specs.Prelude.{Option, Some, None}
+use Rattle.std.specs.Prelude.{Option, Some, None, Result, Ok, Err}
 use Rattle.std.specs.Io.KnownBytes.{Consumes, IsAtEnd}
 use Rattle.std.proofs.KnownBytes.{Appends-nil, Consumes-nil, Consumes-trans}
 use Rattle.std.proofs.lemmas.Bool.{both_ways}
@@ -14,8 +14,8 @@ use Rattle.serv_http.specs.Streams.{AsksTo}
 use Rattle.serv_http.proofs.StreamLemmas.{asks-grow}
 use Rattle.serv_machine.specs.OnDisk.{OnDisk}
 use Rattle.serv_links.specs.declared.link_end.LinkEnd.TheVariants as link_end
-use Rattle.serv_links.specs.declared.outcome.Outcome.{Outcome}
-use Rattle.serv_links.specs.declared.outcome.Outcome.TheVariants as outcome
+use Rattle.serv_machine.specs.declared.faults.Stop.{Stop}
+use Rattle.serv_machine.specs.declared.faults.Stop.TheVariants as stop
 use Rattle.serv_machine.specs.Stands.{Stand}
 use Rattle.serv_links.specs.Responses.{response_503}
 use Rattle.serv_links.specs.Outcomes.{IsAnswered, IsCutOff, IsUnread, IsPiece, AppendsFront, Writes}
@@ -54,6 +54,10 @@ pub record Passed (upheld : (ℕ → List Accepted → Type 0) → Type 0) (left
   pub answered : IsAnswered n asks s s' added
   pub acknowledged : upheld (AreAnswersOf s.history bytes)
 
+-- why it stops
+pub stopped_as : (o : Result (Unit {0}) Stop) (e why : Stop) → o ≡ Err e → e ≡ why → o ≡ Err why
+stopped_as o e why is same = is ∙ ap Err same
+
 -- ---- sides of a link
 
 -- what a write leaves of the side that is read
@@ -91,7 +95,7 @@ module _ (U V : (ℕ → List Accepted → Type 0) → Type 0) (left left' : Opt
   last_read : IsReadOn (going.bytes ++ piece)
   last_read = record { before = going.bytes; piece = piece; parted = refl; few = omega (arith, few, long); asks = going.asks; going = going.rest; asked = going.asked }
 
-  passed_more : (m : ℕ) (c' : Conn) (t' : Stand) (pending' : List Accepted) (w : List ℕ) → IsPiece cut outcome.Answered m (going.rest ++ piece) c' t t' pending' w
+  passed_more : (m : ℕ) (c' : Conn) (t' : Stand) (pending' : List Accepted) (w : List ℕ) → IsPiece cut (Ok tt) m (going.rest ++ piece) c' t t' pending' w
       → Passed V left left''' c' (n + m) (taken + count) s t' pending' (added ++ w)
   passed_more m c' t' pending' w more = record {
     nothing = more.nothing;
@@ -107,7 +111,7 @@ module _ (U V : (ℕ → List Accepted → Type 0) → Type 0) (left left' : Opt
     acknowledged = up;
   }
 
-  cut_off_more : (o : Outcome) (m : ℕ) (t' : Stand) (pending' : List Accepted) (w : List ℕ) → IsCutOff cut o m (going.rest ++ piece) t t' pending' w
+  cut_off_more : (o : Stop) (m : ℕ) (t' : Stand) (pending' : List Accepted) (w : List ℕ) → IsCutOff cut o m (going.rest ++ piece) t t' pending' w
       → IsCutOff cut o (n + m) (going.bytes ++ piece) s t' pending' (added ++ w)
   cut_off_more o m t' pending' w more = record {
     asks = going.asks ++ more.asks;
@@ -134,14 +138,14 @@ module _ (U V : (ℕ → List Accepted → Type 0) → Type 0) (left left' : Opt
     small : length (going.bytes ++ piece) ≤ link_limit
     small = let all = bytes_more going.bytes piece taken count going.count long in omega arith
 
-    broken_more : cut → IsPiece cut outcome.Broken m (going.rest ++ piece) c' t t' pending' w → Serves (link_end.Broken (n + m)) reads cut V left left''' s t' pending' (added ++ w)
-    broken_more risen more = record { taken = going.bytes ++ piece; took = took_more left left' left'' left''' going.bytes piece going.took took same; within = small; read_on = last_read; says = inr (risen, cut_off_more outcome.Broken m t' pending' w more); acknowledged = up }
+    broken_more : cut → IsPiece cut (Err stop.WriteFault) m (going.rest ++ piece) c' t t' pending' w → Serves (link_end.Broken (n + m)) reads cut V left left''' s t' pending' (added ++ w)
+    broken_more risen more = record { taken = going.bytes ++ piece; took = took_more left left' left'' left''' going.bytes piece going.took took same; within = small; read_on = last_read; says = inr (risen, cut_off_more stop.WriteFault m t' pending' w more); acknowledged = up }
 
-    disk_more_end : IsPiece cut outcome.Disk m (going.rest ++ piece) c' t t' pending' w → Serves (link_end.Disk (n + m)) reads cut V left left''' s t' pending' (added ++ w)
-    disk_more_end more = record { taken = going.bytes ++ piece; took = took_more left left' left'' left''' going.bytes piece going.took took same; within = small; read_on = last_read; says = cut_off_more outcome.Disk m t' pending' w more; acknowledged = up }
+    disk_more_end : IsPiece cut (Err stop.DiskFault) m (going.rest ++ piece) c' t t' pending' w → Serves (link_end.Disk (n + m)) reads cut V left left''' s t' pending' (added ++ w)
+    disk_more_end more = record { taken = going.bytes ++ piece; took = took_more left left' left'' left''' going.bytes piece going.took took same; within = small; read_on = last_read; says = cut_off_more stop.DiskFault m t' pending' w more; acknowledged = up }
 
-    memory_more : IsPiece cut outcome.NoMemory m (going.rest ++ piece) c' t t' pending' w → Serves (link_end.NoMemory (n + m)) reads cut V left left''' s t' pending' (added ++ w)
-    memory_more (inl more) = record { taken = going.bytes ++ piece; took = took_more left left' left'' left''' going.bytes piece going.took took same; within = small; read_on = last_read; says = inl (cut_off_more outcome.NoMemory m t' pending' w more); acknowledged = up }
+    memory_more : IsPiece cut (Err stop.OutOfMemory) m (going.rest ++ piece) c' t t' pending' w → Serves (link_end.NoMemory (n + m)) reads cut V left left''' s t' pending' (added ++ w)
+    memory_more (inl more) = record { taken = going.bytes ++ piece; took = took_more left left' left'' left''' going.bytes piece going.took took same; within = small; read_on = last_read; says = inl (cut_off_more stop.OutOfMemory m t' pending' w more); acknowledged = up }
     memory_more (inr unread) = record { taken = going.bytes ++ piece; took = took_more left left' left'' left''' going.bytes piece going.took took same; within = small; read_on = last_read; says = inr (unread.nothing, starved_more m t' pending' w unread); acknowledged = up }
 
 -- ---- where it ends without a further piece
@@ -300,7 +304,7 @@ module _ {D : Type 0} (images : D → List ℕ → Type 0) (moment : D → ℕ) 
       (log log' log'' log''' : Option (List Stamp)) (unnoted : log'' ≡ log')
       (run : Run old mid (Going (λ covers. Upholds covers (moment mid) (images_since mid) t.history held log log') left left' c n taken s t) s t held held') (same : held'' ≡ held')
       (piece : List ℕ) (count : ℕ) (long : length piece ≡ count) (few : count ≤ read_limit) (took : Consumes left' left'' piece) (stays : left''' ≡ left'')
-      (cut : Type 0) (o : Outcome) (m : ℕ) (served : (r : List ℕ) → StandsFor c r → Run mid new (IsPiece cut o m (r ++ piece) c' t t') t t' held'' held''')
+      (cut : Type 0) (o : Result (Unit {0}) Stop) (m : ℕ) (served : (r : List ℕ) → StandsFor c r → Run mid new (IsPiece cut o m (r ++ piece) c' t t') t t' held'' held''')
       (upheld : (r : List ℕ) → StandsFor c r → Upholds (AreAnswersIn t.history (r ++ piece)) (moment new) (images_since new) t'.history held'' log'' log''') where
     abbrev V : (ℕ → List Accepted → Type 0) → Type 0
     V covers = Upholds covers (moment new) (images_since new) t'.history held log log'''
@@ -323,22 +327,22 @@ module _ {D : Type 0} (images : D → List ℕ → Type 0) (moment : D → ℕ) 
         writes_more images moment images_since old mid new _ _ R _ _ _ held held' held''' run run.says_so.nothing second
         (then second.pending second.wrote second.says_so)
 
-    pub run_passes : o ≡ outcome.Answered → Run old new (Passed V left left''' c' (n + m) (taken + count) s t') s t' held held'''
+    pub run_passes : o ≡ Ok tt → Run old new (Passed V left left''' c' (n + m) (taken + count) s t') s t' held held'''
     run_passes is = joined _ (λ p w x. passed_more (λ covers. Upholds covers (moment mid) (images_since mid) t.history held log log') V left left' c n taken s t run.pending run.wrote run.says_so left'' left''' piece count long few took stays cut up m c' t' p w
         (subst (λ q. IsPiece cut q m (run.says_so.rest ++ piece) c' t t' p w) is x))
 
     module _ (within : taken + count ≤ link_limit) (reads writes : Type 0) (then : cut → writes) where
-      pub run_broken : o ≡ outcome.Broken → writes → Run old new (Serves (link_end.Broken (n + m)) reads writes V left left''' s t') s t' held held'''
+      pub run_broken : o ≡ Err stop.WriteFault → writes → Run old new (Serves (link_end.Broken (n + m)) reads writes V left left''' s t') s t' held held'''
       run_broken is risen = joined _ (λ p w x. broken_more (λ covers. Upholds covers (moment mid) (images_since mid) t.history held log log') V left left' c n taken s t run.pending run.wrote run.says_so left'' left''' piece count long few took stays writes up within reads m c' t' p w risen
-          (piece_weaker cut writes outcome.Broken m (run.says_so.rest ++ piece) c' t t' p w then (subst (λ q. IsPiece cut q m (run.says_so.rest ++ piece) c' t t' p w) is x)))
+          (piece_weaker cut writes (Err stop.WriteFault) m (run.says_so.rest ++ piece) c' t t' p w then (subst (λ q. IsPiece cut q m (run.says_so.rest ++ piece) c' t t' p w) is x)))
 
-      pub run_disk : o ≡ outcome.Disk → Run old new (Serves (link_end.Disk (n + m)) reads writes V left left''' s t') s t' held held'''
+      pub run_disk : o ≡ Err stop.DiskFault → Run old new (Serves (link_end.Disk (n + m)) reads writes V left left''' s t') s t' held held'''
       run_disk is = joined _ (λ p w x. disk_more_end (λ covers. Upholds covers (moment mid) (images_since mid) t.history held log log') V left left' c n taken s t run.pending run.wrote run.says_so left'' left''' piece count long few took stays writes up within reads m c' t' p w
-          (piece_weaker cut writes outcome.Disk m (run.says_so.rest ++ piece) c' t t' p w then (subst (λ q. IsPiece cut q m (run.says_so.rest ++ piece) c' t t' p w) is x)))
+          (piece_weaker cut writes (Err stop.DiskFault) m (run.says_so.rest ++ piece) c' t t' p w then (subst (λ q. IsPiece cut q m (run.says_so.rest ++ piece) c' t t' p w) is x)))
 
-      pub run_memory : o ≡ outcome.NoMemory → Run old new (Serves (link_end.NoMemory (n + m)) reads writes V left left''' s t') s t' held held'''
+      pub run_memory : o ≡ Err stop.OutOfMemory → Run old new (Serves (link_end.NoMemory (n + m)) reads writes V left left''' s t') s t' held held'''
       run_memory is = joined _ (λ p w x. memory_more (λ covers. Upholds covers (moment mid) (images_since mid) t.history held log log') V left left' c n taken s t run.pending run.wrote run.says_so left'' left''' piece count long few took stays writes up within reads m c' t' p w
-          (piece_weaker cut writes outcome.NoMemory m (run.says_so.rest ++ piece) c' t t' p w then (subst (λ q. IsPiece cut q m (run.says_so.rest ++ piece) c' t t' p w) is x)))
+          (piece_weaker cut writes (Err stop.OutOfMemory) m (run.says_so.rest ++ piece) c' t t' p w then (subst (λ q. IsPiece cut q m (run.says_so.rest ++ piece) c' t t' p w) is x)))
 
   -- after a piece that was answered
   module _ (old new : D) (U : (ℕ → List Accepted → Type 0) → Type 0) (left left' held held' : Option (List ℕ)) (c : Conn) (n taken : ℕ) (s t : Stand) (run : Run old new (Passed U left left' c n taken s t) s t held held') where

@@ -17,10 +17,12 @@ use Rattle.serv_links.specs.declared.meaning.Meaning.{Meaning}
 use Rattle.serv_links.specs.declared.meaning.Meaning.TheVariants.{Asks, Faulty}
 use Rattle.serv_links.specs.Meanings.{Means, Mean}
 use Rattle.serv_machine.specs.Stands.{Stand}
-use Rattle.serv_links.specs.Responses.{response_to, responses_to, history_after, after_all}
-use Rattle.serv_links.specs.declared.outcome.Outcome.TheVariants.{Broken}
+use Rattle.serv_machine.specs.Sayings.{reply_to, history_after, history_after_all, replies_to}
+use Rattle.serv_machine.proofs.SayingLemmas.{replies_to-append}
+use Rattle.serv_links.specs.Responses.{saying_of, sayings_of}
+use Rattle.serv_machine.specs.declared.faults.Stop.TheVariants.{WriteFault}
 use Rattle.serv_links.specs.Outcomes.{IsCutOff}
-use Rattle.serv_links.proofs.RoundLemmas.{responses_append}
+use Rattle.serv_links.proofs.RoundLemmas.{sayings_append}
 use Rattle.svc_world.specs.World.{Accepted}
 use Rattle.serv_disk.specs.Faults.{HasRisen, IsProperPrefix}
 use Rattle.serv_links.specs.Answered.{AreFirst}
@@ -70,8 +72,8 @@ all_one n m taken added more s t u l k p q =
     let same : p.answered.meant ≡ q.answered.meant =
     mean_one q.asks p.answered.meant q.answered.meant (subst (λ (z : List Ask). Mean z p.answered.meant) one.0 p.answered.mean) q.answered.mean in (
       p.answered.count ∙ (ap (λ (z : List Ask). length z) one.0 ∙ sym q.answered.count),
-      p.answered.wrote_is ∙ (ap (responses_to s.history) same ∙ sym q.answered.wrote_is),
-      p.answered.moved.0 ∙ (ap (after_all s.history) same ∙ sym q.answered.moved.0),
+      p.answered.wrote_is ∙ (ap (λ ms. replies_to s.history (sayings_of ms)) same ∙ sym q.answered.wrote_is),
+      p.answered.moved.0 ∙ (ap (λ ms. history_after_all s.history (sayings_of ms)) same ∙ sym q.answered.moved.0),
       one.1,
     )
 
@@ -102,7 +104,7 @@ joined w x y more b p r is before part =
     is ∙ (ap (λ z. z ++ (y ++ more)) (sym before) ∙ (ap (λ z. b ++ (z ++ more)) part ∙ (ap (λ z. b ++ z) (append_assoc p r more) ∙ sym (append_assoc b p (r ++ more)))))
 
 -- what is written where a write failed is a proper prefix of all responses
-pub cut_of_all : (n m : ℕ) (taken added whole : List ℕ) (s t u : Stand) (pending : List Accepted) (l : Option (List ℕ)) (before after : ℕ) → IsCutOff (HasRisen before after) Broken n taken s t pending added → IsAll m taken whole s u l
+pub cut_of_all : (n m : ℕ) (taken added whole : List ℕ) (s t u : Stand) (pending : List Accepted) (l : Option (List ℕ)) (before after : ℕ) → IsCutOff (HasRisen before after) WriteFault n taken s t pending added → IsAll m taken whole s u l
     → IsProperPrefix added whole
 cut_of_all n m taken added whole s t u pending l earlier later cut all =
     let stopped = cut.stopped in
@@ -111,13 +113,14 @@ cut_of_all n m taken added whole s t u pending l earlier later cut all =
     let first : stopped.answered.meant ≡ at.ms = mean_one stopped.done stopped.answered.meant at.ms stopped.answered.mean at.mean in
     let one = stopped.one.1 in
     let next : one.meant ≡ at.m = means_one stopped.ask one.meant at.m one.means at.means in
-    let before : stopped.before ≡ responses_to s.history at.ms = stopped.answered.wrote_is ∙ ap (responses_to s.history) first in
-    let mid : stopped.mid.history ≡ after_all s.history at.ms = stopped.answered.moved.0 ∙ ap (after_all s.history) first in
-    let said : response_to (after_all s.history at.ms) at.m ≡ stopped.part ++ one.cut.rest =
-    sym (ap (λ h. response_to h one.meant) mid ∙ ap (response_to (after_all s.history at.ms)) next) ∙ one.cut.joined in
-    let more = responses_to (history_after (after_all s.history at.ms) at.m) at.ks in
-    let whole_is : whole ≡ responses_to s.history at.ms ++ (response_to (after_all s.history at.ms) at.m ++ more) =
-    all.answered.wrote_is ∙ (ap (responses_to s.history) at.parted ∙ responses_append at.ms s.history (at.m ∷ at.ks)) in
+    let front = sayings_of at.ms in
+    let before : stopped.before ≡ replies_to s.history front = stopped.answered.wrote_is ∙ ap (λ ms. replies_to s.history (sayings_of ms)) first in
+    let mid : stopped.mid.history ≡ history_after_all s.history front = stopped.answered.moved.0 ∙ ap (λ ms. history_after_all s.history (sayings_of ms)) first in
+    let said : reply_to (history_after_all s.history front) (saying_of at.m) ≡ stopped.part ++ one.cut.rest =
+    sym (ap (λ h. reply_to h (saying_of one.meant)) mid ∙ ap (λ m. reply_to (history_after_all s.history front) (saying_of m)) next) ∙ one.cut.joined in
+    let more = replies_to (history_after (history_after_all s.history front) (saying_of at.m)) (sayings_of at.ks) in
+    let whole_is : whole ≡ replies_to s.history front ++ (reply_to (history_after_all s.history front) (saying_of at.m) ++ more) =
+    all.answered.wrote_is ∙ (ap (λ ms. replies_to s.history (sayings_of ms)) at.parted ∙ ap (replies_to s.history) (sayings_append at.ms (at.m ∷ at.ks)) ∙ replies_to-append s.history front (sayings_of (at.m ∷ at.ks))) in
     record {
       rest = one.cut.rest ++ more;
       some = (let long = length-append one.cut.rest more in let some = one.cut.some in omega arith);

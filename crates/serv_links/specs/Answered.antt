@@ -6,7 +6,8 @@ use Rattle.serv_http.specs.Streams.{AsksTo}
 use Rattle.serv_machine.specs.History.{History}
 use Rattle.serv_links.specs.declared.meaning.Meaning.{Meaning}
 use Rattle.serv_links.specs.Meanings.{Mean}
-use Rattle.serv_links.specs.Responses.{responses_to, after_all, response_500, response_503}
+use Rattle.serv_machine.specs.Sayings.{history_after_all, replies_to}
+use Rattle.serv_links.specs.Responses.{sayings_of, response_500, response_503}
 
 -- what is written after the responses: nothing more, or that the disk failed, or that no memory was there
 abbrev pub IsLastText : List ℕ → Type 0
@@ -22,8 +23,8 @@ pub record AreAnswers (asks : List Ask) (h : History) (bytes : ℕ) (commands : 
   pub mean : Mean done meant
   pub last : List ℕ
   pub last_is : IsLastText last
-  pub bytes_are : bytes ≡ length (responses_to h meant ++ last)
-  pub commands_are : commands ≡ (after_all h meant).commands
+  pub bytes_are : bytes ≡ length (replies_to h (sayings_of meant) ++ last)
+  pub commands_are : commands ≡ (history_after_all h (sayings_of meant)).commands
 
 -- requests of the first ones of these bytes, which have no further one
 pub record AreFirst (taken : List ℕ) (asks : List Ask) : Type 0 where

@@ -89,25 +89,16 @@ IsDoorsEnd NetFault most coming ends = NoDisk ends × (length ends < most)
 
 -- which ends are counted
 abbrev pub as_broken : LinkEnd → ℕ
-as_broken (link_end.Ended n) = 0
 as_broken (link_end.Broken n) = 1
-as_broken (link_end.Cut n) = 0
-as_broken (link_end.Disk n) = 0
-as_broken (link_end.NoMemory n) = 0
+as_broken other = 0
 
 abbrev pub as_cut : LinkEnd → ℕ
-as_cut (link_end.Ended n) = 0
-as_cut (link_end.Broken n) = 0
 as_cut (link_end.Cut n) = 1
-as_cut (link_end.Disk n) = 0
-as_cut (link_end.NoMemory n) = 0
+as_cut other = 0
 
 abbrev pub as_memory : LinkEnd → ℕ
-as_memory (link_end.Ended n) = 0
-as_memory (link_end.Broken n) = 0
-as_memory (link_end.Cut n) = 0
-as_memory (link_end.Disk n) = 0
 as_memory (link_end.NoMemory n) = 1
+as_memory other = 0
 
 -- the counts of these ends
 pub record IsSummary (ends : List LinkEnd) (summary : Summary) : Type 0 where

@@ -4,7 +4,8 @@ use Rattle.std.specs.Io.KnownBytes.{Appends}
 use Rattle.serv_http.specs.declared.ask.Ask.{Ask}
 use Rattle.serv_machine.specs.Stages.{IsKeptBut}
 use Rattle.serv_machine.specs.Stands.{Stand, stand, Stays, Running}
-use Rattle.serv_links.specs.Meanings.{IsAppended}
+use Rattle.serv_machine.specs.Sayings.{IsFresh}
+use Rattle.serv_links.specs.Responses.{saying_of}
 use Rattle.serv_links.specs.Outcomes.{IsAnswered, IsReplied}
 
 abbrev pub as_one : Bool → ℕ
@@ -20,7 +21,7 @@ pub record IsHeldBack (text : List ℕ) (done asks : List Ask) (s : Stand) (t : 
   pub last : Ask
   pub asks_are : asks ≡ done ++ last ∷ []
   pub replied : IsReplied last s (stand t.held t.steps) text
-  pub kept : IsKeptBut (IsAppended s.history replied.meant) s.history t.held t.kept
+  pub kept : IsKeptBut (IsFresh s.history (saying_of replied.meant)) s.history t.held t.kept
 
 -- one response waits, or none, and then no command is begun
 abbrev pub IsWaiting : Bool → List ℕ → List Ask → List Ask → Stand → Running → Type 0

@@ -6,7 +6,7 @@ use Rattle.serv_http.specs.declared.ask.Ask.{Ask}
 use Rattle.serv_http.specs.Streams.{AsksTo}
 use Rattle.serv_links.specs.declared.link_end.LinkEnd.{LinkEnd}
 use Rattle.serv_links.specs.declared.link_end.LinkEnd.TheVariants as link_end
-use Rattle.serv_links.specs.declared.outcome.Outcome.TheVariants as outcome
+use Rattle.serv_machine.specs.declared.faults.Stop.TheVariants as stop
 use Rattle.serv_links.specs.Answered.{AreFirst, AreAnswersOf}
 use Rattle.serv_machine.specs.Stands.{Stand, Stays}
 use Rattle.serv_links.specs.Responses.{response_503}
@@ -30,11 +30,8 @@ number_in (link_end.NoMemory n) = n
 
 -- the disk failed
 abbrev pub IsDiskEnd : LinkEnd → Type 0
-IsDiskEnd (link_end.Ended n) = ⊥
-IsDiskEnd (link_end.Broken n) = ⊥
-IsDiskEnd (link_end.Cut n) = ⊥
 IsDiskEnd (link_end.Disk n) = ⊤
-IsDiskEnd (link_end.NoMemory n) = ⊥
+IsDiskEnd other = ⊥
 
 -- all requests of these bytes are answered
 pub record IsAll (n : ℕ) (taken added : List ℕ) (s s' : Stand) (left : Option (List ℕ)) : Type 0 where
@@ -68,11 +65,11 @@ IsServed (link_end.Cut n) reads writes at_end taken s s' pending added =
 IsServed (link_end.Broken n) reads writes at_end taken s s' pending added =
     (reads × (pending ≡ []) × (length taken < link_limit)
     × ((going : List ℕ) × IsAll n taken added s s' (Some going)))
-    ⊎ (writes × IsCutOff writes outcome.Broken n taken s s' pending added)
+    ⊎ (writes × IsCutOff writes stop.WriteFault n taken s s' pending added)
 IsServed (link_end.Disk n) reads writes at_end taken s s' pending added =
-    IsCutOff writes outcome.Disk n taken s s' pending added
+    IsCutOff writes stop.DiskFault n taken s s' pending added
 IsServed (link_end.NoMemory n) reads writes at_end taken s s' pending added =
-    IsCutOff writes outcome.NoMemory n taken s s' pending added
+    IsCutOff writes stop.OutOfMemory n taken s s' pending added
     ⊎ ((pending ≡ []) × IsStarved writes n taken added s s')
 
 -- nothing was read after a response that ends the connection: before the last read it went on

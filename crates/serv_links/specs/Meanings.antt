@@ -3,14 +3,11 @@ use Rattle.std.specs.Prelude.{◌≡◌, ℕ, List, [], ◌∷◌, Bool, false, 
 use Rattle.svc_types.specs.Requests.{IsQuery, IsRequest}
 use Rattle.svc_types.specs.declared.requests.Request.{Request}
 use Rattle.svc_types.specs.declared.requests.Request.TheVariants as request
-use Rattle.svc_world.specs.World.{Accepted}
 use Rattle.serv_http.specs.declared.ask.Allow.{Allow}
 use Rattle.serv_http.specs.declared.ask.Ask.{Ask}
 use Rattle.serv_http.specs.declared.ask.Ask.TheVariants.{Post, Get, Fault}
 use Rattle.serv_http.specs.Responses.{IsSent, has_body}
 use Rattle.serv_json.specs.Bodies.{IsBodyOf}
-use Rattle.serv_machine.specs.History.{History}
-use Rattle.serv_machine.specs.Replies.{IsAppending, commands_in}
 use Rattle.serv_links.specs.declared.meaning.Meaning.{Meaning}
 use Rattle.serv_links.specs.declared.meaning.Meaning.TheVariants.{Asks, Faulty}
 
@@ -57,13 +54,3 @@ IsFormed (Faulty status ends allow) = IsFault status allow
 abbrev pub ends_of : Meaning → Bool
 ends_of (Asks r ends) = ends
 ends_of (Faulty status ends allow) = ends
-
--- the command that is brought, if it is one
-abbrev pub commands_of : Meaning → List Accepted
-commands_of (Asks r ends) = commands_in r
-commands_of (Faulty status ends allow) = []
-
--- a command that is fresh, and for which there is room
-abbrev pub IsAppended : History → Meaning → Type 0
-IsAppended h (Asks r ends) = IsAppending h r
-IsAppended h (Faulty status ends allow) = ⊥

@@ -1,5 +1,5 @@
--- The responses to requests, what is held after them, and how many steps they may take.
-use Rattle.std.specs.Prelude.{◌≡◌, ℕ, ◌+◌, ◌-◌, ◌≤◌, List, [], ◌∷◌, ◌++◌, length, take, true, Option, Some, None}
+-- The responses to requests, and what is written where there is none.
+use Rattle.std.specs.Prelude.{ℕ, ◌-◌, List, [], length, map, take, Bool, true, Option, Some, None}
 use Rattle.svc_types.specs.declared.requests.Command.{Command}
 use Rattle.svc_types.specs.declared.requests.Request.{Request}
 use Rattle.svc_types.specs.declared.requests.Request.TheVariants as request
@@ -10,8 +10,8 @@ use Rattle.serv_line.specs.Refusals.{code_of}
 use Rattle.serv_json.specs.Replies.{reply_text}
 use Rattle.serv_http.specs.Responses.{response}
 use Rattle.serv_machine.specs.History.{History, Decision, Kept, Refused, Full, Fresh, decided}
-use Rattle.serv_machine.specs.Replies.{reply_to_request, history_after_request, bound_of_request}
-use Rattle.serv_machine.specs.Stands.{Stand}
+use Rattle.serv_machine.specs.Replies.{reply_to_request}
+use Rattle.serv_machine.specs.Sayings.{Saying, asking, telling}
 use Rattle.serv_links.specs.declared.meaning.Meaning.{Meaning}
 use Rattle.serv_links.specs.declared.meaning.Meaning.TheVariants.{Asks, Faulty}
 
@@ -19,10 +19,9 @@ use Rattle.serv_links.specs.declared.meaning.Meaning.TheVariants.{Asks, Faulty}
 
 -- 409 where a request is refused, or the journal is full, and 200 where it is answered
 abbrev pub status_of_decision : Decision → ℕ
-status_of_decision (Kept reply) = 200
 status_of_decision (Refused why) = 409
 status_of_decision (Full bytes) = 409
-status_of_decision Fresh = 200
+status_of_decision other = 200
 
 abbrev pub status_of_refusal : Option Refusal → ℕ
 status_of_refusal (Some why) = 409
@@ -34,10 +33,9 @@ status_of_request h (request.Ask q) = status_of_refusal (query_refusal h.command
 
 -- 0, or the code of the refusal; 26 is the journal's
 abbrev pub code_of_decision : Decision → ℕ
-code_of_decision (Kept reply) = 0
 code_of_decision (Refused why) = code_of why
 code_of_decision (Full bytes) = 26
-code_of_decision Fresh = 0
+code_of_decision other = 0
 
 abbrev pub code_of_refusal : Option Refusal → ℕ
 code_of_refusal (Some why) = code_of why
@@ -50,9 +48,8 @@ code_of_request h (request.Ask q) = code_of_refusal (query_refusal h.commands q)
 -- the accepted command's number
 abbrev pub number_of_decision : History → Command → Decision → Option ℕ
 number_of_decision h c (Kept reply) = Some reply.number
-number_of_decision h c (Refused why) = None
-number_of_decision h c (Full bytes) = None
 number_of_decision h c Fresh = Some (next_reply h.commands c).number
+number_of_decision h c other = None
 
 unfoldable pub number_of_request : History → Request → Option ℕ
 number_of_request h (request.Do key c) = number_of_decision h c (decided h key c)
@@ -68,9 +65,16 @@ body_to_request h r = reply_text (code_of_request h r) (number_of_request h r) (
 
 -- ---- a response
 
-unfoldable pub response_to : History → Meaning → List ℕ
-response_to h (Asks r ends) = response (status_of_request h r) (body_to_request h r) ends None
-response_to h (Faulty status ends allow) = response status [] ends allow
+unfoldable pub response_to : History → Request → Bool → List ℕ
+response_to h r ends = response (status_of_request h r) (body_to_request h r) ends None
+
+-- what a request of a connection says
+abbrev pub saying_of : Meaning → Saying
+saying_of (Asks r ends) = asking r (λ h. response_to h r ends)
+saying_of (Faulty status ends allow) = telling (response status [] ends allow)
+
+abbrev pub sayings_of : List Meaning → List Saying
+sayings_of meant = map saying_of meant
 
 -- where the disk failed, and where no memory was there
 unfoldable pub response_500 : List ℕ
@@ -78,37 +82,3 @@ response_500 = response 500 [] true None
 
 unfoldable pub response_503 : List ℕ
 response_503 = response 503 [] true None
-
-abbrev pub history_after : History → Meaning → History
-history_after h (Asks r ends) = history_after_request h r
-history_after h (Faulty status ends allow) = h
-
--- the steps of it, at most
-abbrev pub bound_of : History → Meaning → ℕ
-bound_of h (Asks r ends) = bound_of_request h r
-bound_of h (Faulty status ends allow) = 0
-
--- ---- to requests in order
-
-abbrev pub responses_to : History → List Meaning → List ℕ
-responses_to h [] = []
-responses_to h (m ∷ meant) = response_to h m ++ responses_to (history_after h m) meant
-
-abbrev pub after_all : History → List Meaning → History
-after_all h [] = h
-after_all h (m ∷ meant) = after_all (history_after h m) meant
-
-abbrev pub bound_of_all : History → List Meaning → ℕ
-bound_of_all h [] = 0
-bound_of_all h (m ∷ meant) = bound_of h m + bound_of_all (history_after h m) meant
-
--- ---- where the books stand
-
--- a request was acted on, within its bound
-abbrev pub Moves : Meaning → Stand → Stand → Type 0
-Moves m s s' = (s'.history ≡ history_after s.history m) × (s'.steps ≤ s.steps + bound_of s.history m)
-
--- all these were acted on, within their bounds
-abbrev pub MovesAll : List Meaning → Stand → Stand → Type 0
-MovesAll meant s s' =
-    (s'.history ≡ after_all s.history meant) × (s'.steps ≤ s.steps + bound_of_all s.history meant)

@@ -1,6 +1,6 @@
 //! The requests that a piece of a connection's bytes completes.
 
-ghost use Rattle.std.specs.Prelude.{◌≡◌, ◌≢◌, ℕ, ◌≤◌, ◌<◌, ◌^◌, ◌++◌, List, length, All};
+ghost use Rattle.std.specs.Prelude.{◌≡◌, ◌≢◌, ℕ, ◌≤◌, ◌<◌, ◌^◌, ◌++◌, List, length, All, Err};
 ghost use Rattle.serv_disk.specs.Faults.{HasRisen};
 ghost use Rattle.serv_http.specs.Conns.{StandsFor};
 ghost use Rattle.serv_machine.specs.Stands.{stand};
@@ -10,14 +10,20 @@ ghost use Rattle.serv_links.specs.Meanings.{IsAsk};
 ghost use Rattle.serv_links.specs.Outcomes.{IsPiece, IsRound, Writes};
 
 use crate::closing::write_no_memory;
-use crate::outcome::{Outcome, Round};
 use crate::responses::Responses;
 use serv_disk::{Disk, Sink};
 use serv_http::{Ask, Conn};
-use serv_machine::Machine;
+use serv_machine::{Machine, Stop};
 use std::alloc::Global;
 use std::sync::ledger::Ledger;
 use svc_base::Steps;
+
+/// How the requests of a piece went: how many responses were written whole, and why no further one was, where that is so.
+#[derive(Clone, Copy, Debug)]
+pub(crate) struct Round {
+    pub(crate) answered: u32,
+    pub(crate) outcome: Result<(), Stop>,
+}
 
 /// Acts on requests in their order, and writes their responses, each once the disk has its command.
 fn answer_all<D: Disk, M: Machine<D>, K: Sink, L: Ledger>(
@@ -40,10 +46,10 @@ fn answer_all<D: Disk, M: Machine<D>, K: Sink, L: Ledger>(
         (D.images_since disk.new) (M.kept machine.new)
         (K.held link.old) (K.log link.old) (K.log link.new) }
     ensures few { result.answered ≤ length asks.now }
-    ensures ready { result.outcome ≢ Outcome.Disk → M.ready machine.new disk.new }
-    ensures broken { result.outcome ≡ Outcome.Broken → HasRisen (K.faults link.old) (K.faults link.new) }
-    ensures failed { result.outcome ≡ Outcome.Disk → M.failed machine.new }
-    ensures stopped { result.outcome ≡ Outcome.Disk → HasRisen (D.faults disk.old) (D.faults disk.new) }
+    ensures ready { result.outcome ≢ Err Stop.DiskFault → M.ready machine.new disk.new }
+    ensures broken { result.outcome ≡ Err Stop.WriteFault → HasRisen (K.faults link.old) (K.faults link.new) }
+    ensures failed { result.outcome ≡ Err Stop.DiskFault → M.failed machine.new }
+    ensures stopped { result.outcome ≡ Err Stop.DiskFault → HasRisen (D.faults disk.old) (D.faults disk.new) }
     ensures later { K.faults link.old ≤ K.faults link.new }
     ensures faults { D.faults disk.old ≤ D.faults disk.new }
     ensures beside { K.beside link.new ≡ K.beside link.old }
@@ -52,20 +58,20 @@ fn answer_all<D: Disk, M: Machine<D>, K: Sink, L: Ledger>(
     for ask in asks {
         match responses.answer(alloc, machine, disk, link, ask, steps) {
             Ok(()) => {}
-            Err(outcome) => return Round {
+            Err(why) => return Round {
                 answered: responses.answered,
-                outcome,
+                outcome: Err(why),
             },
         }
     }
     match responses.settle(None, machine, disk, link) {
         Ok(()) => Round {
             answered: responses.answered,
-            outcome: Outcome::Answered,
+            outcome: Ok(()),
         },
-        Err(outcome) => Round {
+        Err(why) => Round {
             answered: responses.answered,
-            outcome,
+            outcome: Err(why),
         },
     }
 }
@@ -94,10 +100,10 @@ pub(crate) fn serve_piece<D: Disk, M: Machine<D>, K: Sink, L: Ledger>(
         (D.images_since disk.new) (M.kept machine.new)
         (K.held link.old) (K.log link.old) (K.log link.new) }
     ensures few { result.answered ≤ length piece.now }
-    ensures ready { result.outcome ≢ Outcome.Disk → M.ready machine.new disk.new }
-    ensures broken { result.outcome ≡ Outcome.Broken → HasRisen (K.faults link.old) (K.faults link.new) }
-    ensures failed { result.outcome ≡ Outcome.Disk → M.failed machine.new }
-    ensures stopped { result.outcome ≡ Outcome.Disk → HasRisen (D.faults disk.old) (D.faults disk.new) }
+    ensures ready { result.outcome ≢ Err Stop.DiskFault → M.ready machine.new disk.new }
+    ensures broken { result.outcome ≡ Err Stop.WriteFault → HasRisen (K.faults link.old) (K.faults link.new) }
+    ensures failed { result.outcome ≡ Err Stop.DiskFault → M.failed machine.new }
+    ensures stopped { result.outcome ≡ Err Stop.DiskFault → HasRisen (D.faults disk.old) (D.faults disk.new) }
     ensures later { K.faults link.old ≤ K.faults link.new }
     ensures faults { D.faults disk.old ≤ D.faults disk.new }
     ensures beside { K.beside link.new ≡ K.beside link.old }
@@ -108,7 +114,7 @@ pub(crate) fn serve_piece<D: Disk, M: Machine<D>, K: Sink, L: Ledger>(
             write_no_memory(link, disk);
             Round {
                 answered: 0,
-                outcome: Outcome::NoMemory,
+                outcome: Err(Stop::OutOfMemory),
             }
         }
     }

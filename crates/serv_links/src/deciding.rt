@@ -7,9 +7,9 @@ ghost use Rattle.serv_disk.specs.Faults.{HasRisen};
 ghost use Rattle.serv_machine.specs.OnDisk.{OnDisk};
 ghost use Rattle.serv_machine.specs.Replies.{bound_of_request, commands_in, history_after_request, IsAppending};
 ghost use Rattle.serv_machine.specs.Stages.{IsKeptBut, IsNear};
-ghost use Rattle.serv_links.specs.declared.meaning.Meaning.TheVariants.{Asks};
-ghost use Rattle.serv_links.specs.Meanings.{IsAppended, IsFormed, commands_of, ends_of};
-ghost use Rattle.serv_links.specs.Responses.{bound_of, history_after, response_to};
+ghost use Rattle.serv_machine.specs.Sayings.{reply_to, history_after, bound_of, commands_of, IsFresh};
+ghost use Rattle.serv_links.specs.Meanings.{IsFormed, ends_of};
+ghost use Rattle.serv_links.specs.Responses.{response_to, saying_of};
 ghost use Rattle.serv_links.specs.Verdicts.{IsFit, response_of};
 
 use crate::meaning::Meaning;
@@ -33,23 +33,23 @@ pub(crate) fn respond_to<D: Disk, M: Machine<D>, L: Ledger>(
 ) -> Result<Vec<u8>, Halt>
     requires formed { IsFormed meaning.now }
     requires ready { M.ready machine.old disk.old }
-    ensures text { IfOk result (λ text. text.items ≡ response_to (M.history machine.old) meaning.now) }
-    ensures history { OnOk result (M.history machine.new ≡ history_after (M.history machine.old) meaning.now) }
-    ensures near { IsNear (M.history machine.old) (history_after (M.history machine.old) meaning.now)
+    ensures text { IfOk result (λ text. text.items ≡ reply_to (M.history machine.old) (saying_of meaning.now)) }
+    ensures history { OnOk result (M.history machine.new ≡ history_after (M.history machine.old) (saying_of meaning.now)) }
+    ensures near { IsNear (M.history machine.old) (history_after (M.history machine.old) (saying_of meaning.now))
         (M.history machine.new) }
-    ensures kept { result ≢ Err Halt.DiskFault → IsKeptBut (IsAppended (M.history machine.old) meaning.now)
+    ensures kept { result ≢ Err Halt.DiskFault → IsKeptBut (IsFresh (M.history machine.old) (saying_of meaning.now))
         (M.history machine.old) (M.history machine.new) (M.kept machine.new) }
     ensures stopped { result ≡ Err Halt.DiskFault → (M.kept machine.new ≡ M.history machine.old)
         × HasRisen (D.faults disk.old) (D.faults disk.new) }
-    ensures appending { result ≡ Err Halt.DiskFault → IsAppended (M.history machine.old) meaning.now }
+    ensures appending { result ≡ Err Halt.DiskFault → IsFresh (M.history machine.old) (saying_of meaning.now) }
     ensures disk { result ≢ Err Halt.DiskFault → OnDisk D.images D.moment D.images_since disk.old disk.new
         (M.history machine.old) (M.kept machine.new) [] }
     ensures torn { result ≡ Err Halt.DiskFault → OnDisk D.images D.moment D.images_since disk.old disk.new
-        (M.history machine.old) (M.history machine.old) (commands_of meaning.now) }
+        (M.history machine.old) (M.history machine.old) (commands_of (saying_of meaning.now)) }
     ensures running { result ≢ Err Halt.DiskFault → M.running machine.new disk.new }
     ensures failed { result ≡ Err Halt.DiskFault → M.failed machine.new }
     ensures faults { D.faults disk.old ≤ D.faults disk.new }
-    ensures steps { steps.new ≤ steps.old + bound_of (M.history machine.old) meaning.now }
+    ensures steps { steps.new ≤ steps.old + bound_of (M.history machine.old) (saying_of meaning.now) }
 {
     match decide(machine, disk, meaning, steps) {
         Ok(verdict) => match verdict.response(alloc, meaning.ends()) {
@@ -70,23 +70,23 @@ fn decide<D: Disk, M: Machine<D>, L: Ledger>(
     requires formed { IsFormed meaning.now }
     requires ready { M.ready machine.old disk.old }
     ensures response { IfOk result (λ verdict. response_of verdict (ends_of meaning.now)
-        ≡ response_to (M.history machine.old) meaning.now) }
+        ≡ reply_to (M.history machine.old) (saying_of meaning.now)) }
     ensures fit { IfOk result IsFit }
-    ensures history { OnOk result (M.history machine.new ≡ history_after (M.history machine.old) meaning.now) }
-    ensures kept { OnOk result (IsKeptBut (IsAppended (M.history machine.old) meaning.now)
+    ensures history { OnOk result (M.history machine.new ≡ history_after (M.history machine.old) (saying_of meaning.now)) }
+    ensures kept { OnOk result (IsKeptBut (IsFresh (M.history machine.old) (saying_of meaning.now))
         (M.history machine.old) (M.history machine.new) (M.kept machine.new)) }
     ensures same { OnErr result ((M.history machine.new ≡ M.history machine.old)
         × (M.kept machine.new ≡ M.history machine.old)) }
     ensures stopped { result ≡ Err Halt.DiskFault → HasRisen (D.faults disk.old) (D.faults disk.new) }
-    ensures appending { result ≡ Err Halt.DiskFault → IsAppended (M.history machine.old) meaning.now }
+    ensures appending { result ≡ Err Halt.DiskFault → IsFresh (M.history machine.old) (saying_of meaning.now) }
     ensures disk { result ≢ Err Halt.DiskFault → OnDisk D.images D.moment D.images_since disk.old disk.new
         (M.history machine.old) (M.kept machine.new) [] }
     ensures torn { result ≡ Err Halt.DiskFault → OnDisk D.images D.moment D.images_since disk.old disk.new
-        (M.history machine.old) (M.history machine.old) (commands_of meaning.now) }
+        (M.history machine.old) (M.history machine.old) (commands_of (saying_of meaning.now)) }
     ensures running { result ≢ Err Halt.DiskFault → M.running machine.new disk.new }
     ensures failed { result ≡ Err Halt.DiskFault → M.failed machine.new }
     ensures faults { D.faults disk.old ≤ D.faults disk.new }
-    ensures steps { steps.new ≤ steps.old + bound_of (M.history machine.old) meaning.now }
+    ensures steps { steps.new ≤ steps.old + bound_of (M.history machine.old) (saying_of meaning.now) }
 {
     match meaning {
         Meaning::Asks(request, _) => match request {
@@ -112,7 +112,7 @@ fn decide_command<D: Disk, M: Machine<D>, L: Ledger>(
     requires command { IsCommand command.now }
     requires ready { M.ready machine.old disk.old }
     ensures response { (ends : Bool) → IfOk result (λ verdict. response_of verdict ends
-        ≡ response_to (M.history machine.old) (Asks (request.Do key.now command.now) ends)) }
+        ≡ response_to (M.history machine.old) (request.Do key.now command.now) ends) }
     ensures fit { IfOk result IsFit }
     ensures history { OnOk result (M.history machine.new
         ≡ history_after_request (M.history machine.old) (request.Do key.now command.now)) }
@@ -152,7 +152,7 @@ fn decide_query<D: Disk, M: Machine<D>, L: Ledger>(
 ) -> Result<Verdict, OutOfMemory>
     requires { IsQuery query.now }
     ensures response { (ends : Bool) → IfOk result (λ verdict. response_of verdict ends
-        ≡ response_to (M.history machine.now) (Asks (request.Ask query.now) ends)) }
+        ≡ response_to (M.history machine.now) (request.Ask query.now) ends) }
     ensures fit { IfOk result IsFit }
     ensures history { M.history machine.now
         ≡ history_after_request (M.history machine.now) (request.Ask query.now) }

@@ -1,4 +1,4 @@
-//! Laws of links, for those that read what `serve_link` says.
+//! Laws of links, for those that read what `serve_one` says.
 
 ghost use Rattle.std.specs.Prelude.{◌≡◌, ℕ, ◌++◌, List, Option};
 ghost use Rattle.serv_http.specs.declared.ask.Ask.{Ask};
@@ -12,7 +12,7 @@ ghost use Rattle.serv_links.specs.Outcomes.{IsCutOff};
 ghost use Rattle.serv_links.specs.Answered.{AreFirst};
 ghost use Rattle.serv_links.specs.Links.{IsAll};
 
-use crate::outcome::Outcome;
+use serv_machine::Stop;
 
 /// Bytes are answered in one way, whatever the pieces in which they came: as many responses, with the same
 /// bytes, the same history after them, and the same rest. And where only the first of them were answered,
@@ -25,7 +25,7 @@ pub fn any_pieces()
         → AreFirst taken done → AsksTo taken asks l → (more : List Ask) × (asks ≡ done ++ more) }
     ensures cut { (n m : ℕ) (taken added whole : List ℕ) (s t u : Stand) (pending : List Accepted)
         (l : Option (List ℕ)) (before after : ℕ)
-        → IsCutOff (HasRisen before after) Outcome.Broken n taken s t pending added
+        → IsCutOff (HasRisen before after) Stop.WriteFault n taken s t pending added
         → IsAll m taken whole s u l → IsProperPrefix added whole }
     ensures means { (a : Ask) (m k : Meaning) → Means a m → Means a k → m ≡ k }
 {}

@@ -12,17 +12,17 @@ ghost use Rattle.serv_machine.specs.Stands.{Stand, running, stand};
 ghost use Rattle.serv_machine.specs.Upheld.{Upholds};
 ghost use Rattle.serv_links.specs.Answered.{AreAnswers};
 ghost use Rattle.serv_links.specs.Gathered.{as_one, text_if, Gathered};
-ghost use Rattle.serv_links.specs.Meanings.{IsAppended, IsAsk, IsFormed, Means};
+ghost use Rattle.serv_machine.specs.Sayings.{reply_to, IsFresh, Moves};
+ghost use Rattle.serv_links.specs.Meanings.{IsAsk, IsFormed, Means};
 ghost use Rattle.serv_links.specs.Outcomes.{IsOne, IsStopped, Writes};
-ghost use Rattle.serv_links.specs.Responses.{Moves, response_to};
+ghost use Rattle.serv_links.specs.Responses.{saying_of};
 
 use crate::closing::{write_failed, write_no_memory};
 use crate::deciding::respond_to;
 use crate::meaning::{Meaning, next_in, read_ask};
-use crate::outcome::Outcome;
 use serv_disk::{Disk, Failed, Sink, write_beside};
 use serv_http::Ask;
-use serv_machine::{Halt, Machine};
+use serv_machine::{Halt, Machine, Stop};
 use std::alloc::Global;
 use std::sync::ledger::Ledger;
 use svc_base::Steps;
@@ -60,7 +60,7 @@ impl Responses {
         link: &mut K,
         ask: &Ask,
         steps: &mut Steps<L>,
-    ) -> Result<(), Outcome>
+    ) -> Result<(), Stop>
         requires ask { IsAsk ask.now }
         requires running { M.running machine.old disk.old }
         requires few { self.old.answered + as_one self.old.waits < 2 ^ 32 }
@@ -87,11 +87,11 @@ impl Responses {
         ensures disk { OnOk result (OnDisk D.images D.moment D.images_since disk.old disk.new
             (M.kept machine.old) (M.kept machine.new) []) }
         ensures running { OnOk result (M.running machine.new disk.new) }
-        ensures ready { IfErr result (λ why. why ≢ Outcome.Disk → M.ready machine.new disk.new) }
-        ensures broken { IfErr result (λ why. why ≡ Outcome.Broken
+        ensures ready { IfErr result (λ why. why ≢ Stop.DiskFault → M.ready machine.new disk.new) }
+        ensures broken { IfErr result (λ why. why ≡ Stop.WriteFault
             → HasRisen (K.faults link.old) (K.faults link.new)) }
-        ensures failed { IfErr result (λ why. why ≡ Outcome.Disk → M.failed machine.new) }
-        ensures cause { IfErr result (λ why. why ≡ Outcome.Disk
+        ensures failed { IfErr result (λ why. why ≡ Stop.DiskFault → M.failed machine.new) }
+        ensures cause { IfErr result (λ why. why ≡ Stop.DiskFault
             → HasRisen (D.faults disk.old) (D.faults disk.new)) }
         ensures later { K.faults link.old ≤ K.faults link.new }
         ensures faults { D.faults disk.old ≤ D.faults disk.new }
@@ -103,7 +103,7 @@ impl Responses {
                 Ok(meaning) => self.act(alloc, meaning, machine, disk, link, steps),
                 Err(_) => {
                     write_no_memory(link, disk);
-                    Err(Outcome::NoMemory)
+                    Err(Stop::OutOfMemory)
                 }
             },
             Err(why) => Err(why),
@@ -119,14 +119,14 @@ impl Responses {
         disk: &mut D,
         link: &mut K,
         steps: &mut Steps<L>,
-    ) -> Result<(), Outcome>
+    ) -> Result<(), Stop>
         requires formed { IsFormed meaning.now }
         requires ready { M.ready machine.old disk.old }
         ensures waits { OnOk result (self.new.waits ≡ true) }
-        ensures text { OnOk result (self.new.text.items ≡ response_to (M.history machine.old) meaning.now) }
-        ensures moved { OnOk result (Moves meaning.now (stand (M.history machine.old) steps.old)
+        ensures text { OnOk result (self.new.text.items ≡ reply_to (M.history machine.old) (saying_of meaning.now)) }
+        ensures moved { OnOk result (Moves (saying_of meaning.now) (stand (M.history machine.old) steps.old)
             (stand (M.history machine.new) steps.new)) }
-        ensures kept { OnOk result (IsKeptBut (IsAppended (M.history machine.old) meaning.now)
+        ensures kept { OnOk result (IsKeptBut (IsFresh (M.history machine.old) (saying_of meaning.now))
             (M.history machine.old) (M.history machine.new) (M.kept machine.new)) }
         ensures unwritten { OnOk result (K.held link.new ≡ K.held link.old) }
         ensures one { (ask : asks.Ask) → Means ask meaning.now → IfErr result (λ why. Writes D.images D.moment
@@ -140,10 +140,10 @@ impl Responses {
         ensures disk { OnOk result (OnDisk D.images D.moment D.images_since disk.old disk.new
             (M.history machine.old) (M.kept machine.new) []) }
         ensures running { OnOk result (M.running machine.new disk.new) }
-        ensures ready { IfErr result (λ why. why ≢ Outcome.Disk → M.ready machine.new disk.new) }
-        ensures broken { IfErr result (λ why. why ≢ Outcome.Broken) }
-        ensures failed { IfErr result (λ why. why ≡ Outcome.Disk → M.failed machine.new) }
-        ensures cause { IfErr result (λ why. why ≡ Outcome.Disk
+        ensures ready { IfErr result (λ why. why ≢ Stop.DiskFault → M.ready machine.new disk.new) }
+        ensures broken { IfErr result (λ why. why ≢ Stop.WriteFault) }
+        ensures failed { IfErr result (λ why. why ≡ Stop.DiskFault → M.failed machine.new) }
+        ensures cause { IfErr result (λ why. why ≡ Stop.DiskFault
             → HasRisen (D.faults disk.old) (D.faults disk.new)) }
         ensures later { K.faults link.old ≤ K.faults link.new }
         ensures faults { D.faults disk.old ≤ D.faults disk.new }
@@ -157,17 +157,17 @@ impl Responses {
             }
             Err(Halt::DiskFault) => {
                 write_failed(link, disk);
-                Err(Outcome::Disk)
+                Err(Stop::DiskFault)
             }
             // A command may be begun.
             Err(Halt::OutOfMemory) => match machine.commit(disk, None) {
                 Ok(()) => {
                     write_no_memory(link, disk);
-                    Err(Outcome::NoMemory)
+                    Err(Stop::OutOfMemory)
                 }
                 Err(_) => {
                     write_failed(link, disk);
-                    Err(Outcome::Disk)
+                    Err(Stop::DiskFault)
                 }
             },
         }
@@ -180,7 +180,7 @@ impl Responses {
         machine: &mut M,
         disk: &mut D,
         link: &mut K,
-    ) -> Result<(), Outcome>
+    ) -> Result<(), Stop>
         requires next { IfSome next (λ c. IsCommand c.1.now) }
         requires running { M.running machine.old disk.old }
         requires few { self.old.answered + as_one self.old.waits < 2 ^ 32 }
@@ -206,11 +206,11 @@ impl Responses {
         ensures disk { OnOk result (OnDisk D.images D.moment D.images_since disk.old disk.new
             (M.kept machine.old) (M.history machine.new) []) }
         ensures ready { OnOk result (M.ready machine.new disk.new) }
-        ensures ready_too { IfErr result (λ why. why ≢ Outcome.Disk → M.ready machine.new disk.new) }
-        ensures broken { IfErr result (λ why. why ≡ Outcome.Broken
+        ensures ready_too { IfErr result (λ why. why ≢ Stop.DiskFault → M.ready machine.new disk.new) }
+        ensures broken { IfErr result (λ why. why ≡ Stop.WriteFault
             → HasRisen (K.faults link.old) (K.faults link.new)) }
-        ensures failed { IfErr result (λ why. why ≡ Outcome.Disk → M.failed machine.new) }
-        ensures cause { IfErr result (λ why. why ≡ Outcome.Disk
+        ensures failed { IfErr result (λ why. why ≡ Stop.DiskFault → M.failed machine.new) }
+        ensures cause { IfErr result (λ why. why ≡ Stop.DiskFault
             → HasRisen (D.faults disk.old) (D.faults disk.new)) }
         ensures later { K.faults link.old ≤ K.faults link.new }
         ensures faults { D.faults disk.old ≤ D.faults disk.new }
@@ -219,11 +219,11 @@ impl Responses {
         match machine.commit(disk, next) {
             Ok(()) => match self.write_waiting(disk, link) {
                 Ok(()) => Ok(()),
-                Err(_) => Err(Outcome::Broken),
+                Err(_) => Err(Stop::WriteFault),
             },
             Err(_) => {
                 write_failed(link, disk);
-                Err(Outcome::Disk)
+                Err(Stop::DiskFault)
             }
         }
     }

@@ -10,10 +10,9 @@ ghost use Rattle.serv_links.specs.Links.{IsDiskEnd, Serves, link_limit, number_i
 use crate::answering::serve_piece;
 use crate::closing::write_no_memory;
 use crate::link_end::LinkEnd;
-use crate::outcome::Outcome;
 use serv_disk::{Disk, Link, read_some};
 use serv_http::Conn;
-use serv_machine::Machine;
+use serv_machine::{Machine, Stop};
 use std::alloc::Global;
 use std::sync::ledger::Ledger;
 use svc_base::Steps;
@@ -27,7 +26,7 @@ const ROOM: usize = 1 << 14;
 /// Serves a link to its end: each request is acted on in its order, its response is written once the disk has its
 /// command, all of them before the next read, and what is said is that of the bytes, whatever the pieces in which
 /// they come. The machine is ready again unless the disk failed.
-pub fn serve_link<D: Disk, M: Machine<D>, C: Link, L: Ledger>(
+pub(crate) fn serve_link<D: Disk, M: Machine<D>, C: Link, L: Ledger>(
     alloc: Global,
     machine: &mut M,
     disk: &mut D,
@@ -70,10 +69,10 @@ pub fn serve_link<D: Disk, M: Machine<D>, C: Link, L: Ledger>(
         answered += round.answered;
         taken += count as u32;
         match round.outcome {
-            Outcome::Answered => {}
-            Outcome::Broken => return LinkEnd::Broken(answered),
-            Outcome::Disk => return LinkEnd::Disk(answered),
-            Outcome::NoMemory => return LinkEnd::NoMemory(answered),
+            Ok(()) => {}
+            Err(Stop::WriteFault) => return LinkEnd::Broken(answered),
+            Err(Stop::DiskFault) => return LinkEnd::Disk(answered),
+            Err(Stop::OutOfMemory) => return LinkEnd::NoMemory(answered),
         }
         if taken == LINK_LIMIT {
             return LinkEnd::Cut(answered);

@@ -4,3 +4,4 @@ pub mod NearLemmas
 pub mod MemoryLemmas
 pub mod EngineLemmas
 pub mod UpheldLemmas
+pub mod SayingLemmas

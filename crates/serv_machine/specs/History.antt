@@ -61,7 +61,5 @@ decided h key c = by_judgement h.store h.commands (accepted key c) (judged h.com
 
 -- a fresh command is accepted, and nothing else is
 abbrev pub after_decision : History → Accepted → Decision → History
-after_decision h a (Kept reply) = h
-after_decision h a (Refused why) = h
-after_decision h a (Full bytes) = h
 after_decision h a Fresh = with_command h a
+after_decision h a other = h

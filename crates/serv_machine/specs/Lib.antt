@@ -2,6 +2,7 @@ pub mod History
 pub mod Replies
 pub mod Stages
 pub mod Stands
+pub mod Sayings
 pub mod OnDisk
 pub mod Engines
 pub mod EngineLaws

@@ -23,16 +23,14 @@ use Rattle.serv_machine.specs.History.{History, Decision, Kept, Refused, Full, F
 -- the reply by what is decided; one that is not accepted, and was not before, has none
 abbrev pub IsReplyBy : History → Command → Decision → Reply → Type 0
 IsReplyBy h c (Kept reply) r = r ≡ reply
-IsReplyBy h c (Refused why) r = ⊥
-IsReplyBy h c (Full bytes) r = ⊥
 IsReplyBy h c Fresh r = r ≡ next_reply h.commands c
+IsReplyBy h c other r = ⊥
 
 -- nothing was said of the command before, and no rule refuses it: there is room for it, or there is none
 abbrev pub IsUnsaid : Decision → Type 0
-IsUnsaid (Kept reply) = ⊥
-IsUnsaid (Refused why) = ⊥
 IsUnsaid (Full bytes) = ⊤
 IsUnsaid Fresh = ⊤
+IsUnsaid other = ⊥
 
 -- a fault by what is decided; of the disk only where its count has risen, want of memory only of a command of which nothing
 -- was said

@@ -30,6 +30,33 @@ pub enum Halt {
     OutOfMemory,
 }
 
+/// Why no further request is answered.
+#[derive(Clone, Copy, Debug, PartialEq, Eq, Error)]
+pub enum Stop {
+    /// A write failed.
+    #[error("a write failed")]
+    WriteFault,
+    /// A call of the disk failed.
+    #[error("the disk failed")]
+    DiskFault,
+    #[error("out of memory")]
+    OutOfMemory,
+}
+
+impl From<Halt> for Stop {
+    ghost use Rattle.std.specs.Prelude.{◌≡◌};
+    ghost use Rattle.serv_machine.specs.Sayings.{stop_of};
+
+    ghost from_gives = { λ halt stop. stop ≡ stop_of halt };
+
+    fn from(halt: Halt) -> Stop {
+        match halt {
+            Halt::DiskFault => Stop::DiskFault,
+            Halt::OutOfMemory => Stop::OutOfMemory,
+        }
+    }
+}
+
 impl From<OutOfMemory> for Halt {
     ghost use Rattle.std.specs.Prelude.{◌≡◌};
     ghost use Rattle.serv_machine.specs.declared.faults.Halt.TheVariants as halt;

@@ -10,7 +10,7 @@ mod nowhere;
 mod over_journal;
 
 pub use answering::answer_request;
-pub use faults::{ActFault, Halt};
+pub use faults::{ActFault, Halt, Stop};
 pub use frugal::Frugal;
 pub use machine::Machine;
 pub use nowhere::Nowhere;

@@ -12,34 +12,32 @@ use Rattle.serv_machine.specs.History.{History, in_store}
 use Rattle.serv_machine.specs.OnDisk.{HasHistory, OnDisk}
 use Rattle.serv_machine.specs.Upheld.{HasCommands, Upholds}
 use Rattle.serv_machine.proofs.UpheldLemmas.{commands_kept, commands_left, upheld_none, upheld_wider, upheld_later, upheld_written, upheld_then}
-use Rattle.serv_top.specs.declared.serving.Stop.{Stop}
+use Rattle.serv_machine.specs.declared.faults.Stop.{Stop}
 use Rattle.serv_machine.specs.Stands.{Stand, stand, Running}
-use Rattle.serv_top.specs.declared.said.Said.{Said}
-use Rattle.serv_top.specs.Machine.{commands_of}
-use Rattle.serv_top.specs.Replies.{replies_to, history_after_all}
+use Rattle.serv_machine.specs.Sayings.{Saying, commands_of, history_after_all, replies_to}
 use Rattle.serv_top.specs.Serving.{Gathered, IsHalted, Stops}
 use Rattle.serv_top.specs.Imported.{AreFirstIn, FileSays}
 use Rattle.serv_top.specs.Upheld.{Say, AreFirst, AreSaidFirst, AreReplies}
 
 -- of more requests these are the first too
-pub replies_wider : (First Wider : List Said → Type 0) (moment : ℕ) (since : ℕ → List ℕ → Type 0) (now h : History) (held : Option (List ℕ)) (log log' : Option (List Stamp))
-    → ((said : List Said) → First said → Wider said) → Upholds (AreReplies First h) moment since now held log log' → Upholds (AreReplies Wider h) moment since now held log log'
+pub replies_wider : (First Wider : List Saying → Type 0) (moment : ℕ) (since : ℕ → List ℕ → Type 0) (now h : History) (held : Option (List ℕ)) (log log' : Option (List Stamp))
+    → ((said : List Saying) → First said → Wider said) → Upholds (AreReplies First h) moment since now held log log' → Upholds (AreReplies Wider h) moment since now held log log'
 replies_wider First Wider moment since now h held log log' then up =
     upheld_wider (AreReplies First h) (AreReplies Wider h) moment since now
     (λ bytes commands are. record { said = are.said; first = then are.said are.first; bytes_are = are.bytes_are; commands_are = are.commands_are }) held log log' up
 
-pub all_first : (saids : List Said) → AreFirst saids saids
+pub all_first : (saids : List Saying) → AreFirst saids saids
 all_first saids = record { others = []; saids_are = sym (append-nil saids) }
 
 -- the first of these are the first of these and one more
-pub first_push : (said : List Said) (last : Said) (first : List Said) → AreFirst said first → AreFirst (said ++ last ∷ []) first
+pub first_push : (said : List Saying) (last : Saying) (first : List Saying) → AreFirst said first → AreFirst (said ++ last ∷ []) first
 first_push said last first is = record { others = is.others ++ last ∷ []; saids_are = ap (λ l. l ++ last ∷ []) is.saids_are ∙ append_assoc first is.others (last ∷ []) }
 
 -- ---- the writes of a call
 
 module _ {D : Type 0} (images : D → List ℕ → Type 0) (moment : D → ℕ) (images_since : D → ℕ → List ℕ → Type 0) where
   -- a text is written that ends where the replies to some first requests do
-  replies_written : (d : D) (only : (c : List ℕ) → images_since d (moment d) c → images d c) (First : List Said → Type 0) (h t : History) (said : List Said) (now : History) (list : List Accepted)
+  replies_written : (d : D) (only : (c : List ℕ) → images_since d (moment d) c → images d c) (First : List Saying → Type 0) (h t : History) (said : List Saying) (now : History) (list : List Accepted)
       (held held' : Option (List ℕ)) (written text : List ℕ) (log log' : Option (List Stamp)) → First said → t ≡ history_after_all h said → now.commands ≡ t.commands ++ list
       → Each (images d) (HasCommands (in_store now.store t.commands)) → Appends held held' written → written ++ text ≡ replies_to h said
       → ((x : List ℕ) → held' ≡ Some x → Notes (moment d) (length x + length text) log log') → Upholds (AreReplies First h) (moment d) (images_since d) now held log log'
@@ -51,14 +49,14 @@ module _ {D : Type 0} (images : D → List ℕ → Type 0) (moment : D → ℕ) 
       held held' written text log log log' wrote (omega (arith, both, all)) (upheld_none (AreReplies First h) (moment d) (images_since d) now held log) notes
 
   -- all of it is kept
-  kept_written : (d : D) (only : (c : List ℕ) → images_since d (moment d) c → images d c) (First : List Said → Type 0) (h kept : History) (said : List Said)
+  kept_written : (d : D) (only : (c : List ℕ) → images_since d (moment d) c → images d c) (First : List Saying → Type 0) (h kept : History) (said : List Saying)
       (held held' : Option (List ℕ)) (written text : List ℕ) (log log' : Option (List Stamp)) → First said → kept ≡ history_after_all h said
       → Each (images d) (HasHistory kept) → Appends held held' written → written ++ text ≡ replies_to h said
       → ((x : List ℕ) → held' ≡ Some x → Notes (moment d) (length x + length text) log log') → Upholds (AreReplies First h) (moment d) (images_since d) kept held log log'
   kept_written d only First h kept said held held' written text log log' first stands has wrote gathered notes =
       replies_written d only First h kept said kept [] held held' written text log log' first stands (sym (append-nil kept.commands)) (commands_kept (images d) kept has) wrote gathered notes
 
-  module _ {waiting : ℕ} {said : List Said} {s : Stand} {t : Running} {held held' : Option (List ℕ)} {text : List ℕ} (g : Gathered waiting said s t held held' text) {log log' : Option (List Stamp)} where
+  module _ {waiting : ℕ} {said : List Saying} {s : Stand} {t : Running} {held held' : Option (List ℕ)} {text : List ℕ} (g : Gathered waiting said s t held held' text) {log log' : Option (List Stamp)} where
     -- those of all, once all is kept
     pub writes_all : (d : D) (only : (c : List ℕ) → images_since d (moment d) c → images d c) (kept : History) → kept ≡ t.held → Each (images d) (HasHistory kept)
         → ((x : List ℕ) → held' ≡ Some x → Notes (moment d) (length x + length text) log log')
@@ -75,8 +73,8 @@ module _ {D : Type 0} (images : D → List ℕ → Type 0) (moment : D → ℕ) 
         (commands_left (images new) t.held.commands now disk.list pending disk.accepted disk.left) g.wrote g.gathered notes
 
   -- what was upheld before a call, and the writes of the call
-  pub upheld_call : (old new : D) (now now' : History) (pending : List Accepted) → OnDisk images moment images_since old new now now' pending → (First Wider : List Said → Type 0) (h : History) (held : Option (List ℕ))
-      (log log' log'' : Option (List Stamp)) → ((said : List Said) → First said → Wider said) → Upholds (AreReplies Wider h) (moment old) (images_since old) now held log log'
+  pub upheld_call : (old new : D) (now now' : History) (pending : List Accepted) → OnDisk images moment images_since old new now now' pending → (First Wider : List Saying → Type 0) (h : History) (held : Option (List ℕ))
+      (log log' log'' : Option (List Stamp)) → ((said : List Saying) → First said → Wider said) → Upholds (AreReplies Wider h) (moment old) (images_since old) now held log log'
       → Upholds (AreReplies First h) (moment new) (images_since new) now' held log' log'' → Upholds (AreReplies Wider h) (moment new) (images_since new) now' held log log''
   upheld_call old new now now' pending disk First Wider h held log log' log'' then up writes =
       let before = upheld_later images moment images_since old new now now' pending disk (AreReplies Wider h) held log log' up in
@@ -85,9 +83,9 @@ module _ {D : Type 0} (images : D → List ℕ → Type 0) (moment : D → ℕ) 
       held held log log' log'' (Appends-nil held) before after
 
   -- by its result
-  pub upheld_result : (old new : D) (r : Result (Unit {0}) Stop) (kept kept' : History) (steps waiting : ℕ) (s : Stand) (First Wider : List Said → Type 0) (held held' : Option (List ℕ)) (log log' log'' : Option (List Stamp))
+  pub upheld_result : (old new : D) (r : Result (Unit {0}) Stop) (kept kept' : History) (steps waiting : ℕ) (s : Stand) (First Wider : List Saying → Type 0) (held held' : Option (List ℕ)) (log log' log'' : Option (List Stamp))
       → OnOk r (OnDisk images moment images_since old new kept kept' []) → IfErr r (λ why. Stops images moment images_since old new why First waiting s kept (stand kept' steps) held held')
-      → ((said : List Said) → First said → Wider said) → Upholds (AreReplies Wider s.history) (moment old) (images_since old) kept held log log'
+      → ((said : List Saying) → First said → Wider said) → Upholds (AreReplies Wider s.history) (moment old) (images_since old) kept held log log'
       → Upholds (AreReplies First s.history) (moment new) (images_since new) kept' held log' log'' → Upholds (AreReplies Wider s.history) (moment new) (images_since new) kept' held log log''
   upheld_result old new (Ok x) kept kept' steps waiting s First Wider held held' log log' log'' disk stops then up writes =
       upheld_call old new kept kept' [] disk First Wider s.history held log log' log'' then up writes
@@ -95,8 +93,8 @@ module _ {D : Type 0} (images : D → List ℕ → Type 0) (moment : D → ℕ) 
       upheld_call old new kept kept' stops.pending stops.disk First Wider s.history held log log' log'' then up writes
 
   -- where a request has no reply
-  pub upheld_halted : {waiting : ℕ} {said : List Said} {s : Stand} {t : Running} {held held' : Option (List ℕ)} {text : List ℕ} (g : Gathered waiting said s t held held' text) {log' log'' : Option (List Stamp)}
-      (old new : D) (only : (c : List ℕ) → images_since new (moment new) c → images new c) (last : Said) (t' : Running)
+  pub upheld_halted : {waiting : ℕ} {said : List Saying} {s : Stand} {t : Running} {held held' : Option (List ℕ)} {text : List ℕ} (g : Gathered waiting said s t held held' text) {log' log'' : Option (List Stamp)}
+      (old new : D) (only : (c : List ℕ) → images_since new (moment new) c → images new c) (last : Saying) (t' : Running)
       → ((x : List ℕ) → held' ≡ Some x → Notes (moment new) (length x + length text) log' log'') → (log : Option (List Stamp)) → Upholds (AreReplies (AreFirst said) s.history) (moment old) (images_since old) t.held held log log'
       → (why : Halt) → IsHalted images moment images_since old new why last t t' → Upholds (AreReplies (AreFirst (said ++ last ∷ [])) s.history) (moment new) (images_since new) t'.kept held log log''
   upheld_halted {waiting} {said} {s} {t} {held} {held'} {text} g {log'} {log''} old new only last t' notes log up why is = by_halt why is
@@ -108,11 +106,11 @@ module _ {D : Type 0} (images : D → List ℕ → Type 0) (moment : D → ℕ) 
           (writes_given_up g old new only t'.kept pending disk notes))
 
       by_halt : (why : Halt) → IsHalted images moment images_since old new why last t t' → Upholds (AreReplies (AreFirst (said ++ last ∷ [])) s.history) (moment new) (images_since new) t'.kept held log log''
-      by_halt halt.OutOfMemory is = by_run [] is.disk
-      by_halt halt.DiskFault is = by_run (commands_of last) is.disk
+      by_halt halt.OutOfMemory is = by_run [] is.1
+      by_halt halt.DiskFault is = by_run (commands_of last) is.1
 
   -- after a request more
-  pub upheld_more : (old new : D) (now now' : History) → OnDisk images moment images_since old new now now' [] → (said : List Said) (last : Said) (h : History) (held : Option (List ℕ)) (log log' : Option (List Stamp))
+  pub upheld_more : (old new : D) (now now' : History) → OnDisk images moment images_since old new now now' [] → (said : List Saying) (last : Saying) (h : History) (held : Option (List ℕ)) (log log' : Option (List Stamp))
       → Upholds (AreReplies (AreFirst said) h) (moment old) (images_since old) now held log log' → Upholds (AreReplies (AreFirst (said ++ last ∷ [])) h) (moment new) (images_since new) now' held log log'
   upheld_more old new now now' disk said last h held log log' up =
       replies_wider (AreFirst said) (AreFirst (said ++ last ∷ [])) (moment new) (images_since new) now' h held log log' (first_push said last)
@@ -120,10 +118,10 @@ module _ {D : Type 0} (images : D → List ℕ → Type 0) (moment : D → ℕ) 
 
 -- ---- lines
 
-pub first_of_more : (lines more : List (List ℕ)) (said : List Said) → AreSaidFirst lines said → AreSaidFirst (lines ++ more) said
+pub first_of_more : (lines more : List (List ℕ)) (said : List Saying) → AreSaidFirst lines said → AreSaidFirst (lines ++ more) said
 first_of_more lines more said is = record { acted = is.acted; others = is.others ++ more; lines_are = ap (λ ls. ls ++ more) is.lines_are ∙ append_assoc is.acted is.others more; say = is.say }
 
-say_front : (lines : List (List ℕ)) (said more : List Said) → Say lines (said ++ more) → AreSaidFirst lines said
+say_front : (lines : List (List ℕ)) (said more : List Saying) → Say lines (said ++ more) → AreSaidFirst lines said
 say_front lines [] more say = record { acted = []; others = lines; lines_are = refl; say = tt }
 say_front [] (x ∷ said) more say = absurd say
 say_front (line ∷ lines) (x ∷ said) more say =
@@ -131,14 +129,14 @@ say_front (line ∷ lines) (x ∷ said) more say =
     record { acted = line ∷ rest.acted; others = rest.others; lines_are = ap (λ ls. line ∷ ls) rest.lines_are; say = (say.0, rest.say) }
 
 -- the first ones of what some first lines say
-pub first_lines : (lines front others : List (List ℕ)) (saids : List Said) → lines ≡ front ++ others → Say front saids → (said : List Said) → AreFirst saids said → AreSaidFirst lines said
+pub first_lines : (lines front others : List (List ℕ)) (saids : List Saying) → lines ≡ front ++ others → Say front saids → (said : List Saying) → AreFirst saids said → AreSaidFirst lines said
 first_lines lines front others saids is say said first =
     subst (λ ls. AreSaidFirst ls said) (sym is) (first_of_more front others said (say_front front said first.others (subst (Say front) first.saids_are say)))
 
 -- ---- rows
 
 -- the rows that are answered are those of a file
-pub file_written : (bytes : List ℕ) (saids : List Said) (moment : ℕ) (since : ℕ → List ℕ → Type 0) (now h : History) (held : Option (List ℕ)) (log log' : Option (List Stamp))
+pub file_written : (bytes : List ℕ) (saids : List Saying) (moment : ℕ) (since : ℕ → List ℕ → Type 0) (now h : History) (held : Option (List ℕ)) (log log' : Option (List Stamp))
     → FileSays bytes saids → Upholds (AreReplies (AreFirst saids) h) moment since now held log log' → Upholds (AreReplies (AreFirstIn bytes) h) moment since now held log log'
 file_written bytes saids moment since now h held log log' file up =
     replies_wider (AreFirst saids) (AreFirstIn bytes) moment since now h held log log' (λ said first. record { saids = saids; file = file; first = first }) up

@@ -1,8 +1,6 @@
 -- A run over a journal: what stands where it was opened, and where it was not.
 use Rattle.std.proofs.Common.{◌≡◌, ◌⊎◌, ℕ, ◌+◌, ◌-◌, ◌<◌, ◌≤◌, List, [], ◌∷◌, ◌++◌, length, refl, ap, subst, ◌∙◌, inl, inr, ⊎_elim, arith}
 use Rattle.std.specs.Prelude.{Option, Some}
-use Rattle.svc_types.specs.declared.requests.Request.{Request}
-use Rattle.svc_types.specs.declared.requests.Request.TheVariants as request
 use Rattle.svc_world.specs.World.{Accepted, accepted}
 use Rattle.svc_world.specs.Judging.{IsHistory}
 use Rattle.serv_disk.specs.Disks.{Each}
@@ -16,8 +14,7 @@ use Rattle.serv_engine.specs.Engines.{EngineState, IsDurable}
 use Rattle.serv_engine.specs.Opening.{IsFound, IsPassing, IsOpenFault, IsOpenCause, history_bound}
 use Rattle.serv_engine.proofs.GoodLemmas.{good_journal, good_undamaged}
 use Rattle.serv_engine.proofs.LengthLemmas.{journal_base}
-use Rattle.serv_machine.specs.History.{History, Store, Decision, Kept, Refused, Full, Fresh, in_journal, after_decision, decided}
-use Rattle.serv_machine.specs.Replies.{history_after_request}
+use Rattle.serv_machine.specs.History.{History, Store, Refused, in_journal}
 use Rattle.serv_machine.specs.Engines.{history_of}
 use Rattle.serv_machine.specs.EngineLaws.{durable_whole}
 use Rattle.serv_machine.specs.OnDisk.{OnDisk}
@@ -26,10 +23,9 @@ use Rattle.serv_links.proofs.LinkLemmas.{few_taken}
 use Rattle.serv_top.specs.declared.status.Status.{Status}
 use Rattle.serv_top.specs.declared.status.Status.TheVariants as status
 use Rattle.serv_machine.specs.Stands.{Stand, stand}
-use Rattle.serv_top.specs.declared.said.Said.{Said}
-use Rattle.serv_top.specs.declared.said.Said.TheVariants.{Asks, Faulty, Unfit}
-use Rattle.serv_top.specs.Machine.{history_after}
-use Rattle.serv_top.specs.Replies.{IsBegun, IsCutIn, IsHeldUp, IsMaybeNext, MovesAll, history_after_all}
+use Rattle.serv_machine.specs.Sayings.{Saying, history_after_all, MovesAll}
+use Rattle.serv_machine.proofs.SayingLemmas.{store_after, store_after_all}
+use Rattle.serv_top.specs.Replies.{IsBegun, IsCutIn, IsHeldUp, IsMaybeNext}
 use Rattle.serv_top.specs.Outcome.{Ended, Ends, IsOutput, input_limit}
 use Rattle.serv_top.specs.Stop.{status_of_fault}
 use Rattle.serv_top.specs.Journal.{KeepsGood, IsCause, IsOnly, IsUnopened, IsOpened, IsRunOver, IsApplied, journal_limit}
@@ -40,45 +36,25 @@ use Rattle.serv_top.specs.Ends.{Completes}
 
 -- ---- where commands are kept stays the same
 
-store_decided : (h : History) (a : Accepted) (d : Decision) → (after_decision h a d).store ≡ h.store
-store_decided h a (Kept reply) = refl
-store_decided h a (Refused why) = refl
-store_decided h a (Full bytes) = refl
-store_decided h a Fresh = refl
-
-pub store_request : (h : History) (r : Request) → (history_after_request h r).store ≡ h.store
-unfolding history_after_request
-store_request h (request.Do key c) = store_decided h (accepted key c) (decided h key c)
-store_request h (request.Ask q) = refl
-
-pub store_after : (h : History) (said : Said) → (history_after h said).store ≡ h.store
-store_after h (Asks r) = store_request h r
-store_after h (Faulty place) = refl
-store_after h (Unfit number column) = refl
-
-store_all : (h : History) (saids : List Said) → (history_after_all h saids).store ≡ h.store
-store_all h [] = refl
-store_all h (said ∷ saids) = store_all (history_after h said) saids ∙ store_after h said
-
 abbrev pub store_of : History → Store
 store_of h = h.store
 
-pub store_moves : (saids : List Said) (s s' : Stand) → MovesAll saids s s' → s'.history.store ≡ s.history.store
-store_moves saids s s' moved = ap store_of moved.0 ∙ store_all s.history saids
+pub store_moves : (saids : List Saying) (s s' : Stand) → MovesAll saids s s' → s'.history.store ≡ s.history.store
+store_moves saids s s' moved = ap store_of moved.0 ∙ store_after_all s.history saids
 
-store_maybe : (h h' : History) (ahead : List Said) → IsMaybeNext h ahead h' → h'.store ≡ h.store
+store_maybe : (h h' : History) (ahead : List Saying) → IsMaybeNext h ahead h' → h'.store ≡ h.store
 store_maybe h h' [] is = ap store_of is
 store_maybe h h' (said ∷ ahead) is = ⊎_elim (λ same. ap store_of same) (λ next. ap store_of next ∙ store_after h said) is
 
-module _ (First : List Said → Type 0) (waiting : ℕ) (s s' : Stand) (written : List ℕ) where
+module _ (First : List Saying → Type 0) (waiting : ℕ) (s s' : Stand) (written : List ℕ) where
   pub store_cut : IsCutIn First waiting s s' written → s'.history.store ≡ s.history.store
-  store_cut is = ap store_of is.after ∙ store_all s.history is.done
+  store_cut is = ap store_of is.after ∙ store_after_all s.history is.done
 
   pub store_begun : IsBegun First waiting s s' written → s'.history.store ≡ s.history.store
-  store_begun is = store_maybe (history_after_all s.history is.done) s'.history is.ahead is.after ∙ store_all s.history is.done
+  store_begun is = store_maybe (history_after_all s.history is.done) s'.history is.ahead is.after ∙ store_after_all s.history is.done
 
   pub store_held_up : (pending : List Accepted) → IsHeldUp First waiting s s' pending written → s'.history.store ≡ s.history.store
-  store_held_up pending is = ap store_of is.after ∙ store_all s.history is.done
+  store_held_up pending is = ap store_of is.after ∙ store_after_all s.history is.done
 
 store_ended : (waiting : ℕ) (st : Status) (s s' : Stand) (pending : List Accepted) (taken : List ℕ) (left : Option (List ℕ)) (written : List ℕ) → IsOutput waiting st s s' pending taken left written
     → s'.history.store ≡ s.history.store

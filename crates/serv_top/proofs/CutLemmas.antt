@@ -5,24 +5,23 @@ use Rattle.std.proofs.lemmas.List.{length-drop, take_at, drop_at, take-append-le
 use Rattle.serv_disk.specs.Faults.{IsProperPrefix}
 use Rattle.serv_machine.specs.History.{History}
 use Rattle.serv_machine.specs.Stands.{Stand}
-use Rattle.serv_top.specs.declared.said.Said.{Said}
-use Rattle.serv_top.specs.Machine.{reply_to, history_after}
-use Rattle.serv_top.specs.Replies.{history_after_all, replies_to, IsCutIn, IsCutAt}
+use Rattle.serv_machine.specs.Sayings.{Saying, reply_to, history_after, history_after_all, replies_to}
+use Rattle.serv_top.specs.Replies.{IsCutIn, IsCutAt}
 use Rattle.serv_top.specs.Upheld.{AreSaidFirst}
 use Rattle.serv_top.proofs.AnsweredLemmas.{first_lines}
 
 -- where a text ends in the replies to these
-record EndsIn (saids : List Said) (h : History) (written : List ℕ) : Type 0 where
-  said : List Said
-  last : Said
-  others : List Said
+record EndsIn (saids : List Saying) (h : History) (written : List ℕ) : Type 0 where
+  said : List Saying
+  last : Saying
+  others : List Saying
   saids_are : saids ≡ said ++ last ∷ others
   part : List ℕ
   text : written ≡ replies_to h said ++ part
   partial : IsProperPrefix part (reply_to (history_after_all h said) last)
 
 -- it ends in the first reply
-ends_first : (s : Said) (saids : List Said) (h : History) (written rest tail : List ℕ) → length written < length (reply_to h s) → reply_to h s ++ tail ≡ written ++ rest → EndsIn (s ∷ saids) h written
+ends_first : (s : Saying) (saids : List Saying) (h : History) (written rest tail : List ℕ) → length written < length (reply_to h s) → reply_to h s ++ tail ≡ written ++ rest → EndsIn (s ∷ saids) h written
 ends_first s saids h written rest tail inside e =
     let n = length written in
     let reply = reply_to h s in
@@ -39,7 +38,7 @@ ends_first s saids h written rest tail inside e =
     }
 
 -- or in a later one
-ends_later : (s : Said) (saids : List Said) (h : History) (written : List ℕ) → take (length (reply_to h s)) written ≡ reply_to h s → EndsIn saids (history_after h s) (drop (length (reply_to h s)) written)
+ends_later : (s : Saying) (saids : List Saying) (h : History) (written : List ℕ) → take (length (reply_to h s)) written ≡ reply_to h s → EndsIn saids (history_after h s) (drop (length (reply_to h s)) written)
     → EndsIn (s ∷ saids) h written
 ends_later s saids h written front inner =
     let reply = reply_to h s in
@@ -55,7 +54,7 @@ ends_later s saids h written front inner =
       partial = inner.partial;
     }
 
-ends_in : (saids : List Said) (h : History) (written rest : List ℕ) → 0 < length rest → replies_to h saids ≡ written ++ rest → EndsIn saids h written
+ends_in : (saids : List Saying) (h : History) (written rest : List ℕ) → 0 < length rest → replies_to h saids ≡ written ++ rest → EndsIn saids h written
 ends_in [] h written rest some e =
     let n : 0 ≡ length (written ++ rest) = ap length e in
     let m = length-append written rest in
@@ -75,7 +74,7 @@ ends_in (s ∷ saids) h written rest some e =
 pub cut_in_one : (waiting : ℕ) (lines : List (List ℕ)) (s s' : Stand) (written : List ℕ) → IsCutIn (AreSaidFirst lines) waiting s s' written → IsCutAt (AreSaidFirst lines) s.history written
 cut_in_one waiting lines s s' written cut =
     let at = ends_in cut.done s.history written cut.cut.rest cut.cut.some cut.cut.joined in
-    let front : List Said = at.said ++ at.last ∷ [] in
+    let front : List Saying = at.said ++ at.last ∷ [] in
     record {
       said = at.said;
       last = at.last;

@@ -1,11 +1,9 @@
 -- A stream that is cut from its front, byte by byte, and the lines that the definitions find from its end.
-use Rattle.std.proofs.Common.{◌≡◌, ℕ, ◌+◌, arith, List, [], ◌∷◌, ◌++◌, refl, sym, ap, ◌∙◌, append-nil, append_assoc}
+use Rattle.std.proofs.Common.{◌≡◌, ℕ, ◌+◌, List, [], ◌∷◌, ◌++◌, refl, sym, ap, ◌∙◌, append-nil, append_assoc}
 use Rattle.std.specs.Prelude.{◌==◌, if◌then◌else◌, true, false}
 use Rattle.serv_top.specs.Lines.{onto_first, onto_ended, lines_of, ended_lines, open_from, open_line}
-use Rattle.serv_machine.specs.History.{History}
-use Rattle.serv_top.specs.declared.said.Said.{Said}
-use Rattle.serv_top.specs.Machine.{Says, reply_to, history_after, bound_of}
-use Rattle.serv_top.specs.Replies.{history_after_all, replies_to, bound_of_all}
+use Rattle.serv_machine.specs.Sayings.{Saying}
+use Rattle.serv_top.specs.Machine.{Says}
 use Rattle.serv_top.specs.Upheld.{Say}
 
 -- the lines that end, where the stream goes on from this piece of a line
@@ -90,25 +88,11 @@ ended_lines-push bytes b = sym (ended_from_nil (bytes ++ b ∷ [])) ∙ ended_fr
     ∙ ap (λ lines. if b == 10 then lines ++ open_from [] bytes ∷ [] else lines) (ended_from_nil bytes)
 
 -- one more line
-pub say-push : (lines : List (List ℕ)) (saids : List Said) (line : List ℕ) (said : Said) → Say lines saids → Says line said → Say (lines ++ line ∷ []) (saids ++ said ∷ [])
+pub say-push : (lines : List (List ℕ)) (saids : List Saying) (line : List ℕ) (said : Saying) → Say lines saids → Says line said → Say (lines ++ line ∷ []) (saids ++ said ∷ [])
 say-push [] [] line said all says = (says, tt)
 say-push [] (s ∷ saids) line said all says = absurd all
 say-push (l ∷ lines) [] line said all says = absurd all
 say-push (l ∷ lines) (s ∷ saids) line said all says = (all.0, say-push lines saids line said all.1 says)
-
-pub replies_to-push : (h : History) (saids : List Said) (said : Said) → replies_to h (saids ++ said ∷ []) ≡ replies_to h saids ++ reply_to (history_after_all h saids) said
-replies_to-push h [] said = append-nil (reply_to h said)
-replies_to-push h (first ∷ saids) said = ap (λ text. reply_to h first ++ text) (replies_to-push (history_after h first) saids said) ∙ sym (append_assoc (reply_to h first) (replies_to (history_after h first) saids) (reply_to (history_after_all (history_after h first) saids) said))
-
-pub history_after_all-push : (h : History) (saids : List Said) (said : Said) → history_after_all h (saids ++ said ∷ []) ≡ history_after (history_after_all h saids) said
-history_after_all-push h [] said = refl
-history_after_all-push h (first ∷ saids) said = history_after_all-push (history_after h first) saids said
-
-pub bound_of_all-push : (h : History) (saids : List Said) (said : Said) → bound_of_all h (saids ++ said ∷ []) ≡ bound_of_all h saids + bound_of (history_after_all h saids) said
-bound_of_all-push h [] said = omega arith
-bound_of_all-push h (first ∷ saids) said =
-    let rest = bound_of_all-push (history_after h first) saids said in
-    omega (arith, rest)
 
 ended_from-append : (line bytes more : List ℕ) → ended_from line (bytes ++ more) ≡ ended_from line bytes ++ ended_from (open_from line bytes) more
 ended_from-append line [] more = refl

@@ -17,10 +17,9 @@ use Rattle.serv_machine.specs.History.{Store, Memory, Journal, History, Full, Fr
 use Rattle.serv_machine.specs.Replies.{text_of_decision, reply_to_request, history_after_request}
 use Rattle.serv_top.specs.Lines.{IsPlain, onto_first, onto_ended, lines_of, ended_lines}
 use Rattle.serv_machine.specs.Stands.{Stand}
-use Rattle.serv_top.specs.declared.said.Said.{Said}
-use Rattle.serv_top.specs.declared.said.Said.TheVariants.{Asks}
-use Rattle.serv_top.specs.Machine.{asks}
-use Rattle.serv_top.specs.Replies.{Answers, history_after_all, replies_to}
+use Rattle.serv_machine.specs.Sayings.{Saying, history_after_all, replies_to}
+use Rattle.serv_top.specs.Machine.{in_words, asks}
+use Rattle.serv_top.specs.Replies.{Answers}
 use Rattle.serv_top.specs.Upheld.{Say}
 use Rattle.serv_top.specs.Extracts.{lines_of_commands, HasRoomFor, replies_after, AreTakenOn}
 use Rattle.serv_top.proofs.LineLemmas.{say_one}
@@ -73,8 +72,8 @@ lines_history h is = lines_formed h is.formed
 
 -- ---- what they say, and what is held after them
 
-asked : List Accepted → List Said
-asked h = map (λ (a : Accepted). Asks (request.Do a.key a.command)) h
+asked : List Accepted → List Saying
+asked h = map (λ (a : Accepted). in_words (request.Do a.key a.command)) h
 
 say_asked : (h : List Accepted) → AreWellFormed h → Say (lines_of_history h) (asked h)
 unfolding asked

@@ -11,19 +11,16 @@ use Rattle.serv_machine.specs.OnDisk.{OnDisk}
 use Rattle.serv_machine.proofs.OnDiskLemmas.{disk_more}
 use Rattle.serv_machine.specs.Stands.{Stand, stand, Running}
 use Rattle.serv_machine.proofs.NextLemmas.{no_more}
-use Rattle.serv_top.specs.declared.serving.Stop.{Stop}
-use Rattle.serv_top.specs.declared.serving.Stop.TheVariants.{WriteFault, DiskFault, OutOfMemory}
-use Rattle.serv_top.specs.declared.said.Said.{Said}
-use Rattle.serv_top.specs.Machine.{reply_to, history_after, bound_of, commands_of, IsFresh}
-use Rattle.serv_top.specs.Replies.{IsBegun, IsCutIn, IsHeldUp, IsStopped, before_last, replies_to, history_after_all, bound_of_all}
+use Rattle.serv_machine.specs.declared.faults.Stop.{Stop}
+use Rattle.serv_machine.specs.declared.faults.Stop.TheVariants.{WriteFault, DiskFault, OutOfMemory}
+use Rattle.serv_machine.specs.Sayings.{Saying, reply_to, history_after, bound_of, commands_of, IsFresh, history_after_all, replies_to, bound_of_all, stop_of}
+use Rattle.serv_machine.proofs.SayingLemmas.{history_after_all-append, replies_to-push, bound_of_all-push, fresh_grows, fresh_one, next_alone}
+use Rattle.serv_top.specs.Replies.{IsBegun, IsCutIn, IsHeldUp, IsStopped, before_last}
 use Rattle.serv_top.specs.Serving.{AppendsFront, Gathered, IsHalted, IsHeldBack, IsReplied, IsWrittenBut, Stopped, Stops}
-use Rattle.serv_top.specs.Stop.{stop_of}
-use Rattle.serv_top.proofs.Cutting.{replies_to-push, history_after_all-push, bound_of_all-push}
-use Rattle.serv_top.proofs.FreshLemmas.{fresh_grows, fresh_one, next_alone}
 
 -- ---- of more requests these are the first too
 
-module _ (First Wider : List Said → Type 0) (then : (said : List Said) → First said → Wider said) (waiting : ℕ) (s s' : Stand) where
+module _ (First Wider : List Saying → Type 0) (then : (said : List Saying) → First said → Wider said) (waiting : ℕ) (s s' : Stand) where
   cut_wider : (written : List ℕ) → IsCutIn First waiting s s' written → IsCutIn Wider waiting s s' written
   cut_wider written is = record { done = is.done; first = then _ is.first; after = is.after; cost = is.cost; cut = is.cut; late = is.late }
 
@@ -65,7 +62,7 @@ module _ (First Wider : List Said → Type 0) (then : (said : List Said) → Fir
 -- ---- lists of what is said
 
 -- one more is the last
-pub before_last-push : (saids : List Said) (said : Said) → before_last (saids ++ said ∷ []) ≡ saids
+pub before_last-push : (saids : List Saying) (said : Saying) → before_last (saids ++ said ∷ []) ≡ saids
 before_last-push [] said = refl
 before_last-push (s ∷ []) said = refl
 before_last-push (s ∷ (next ∷ more)) said = ap (λ l. s ∷ l) (before_last-push (next ∷ more) said)
@@ -93,7 +90,7 @@ gathered_none waiting s t held text none same kept cost = record {
   kept = inl kept;
 }
 
-module _ (waiting : ℕ) (said : List Said) (s : Stand) {t : Running} {held held' : Option (List ℕ)} {text : List ℕ} (g : Gathered waiting said s t held held' text) where
+module _ (waiting : ℕ) (said : List Saying) (s : Stand) {t : Running} {held held' : Option (List ℕ)} {text : List ℕ} (g : Gathered waiting said s t held held' text) where
   -- ---- what is begun is committed, and what is not written yet is, or a front part of it
 
   pub gone : (t' : Running) (held'' : Option (List ℕ)) (text' : List ℕ) → t'.held ≡ t.held → t'.kept ≡ t'.held → t'.steps ≡ t.steps → IsWrittenBut held' held'' text text' → Gathered waiting said s t' held held'' text'
@@ -108,7 +105,7 @@ module _ (waiting : ℕ) (said : List Said) (s : Stand) {t : Running} {held held
   }
 
   -- the write is cut
-  pub cut_short : (First : List Said → Type 0) (h' : History) (held'' : Option (List ℕ)) → First said → h' ≡ t.held → AppendsPart held' held'' text → Stopped WriteFault First waiting s (stand h' t.steps) [] held held''
+  pub cut_short : (First : List Saying → Type 0) (h' : History) (held'' : Option (List ℕ)) → First said → h' ≡ t.held → AppendsPart held' held'' text → Stopped WriteFault First waiting s (stand h' t.steps) [] held held''
   cut_short First h' held'' first same part = record {
     written = g.written ++ part.part;
     wrote = Appends-trans held held' held'' g.written part.part g.wrote part.wrote;
@@ -128,12 +125,12 @@ module _ (waiting : ℕ) (said : List Said) (s : Stand) {t : Running} {held held
   -- the disk fails: the command of the last one was perhaps being appended
   module _ (back : IsHeldBack waiting said s.history t.kept g.written) where
     held_is : t.held ≡ history_after t.kept back.last
-    held_is = g.after ∙ ap (history_after_all s.history) back.said_are ∙ history_after_all-push s.history back.done back.last ∙ ap (λ h. history_after h back.last) (sym back.kept_is)
+    held_is = g.after ∙ ap (history_after_all s.history) back.said_are ∙ history_after_all-append s.history back.done (back.last ∷ []) ∙ ap (λ h. history_after h back.last) (sym back.kept_is)
 
     held_more : t.held.commands ≡ t.kept.commands ++ commands_of back.last
     held_more = ap (λ (h : History). h.commands) held_is ∙ fresh_grows t.kept back.last back.fresh
 
-    stuck_back : (First : List Said → Type 0) (h' : History) (next : Accepted) (rest : List Accepted) → First said → h' ≡ t.kept → t.held.commands ≡ t.kept.commands ++ next ∷ rest
+    stuck_back : (First : List Saying → Type 0) (h' : History) (next : Accepted) (rest : List Accepted) → First said → h' ≡ t.kept → t.held.commands ≡ t.kept.commands ++ next ∷ rest
         → IsHeldUp First waiting s (stand h' t.steps) (next ∷ []) g.written
     stuck_back First h' next rest first same torn = record {
       done = back.done;
@@ -148,7 +145,7 @@ module _ (waiting : ℕ) (said : List Said) (s : Stand) {t : Running} {held held
       few = back.few;
     }
 
-  pub held_up : (First : List Said → Type 0) (h' : History) (next : Accepted) (rest : List Accepted) → First said → h' ≡ t.kept → t.held.commands ≡ t.kept.commands ++ next ∷ rest
+  pub held_up : (First : List Saying → Type 0) (h' : History) (next : Accepted) (rest : List Accepted) → First said → h' ≡ t.kept → t.held.commands ≡ t.kept.commands ++ next ∷ rest
       → Stopped DiskFault First waiting s (stand h' t.steps) (next ∷ []) held held'
   held_up First h' next rest first same torn = record {
     written = g.written;
@@ -157,7 +154,7 @@ module _ (waiting : ℕ) (said : List Said) (s : Stand) {t : Running} {held held
   }
 
   -- no memory is there, once all is kept and written
-  pub starved : (First : List Said → Type 0) → First said → t.kept ≡ t.held → length text ≤ 0 → Stopped OutOfMemory First waiting s (stand t.kept t.steps) [] held held'
+  pub starved : (First : List Saying → Type 0) → First said → t.kept ≡ t.held → length text ≤ 0 → Stopped OutOfMemory First waiting s (stand t.kept t.steps) [] held held'
   starved First first all few =
       let none : said ++ [] ≡ said = append-nil said in
       record {
@@ -181,23 +178,23 @@ module _ (waiting : ℕ) (said : List Said) (s : Stand) {t : Running} {held held
 
   -- ---- one request more
 
-  pub after_with : (last : Said) (h : History) → h ≡ history_after t.held last → h ≡ history_after_all s.history (said ++ last ∷ [])
-  after_with last h is = is ∙ ap (λ x. history_after x last) g.after ∙ sym (history_after_all-push s.history said last)
+  pub after_with : (last : Saying) (h : History) → h ≡ history_after t.held last → h ≡ history_after_all s.history (said ++ last ∷ [])
+  after_with last h is = is ∙ ap (λ x. history_after x last) g.after ∙ sym (history_after_all-append s.history said (last ∷ []))
 
-  cost_with : (last : Said) (steps : ℕ) → steps ≤ t.steps + bound_of t.held last → steps ≤ s.steps + bound_of_all s.history (said ++ last ∷ [])
+  cost_with : (last : Saying) (steps : ℕ) → steps ≤ t.steps + bound_of t.held last → steps ≤ s.steps + bound_of_all s.history (said ++ last ∷ [])
   cost_with last steps le =
       let grown : bound_of_all s.history (said ++ last ∷ []) ≡ bound_of_all s.history said + bound_of t.held last =
       bound_of_all-push s.history said last ∙ ap (λ h. bound_of_all s.history said + bound_of h last) (sym g.after) in
       omega (arith, grown, g.cost, le)
 
-  text_with : (last : Said) (text' : List ℕ) → text' ≡ text ++ reply_to t.held last → g.written ++ text' ≡ replies_to s.history (said ++ last ∷ [])
+  text_with : (last : Saying) (text' : List ℕ) → text' ≡ text ++ reply_to t.held last → g.written ++ text' ≡ replies_to s.history (said ++ last ∷ [])
   text_with last text' added =
       ap (λ x. g.written ++ x) added ∙ sym (append_assoc g.written text (reply_to t.held last)) ∙ ap (λ x. x ++ reply_to t.held last) g.gathered
       ∙ ap (λ h. replies_to s.history said ++ reply_to h last) g.after ∙ sym (replies_to-push s.history said last)
 
   -- where all is kept, and of the replies no more waits than may
   module _ (all : t.kept ≡ t.held) (few : length text ≤ waiting) where
-    pub one_more : (last : Said) (t' : Running) (text' : List ℕ) → IsReplied last t t' text text' → Gathered waiting (said ++ last ∷ []) s t' held held' text'
+    pub one_more : (last : Saying) (t' : Running) (text' : List ℕ) → IsReplied last t t' text text' → Gathered waiting (said ++ last ∷ []) s t' held held' text'
     one_more last t' text' replied = record {
       after = after_with last t'.held replied.after;
       cost = cost_with last t'.steps replied.cost;
@@ -219,7 +216,7 @@ module _ (waiting : ℕ) (said : List Said) (s : Stand) {t : Running} {held held
     }
 
     -- it has no reply: of the others a front part is written
-    module _ {D : Type 0} (images : D → List ℕ → Type 0) (moment : D → ℕ) (images_since : D → ℕ → List ℕ → Type 0) (old new : D) (First : List Said → Type 0) (last : Said) (first : First (said ++ last ∷ []))
+    module _ {D : Type 0} (images : D → List ℕ → Type 0) (moment : D → ℕ) (images_since : D → ℕ → List ℕ → Type 0) (old new : D) (First : List Saying → Type 0) (last : Saying) (first : First (said ++ last ∷ []))
         (t' : Running) (held'' : Option (List ℕ)) (f : AppendsFront held' held'' text) where
       few_left : length f.rest ≤ waiting
       few_left = omega (arith, few, ap length f.joined, length-append f.part f.rest)
@@ -240,15 +237,15 @@ module _ (waiting : ℕ) (said : List Said) (s : Stand) {t : Running} {held held
               ahead = last ∷ [];
               first = first;
               near = omega arith;
-              after = ⊎_elim (λ same. inl (same ∙ g.after)) (λ next. inr (next ∙ ap (λ h. history_after h last) g.after)) is.near;
-              cost = cost_with last t'.steps is.cost;
+              after = ⊎_elim (λ same. inl (same ∙ g.after)) (λ next. inr (next ∙ ap (λ h. history_after h last) g.after)) is.0.near;
+              cost = cost_with last t'.steps is.0.cost;
               rest = f.rest;
               text = left_is;
               few = few_left;
             },
           );
         };
-        disk = subst (λ (h : History). OnDisk images moment images_since old new h t'.kept []) (sym all) is.disk;
+        disk = subst (λ (h : History). OnDisk images moment images_since old new h t'.kept []) (sym all) is.1;
       }
       halted_of halt.DiskFault is = record {
         pending = commands_of last;
@@ -259,14 +256,14 @@ module _ (waiting : ℕ) (said : List Said) (s : Stand) {t : Running} {held held
             done = said;
             next = last;
             first = first;
-            after = is.same ∙ g.after;
-            fresh = subst (λ h. IsFresh h last) (sym is.same) is.fresh;
+            after = is.0.same ∙ g.after;
+            fresh = subst (λ h. IsFresh h last) (sym is.0.same) is.0.fresh;
             pending_is = refl;
-            cost = cost_with last t'.steps is.cost;
+            cost = cost_with last t'.steps is.0.cost;
             rest = f.rest;
             text = left_is;
             few = few_left;
           };
         };
-        disk = subst (λ (h : History). OnDisk images moment images_since old new h t'.kept (commands_of last)) (sym all) is.disk;
+        disk = subst (λ (h : History). OnDisk images moment images_since old new h t'.kept (commands_of last)) (sym all) is.1;
       }

@@ -17,13 +17,13 @@ use Rattle.serv_import.proofs.UniqueLemmas.{one_batch}
 use Rattle.serv_machine.specs.History.{History}
 use Rattle.serv_machine.specs.OnDisk.{OnDisk}
 use Rattle.serv_machine.proofs.OnDiskLemmas.{disk_more}
-use Rattle.serv_top.specs.declared.serving.Stop.{Stop}
-use Rattle.serv_top.specs.declared.serving.Stop.TheVariants as stop
+use Rattle.serv_machine.specs.declared.faults.Stop.{Stop}
+use Rattle.serv_machine.specs.declared.faults.Stop.TheVariants as stop
 use Rattle.serv_top.specs.declared.status.Status.{Status}
 use Rattle.serv_top.specs.declared.status.Status.TheVariants as status
 use Rattle.serv_machine.specs.Stands.{Stand, stand, Running}
-use Rattle.serv_top.specs.declared.said.Said.{Said}
-use Rattle.serv_top.specs.declared.said.Said.TheVariants.{Unfit}
+use Rattle.serv_machine.specs.Sayings.{Saying, telling}
+use Rattle.serv_rows.specs.Texts.{text_of_bad_row}
 use Rattle.serv_top.specs.Replies.{IsStopped}
 use Rattle.serv_top.specs.Serving.{Gathered, Stops}
 use Rattle.serv_top.specs.Outcome.{input_limit}
@@ -56,7 +56,7 @@ row_at (r ∷ list) (suc i) d are small = row_at list i d are.1 (omega arith)
 
 -- ---- one row after another
 
-module _ {D : Type 0} (images : D → List ℕ → Type 0) (moment : D → ℕ) (images_since : D → ℕ → List ℕ → Type 0) (old mid new : D) (all : List Said) (s s' : Stand) (kept : History) (held held' : Option (List ℕ))
+module _ {D : Type 0} (images : D → List ℕ → Type 0) (moment : D → ℕ) (images_since : D → ℕ → List ℕ → Type 0) (old mid new : D) (all : List Saying) (s s' : Stand) (kept : History) (held held' : Option (List ℕ))
     (first : OnDisk images moment images_since old mid s.history kept []) where
   stopped_rows : (why : Stop) (pending : List Accepted) (written : List ℕ) → IsStopped why (AreFirst all) 0 s s' pending written → IsRowsOutput (status_of why) all s s' pending written
   stopped_rows stop.WriteFault pending written is = is
@@ -64,7 +64,7 @@ module _ {D : Type 0} (images : D → List ℕ → Type 0) (moment : D → ℕ) 
   stopped_rows stop.OutOfMemory pending written is = is
 
   -- it stops at one of them
-  pub rows_stopped : (why : Stop) (saids : List Said) → ((said : List Said) → AreFirst saids said → AreFirst all said) → Stops images moment images_since mid new why (AreFirst saids) 0 s kept s' held held'
+  pub rows_stopped : (why : Stop) (saids : List Saying) → ((said : List Saying) → AreFirst saids said → AreFirst all said) → Stops images moment images_since mid new why (AreFirst saids) 0 s kept s' held held'
       → RowsEnd images moment images_since old new (status_of why) all s s' held held'
   rows_stopped why saids then stops =
       let stopped = stopped_wider (AreFirst saids) (AreFirst all) then 0 s s' why stops.pending held held' stops.stopped in
@@ -96,7 +96,7 @@ module _ {D : Type 0} (images : D → List ℕ → Type 0) (moment : D → ℕ) 
   }
 
 -- the rows up to one are some first ones of all
-pub first_rows : (all done others : List Said) (said : Said) → all ≡ done ++ said ∷ others → (saids : List Said) → AreFirst (done ++ said ∷ []) saids → AreFirst all saids
+pub first_rows : (all done others : List Saying) (said : Saying) → all ≡ done ++ said ∷ others → (saids : List Saying) → AreFirst (done ++ said ∷ []) saids → AreFirst all saids
 first_rows all done others said is saids first = record {
   others = first.others ++ others;
   saids_are = is ∙ sym (append_assoc done (said ∷ []) others) ∙ ap (λ ss. ss ++ others) first.saids_are ∙ append_assoc saids first.others others;
@@ -139,12 +139,12 @@ file_rows images moment images_since old new st bytes answers s s' held held' ba
 }
 
 pub file_headless : {D : Type 0} (images : D → List ℕ → Type 0) (moment : D → ℕ) (images_since : D → ℕ → List ℕ → Type 0) (old new : D) (st : Status) (bytes : List ℕ) (s s' : Stand)
-    (held held' : Option (List ℕ)) → (HasHeader bytes → ⊥) → RowsEnd images moment images_since old new st (Unfit 1 1 ∷ []) s s' held held' → FileEnds images moment images_since old new st bytes s s' held held'
+    (held held' : Option (List ℕ)) → (HasHeader bytes → ⊥) → RowsEnd images moment images_since old new st (telling (text_of_bad_row 1 1) ∷ []) s s' held held' → FileEnds images moment images_since old new st bytes s s' held held'
 file_headless images moment images_since old new st bytes s s' held held' none ends = record {
   pending = ends.pending;
   written = ends.written;
   wrote = ends.wrote;
-  says = inr (record { saids = Unfit 1 1 ∷ []; file = headless none; rows = ends.says });
+  says = inr (record { saids = telling (text_of_bad_row 1 1) ∷ []; file = headless none; rows = ends.says });
   disk = ends.disk;
 }
 
@@ -171,7 +171,7 @@ quiet st taken is = (λ e. subst (λ (x : Status). IsUnread x taken) e is, λ e.
 
 -- ---- where commands are kept stays the same
 
-store_rows : (st : Status) (saids : List Said) (s s' : Stand) (pending : List Accepted) (written : List ℕ) → IsRowsOutput st saids s s' pending written → s'.history.store ≡ s.history.store
+store_rows : (st : Status) (saids : List Saying) (s s' : Stand) (pending : List Accepted) (written : List ℕ) → IsRowsOutput st saids s s' pending written → s'.history.store ≡ s.history.store
 store_rows status.Done saids s s' pending written is = store_moves is.1.said s s' is.1.moved
 store_rows status.WriteFault saids s s' pending written is = store_cut (AreFirst saids) 0 s s' written is.1
 store_rows status.DiskFault saids s s' pending written is = store_held_up (AreFirst saids) 0 s s' written pending is
@@ -195,7 +195,7 @@ imported {D} seen images moment images_since old mid new st e h steps begun step
 
 -- ---- completeness
 
-rows_end : (st : Status) (saids : List Said) (s s' : Stand) (pending : List Accepted) (written : List ℕ) → (st ≡ status.WriteFault → ⊥) → (st ≡ status.DiskFault → ⊥) → IsRowsOutput st saids s s' pending written → Completes st
+rows_end : (st : Status) (saids : List Saying) (s s' : Stand) (pending : List Accepted) (written : List ℕ) → (st ≡ status.WriteFault → ⊥) → (st ≡ status.DiskFault → ⊥) → IsRowsOutput st saids s s' pending written → Completes st
 rows_end status.Done saids s s' pending written writes disks is = inl refl
 rows_end status.WriteFault saids s s' pending written writes disks is = absurd (writes refl)
 rows_end status.DiskFault saids s s' pending written writes disks is = absurd (disks refl)
@@ -223,7 +223,7 @@ complete_import {D} seen images moment images_since faults old new st steps step
 
 -- ---- a file says one thing
 
-pub file_one : (bytes : List ℕ) (s t : List Said) → FileSays bytes s → FileSays bytes t → s ≡ t
+pub file_one : (bytes : List ℕ) (s t : List Saying) → FileSays bytes s → FileSays bytes t → s ≡ t
 file_one bytes s t (rows xs p) (rows ys q) = ap (map said_of) (one_batch bytes xs ys p q)
 file_one bytes s t (rows xs p) (headless none) = absurd (none (record { rows = p.rows; begins = p.begins }))
 file_one bytes s t (headless none) (rows ys q) = absurd (none (record { rows = q.rows; begins = q.begins }))

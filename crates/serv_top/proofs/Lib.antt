@@ -3,7 +3,6 @@ pub mod Pieces
 pub mod Cutting
 pub mod PlainLemmas
 pub mod LineLemmas
-pub mod FreshLemmas
 pub mod GatheredLemmas
 pub mod RequestLemmas
 pub mod CutLemmas

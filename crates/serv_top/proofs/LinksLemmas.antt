@@ -1,6 +1,6 @@
 -- Links that are served over a journal.
 use Rattle.std.proofs.Common.{◌≡◌, ◌⊎◌, ℕ, ◌-◌, List, [], ◌∷◌, ◌++◌, refl, ap, subst, ◌∙◌, inl, inr, ⊎_elim}
-use Rattle.std.specs.Prelude.{Option, Some}
+use Rattle.std.specs.Prelude.{Option, Some, map}
 use Rattle.std.specs.Io.KnownBytes.{Appends}
 use Rattle.svc_world.specs.World.{Accepted}
 use Rattle.svc_world.specs.Judging.{IsHistory}
@@ -15,12 +15,11 @@ use Rattle.serv_links.specs.declared.doors.DoorsEnd.{DoorsEnd}
 use Rattle.serv_links.specs.declared.doors.DoorsEnd.TheVariants as doors_end
 use Rattle.serv_links.specs.declared.link_end.LinkEnd.{LinkEnd}
 use Rattle.serv_links.specs.declared.link_end.LinkEnd.TheVariants as link_end
-use Rattle.serv_links.specs.declared.outcome.Outcome.{Outcome}
-use Rattle.serv_links.specs.declared.outcome.Outcome.TheVariants as outcome
+use Rattle.serv_machine.specs.declared.faults.Stop.{Stop}
+use Rattle.serv_machine.specs.declared.faults.Stop.TheVariants as stop
 use Rattle.serv_links.specs.declared.summary.Summary.{Summary}
-use Rattle.serv_links.specs.declared.meaning.Meaning.{Meaning}
-use Rattle.serv_links.specs.declared.meaning.Meaning.TheVariants.{Asks, Faulty}
-use Rattle.serv_links.specs.Responses as links
+use Rattle.serv_links.specs.Responses.{saying_of}
+use Rattle.serv_machine.proofs.SayingLemmas.{store_after, store_after_all}
 use Rattle.serv_links.specs.Outcomes.{IsAnswered, IsCut, IsCutOff, IsOne, IsStopped, IsTriedAs}
 use Rattle.serv_links.specs.Links.{IsServed, IsStarved}
 use Rattle.serv_links.specs.Doors.{AreServed, IsDoorsEnd, IsSummary, OneServed, ServedLink, ServesDoors, text_of_summary}
@@ -30,43 +29,34 @@ use Rattle.serv_machine.specs.Stands.{Stand, stand, Stays}
 use Rattle.serv_top.specs.Journal.{IsUnopened, IsOpened, journal_limit}
 use Rattle.serv_top.specs.Served.{IsCountOf, IsServedAs, IsServedOver, LinksEnd, ServesLinks}
 use Rattle.serv_top.specs.Written.{IsWrittenAs, Writes}
-use Rattle.serv_top.proofs.Applied.{run_over, store_of, store_request, unopened_ends}
+use Rattle.serv_top.proofs.Applied.{run_over, store_of, unopened_ends}
 use Rattle.serv_top.proofs.WrittenLemmas.{written_of}
 use Rattle.serv_top.specs.Ends.{Completes}
 
 -- ---- where commands are kept stays the same
 
-store_meant : (h : History) (m : Meaning) → (links.history_after h m).store ≡ h.store
-store_meant h (Asks r ends) = store_request h r
-store_meant h (Faulty status ends allow) = refl
-
-store_meant_all : (h : History) (meant : List Meaning) → (links.after_all h meant).store ≡ h.store
-store_meant_all h [] = refl
-store_meant_all h (m ∷ meant) = store_meant_all (links.history_after h m) meant ∙ store_meant h m
-
 store_answered : (n : ℕ) (asks : List Ask) (s s' : Stand) (wrote : List ℕ) → IsAnswered n asks s s' wrote → s'.history.store ≡ s.history.store
-store_answered n asks s s' wrote is = ap store_of is.moved.0 ∙ store_meant_all s.history is.meant
+store_answered n asks s s' wrote is = ap store_of is.moved.0 ∙ store_after_all s.history (map saying_of is.meant)
 
 store_tried : (a : Ask) (s s' : Stand) → Stays s s' ⊎ IsTriedAs a s s' → s'.history.store ≡ s.history.store
 store_tried a s s' is =
     ⊎_elim (λ same. ap store_of same.0)
-    (λ tried. ⊎_elim (λ same. ap store_of same) (λ moved. ap store_of moved ∙ store_meant s.history tried.meant) tried.near) is
+    (λ tried. ⊎_elim (λ same. ap store_of same) (λ moved. ap store_of moved ∙ store_after s.history (saying_of tried.meant)) tried.starves.near) is
 
 store_cut : (a : Ask) (s s' : Stand) (wrote : List ℕ) → IsCut a s s' wrote → s'.history.store ≡ s.history.store
-store_cut a s s' wrote is = ap store_of is.moved.0 ∙ store_meant s.history is.meant
+store_cut a s s' wrote is = ap store_of is.moved.0 ∙ store_after s.history (saying_of is.meant)
 
-store_one : (cut : Type 0) (o : Outcome) (a : Ask) (s s' : Stand) (pending : List Accepted) (wrote : List ℕ) → IsOne cut o a s s' pending wrote → s'.history.store ≡ s.history.store
-store_one cut outcome.Answered a s s' pending wrote is = absurd is
-store_one cut outcome.Broken a s s' pending wrote (none, is) = store_cut a s s' wrote is
-store_one cut outcome.Disk a s s' pending wrote (is, front) = ap store_of is.same
-store_one cut outcome.NoMemory a s s' pending wrote is = store_tried a s s' is.1
+store_one : (cut : Type 0) (o : Stop) (a : Ask) (s s' : Stand) (pending : List Accepted) (wrote : List ℕ) → IsOne cut o a s s' pending wrote → s'.history.store ≡ s.history.store
+store_one cut stop.WriteFault a s s' pending wrote (none, is) = store_cut a s s' wrote is
+store_one cut stop.DiskFault a s s' pending wrote (is, front) = ap store_of is.sticks.same
+store_one cut stop.OutOfMemory a s s' pending wrote is = store_tried a s s' is.1
 
-store_stopped : (cut : Type 0) (o : Outcome) (n : ℕ) (asks : List Ask) (s s' : Stand) (pending : List Accepted) (wrote : List ℕ) → IsStopped cut o n asks s s' pending wrote
+store_stopped : (cut : Type 0) (o : Stop) (n : ℕ) (asks : List Ask) (s s' : Stand) (pending : List Accepted) (wrote : List ℕ) → IsStopped cut o n asks s s' pending wrote
     → s'.history.store ≡ s.history.store
 store_stopped cut o n asks s s' pending wrote is =
     store_one cut o is.ask is.mid s' pending is.part is.one ∙ store_answered n is.done s is.mid is.before is.answered
 
-store_cut_off : (cut : Type 0) (o : Outcome) (n : ℕ) (bytes : List ℕ) (s s' : Stand) (pending : List Accepted) (wrote : List ℕ) → IsCutOff cut o n bytes s s' pending wrote
+store_cut_off : (cut : Type 0) (o : Stop) (n : ℕ) (bytes : List ℕ) (s s' : Stand) (pending : List Accepted) (wrote : List ℕ) → IsCutOff cut o n bytes s s' pending wrote
     → s'.history.store ≡ s.history.store
 store_cut_off cut o n bytes s s' pending wrote is = store_stopped cut o n is.asks s s' pending wrote is.stopped
 
@@ -82,9 +72,9 @@ store_served (link_end.Cut n) reads writes at_end taken s s' pending added (none
 store_served (link_end.Broken n) reads writes at_end taken s s' pending added (inl (risen, none, below, (left, all))) =
     store_answered n all.asks s s' added all.answered
 store_served (link_end.Broken n) reads writes at_end taken s s' pending added (inr (risen, cut)) =
-    store_cut_off writes outcome.Broken n taken s s' pending added cut
-store_served (link_end.Disk n) reads writes at_end taken s s' pending added is = store_cut_off writes outcome.Disk n taken s s' pending added is
-store_served (link_end.NoMemory n) reads writes at_end taken s s' pending added (inl cut) = store_cut_off writes outcome.NoMemory n taken s s' pending added cut
+    store_cut_off writes stop.WriteFault n taken s s' pending added cut
+store_served (link_end.Disk n) reads writes at_end taken s s' pending added is = store_cut_off writes stop.DiskFault n taken s s' pending added is
+store_served (link_end.NoMemory n) reads writes at_end taken s s' pending added (inl cut) = store_cut_off writes stop.OutOfMemory n taken s s' pending added cut
 store_served (link_end.NoMemory n) reads writes at_end taken s s' pending added (inr (none, starved)) = store_starved writes n taken added s s' starved
 
 -- links came, and were served in their turn

@@ -9,8 +9,8 @@ use Rattle.svc_core.proofs.CoreLemmas.{empty_history}
 use Rattle.serv_machine.specs.History.{History, nothing}
 use Rattle.serv_machine.specs.OnDisk.{OnDisk}
 use Rattle.serv_machine.proofs.OnDiskLemmas.{disk_more}
-use Rattle.serv_top.specs.declared.serving.Stop.{Stop}
-use Rattle.serv_top.specs.declared.serving.Stop.TheVariants as stop
+use Rattle.serv_machine.specs.declared.faults.Stop.{Stop}
+use Rattle.serv_machine.specs.declared.faults.Stop.TheVariants as stop
 use Rattle.serv_top.specs.declared.status.Status.{Status}
 use Rattle.serv_top.specs.declared.status.Status.TheVariants as status
 use Rattle.serv_top.specs.Lines.{lines_of, ended_lines}

@@ -5,7 +5,7 @@ use Rattle.std.proofs.lemmas.List.{length-take-le, take_at, take_all, take-appen
 use Rattle.std.proofs.lemmas.Bool.{cases_lt}
 use Rattle.serv_top.specs.Lines.{IsPlain, lines_of, ended_lines, open_line}
 use Rattle.serv_machine.specs.Stands.{Stand, stand, Running}
-use Rattle.serv_top.specs.declared.said.Said.{Said}
+use Rattle.serv_machine.specs.Sayings.{Saying}
 use Rattle.serv_top.specs.Machine.{Says}
 use Rattle.serv_top.specs.Serving.{AllServed, Gathered, Served}
 use Rattle.serv_top.specs.Upheld.{Say, AreFirst, AreSaidFirst}
@@ -40,7 +40,7 @@ open_cases [] = inl refl
 open_cases (b ∷ piece) = inr (refl, λ none. cc)
 
 -- where bytes come later, further lines end
-pub first_further : (bytes more : List ℕ) (said : List Said) → AreSaidFirst (ended_lines bytes) said → AreSaidFirst (ended_lines (bytes ++ more)) said
+pub first_further : (bytes more : List ℕ) (said : List Saying) → AreSaidFirst (ended_lines bytes) said → AreSaidFirst (ended_lines (bytes ++ more)) said
 first_further bytes more said is =
     subst (λ ls. AreSaidFirst ls said) (sym (ended_lines-append bytes more)) (first_of_more (ended_lines bytes) (ended_from (open_line bytes) more) said is)
 
@@ -61,7 +61,7 @@ module _ (waiting : ℕ) (bytes : List ℕ) {s : Stand} {t : Running} {held held
   }
 
   -- what was said so far is what some first lines say
-  pub first_here : (lines others : List (List ℕ)) → lines ≡ ended ++ others → (said : List Said) → AreFirst run.said said → AreSaidFirst lines said
+  pub first_here : (lines others : List (List ℕ)) → lines ≡ ended ++ others → (said : List Saying) → AreFirst run.said said → AreSaidFirst lines said
   first_here lines others is = first_lines lines ended others run.said is run.say
 
   pub first_plain : (p : List ℕ) → IsPlain p → AreSaidFirst (ended_lines (bytes ++ p)) run.said
@@ -76,11 +76,11 @@ module _ (waiting : ℕ) (bytes : List ℕ) {s : Stand} {t : Running} {held held
   opened_more = open_from-push [] bytes 10
 
   -- what the kept line says, the whole line says
-  say_more : (last : Said) → Says line last → Say (ended_lines (bytes ++ 10 ∷ [])) (run.said ++ last ∷ [])
+  say_more : (last : Saying) → Says line last → Say (ended_lines (bytes ++ 10 ∷ [])) (run.said ++ last ∷ [])
   say_more last says =
       subst (λ ls. Say ls (run.said ++ last ∷ [])) (sym ended_more) (say-push ended run.said piece last run.say (says_whole piece last (subst (λ l. Says l last) run.line_is says)))
 
-  pub served_line : (last : Said) → Says line last → (t' : Running) (held'' : Option (List ℕ)) (line' text' : List ℕ) → line' ≡ []
+  pub served_line : (last : Saying) → Says line last → (t' : Running) (held'' : Option (List ℕ)) (line' text' : List ℕ) → line' ≡ []
       → Gathered waiting (run.said ++ last ∷ []) s t' held held'' text' → Served waiting (bytes ++ 10 ∷ []) s t' held held'' line' text'
   served_line last says t' held'' line' text' none gathers = record {
     said = run.said ++ last ∷ [];
@@ -89,7 +89,7 @@ module _ (waiting : ℕ) (bytes : List ℕ) {s : Stand} {t : Running} {held held
     line_is = none ∙ sym (ap (take 513) opened_more);
   }
 
-  pub first_line : (last : Said) → Says line last → (lines others : List (List ℕ)) → lines ≡ ended_lines (bytes ++ 10 ∷ []) ++ others → (said : List Said) → AreFirst (run.said ++ last ∷ []) said → AreSaidFirst lines said
+  pub first_line : (last : Saying) → Says line last → (lines others : List (List ℕ)) → lines ≡ ended_lines (bytes ++ 10 ∷ []) ++ others → (said : List Saying) → AreFirst (run.said ++ last ∷ []) said → AreSaidFirst lines said
   first_line last says lines others is = first_lines lines (ended_lines (bytes ++ 10 ∷ [])) others (run.said ++ last ∷ []) is (say_more last says)
 
   -- replies are written

@@ -3,18 +3,17 @@ use Rattle.std.proofs.Common.{◌≡◌, ℕ, ◌+◌, ◌<◌, ◌≤◌, List,
 use Rattle.std.proofs.lemmas.List.{take_at, take-append-le, drop_at, drop-append-le}
 use Rattle.serv_machine.specs.History.{History}
 use Rattle.serv_machine.specs.Stands.{Stand}
-use Rattle.serv_top.specs.declared.said.Said.{Said}
-use Rattle.serv_top.specs.Machine.{reply_to}
-use Rattle.serv_top.specs.Replies.{replies_to, history_after_all, bound_of_all, before_last, IsCutIn}
+use Rattle.serv_machine.specs.Sayings.{Saying, reply_to, history_after_all, replies_to, bound_of_all}
+use Rattle.serv_machine.proofs.SayingLemmas.{replies_to-push}
+use Rattle.serv_top.specs.Replies.{before_last, IsCutIn}
 use Rattle.serv_top.specs.Whole.{IsCutOff}
-use Rattle.serv_top.proofs.Cutting.{replies_to-push}
 
 -- the last of what is said
-record LastOf (saids : List Said) : Type 0 where
-  last : Said
+record LastOf (saids : List Saying) : Type 0 where
+  last : Saying
   saids_are : saids ≡ before_last saids ++ last ∷ []
 
-last_of : (saids : List Said) → 0 < length saids → LastOf saids
+last_of : (saids : List Saying) → 0 < length saids → LastOf saids
 last_of [] some = absurd (omega (arith, some))
 last_of (s ∷ []) some = record { last = s; saids_are = refl }
 last_of (s ∷ (t ∷ ts)) some =
@@ -45,11 +44,11 @@ ahead first last written rest e few =
       left = sym (drop_at first last n refl) ∙ ap (drop n) e ∙ drop-append-le n written rest few;
     }
 
-some_said : (h : History) (saids : List Said) (written rest : List ℕ) → replies_to h saids ≡ written ++ rest → 0 < length rest → 0 < length saids
+some_said : (h : History) (saids : List Saying) (written rest : List ℕ) → replies_to h saids ≡ written ++ rest → 0 < length rest → 0 < length saids
 some_said h [] written rest e some = absurd (omega (arith, ap length e, length-append written rest, some))
 some_said h (s ∷ saids) written rest e some = omega arith
 
-pub cut_off : (First : List Said → Type 0) (s s' : Stand) (written : List ℕ) → IsCutIn First 0 s s' written → IsCutOff First s s' written
+pub cut_off : (First : List Saying → Type 0) (s s' : Stand) (written : List ℕ) → IsCutIn First 0 s s' written → IsCutOff First s s' written
 cut_off First s s' written c =
     let end = last_of c.done (some_said s.history c.done written c.cut.rest c.cut.joined c.cut.some) in
     let front = before_last c.done in

@@ -12,8 +12,9 @@ use Rattle.serv_machine.specs.OnDisk.{OnDisk}
 use Rattle.serv_top.specs.declared.status.Status.{Status}
 use Rattle.serv_top.specs.declared.status.Status.TheVariants.{Done, ReadFault, WriteFault, DiskFault, TooMuch, OutOfMemory}
 use Rattle.serv_machine.specs.Stands.{Stand, Stays}
-use Rattle.serv_top.specs.declared.said.Said.{Said}
-use Rattle.serv_top.specs.declared.said.Said.TheVariants.{Asks, Unfit}
+use Rattle.serv_machine.specs.Sayings.{Saying, telling}
+use Rattle.serv_rows.specs.Texts.{text_of_bad_row}
+use Rattle.serv_top.specs.Machine.{in_words}
 use Rattle.serv_top.specs.Replies.{Answers, IsBegun, IsCutIn, IsHeldUp}
 use Rattle.serv_top.specs.Outcome.{input_limit}
 use Rattle.serv_top.specs.Journal.{IsRunOver}
@@ -23,14 +24,14 @@ use Rattle.serv_disk.specs.Stamps.{Stamp}
 -- ---- what a file says
 
 -- what a row says
-abbrev pub said_of : RowRequest → Said
-said_of (row.Row key c) = Asks (request.Do key c)
-said_of (row.Bad number column) = Unfit number column
+abbrev pub said_of : RowRequest → Saying
+said_of (row.Row key c) = in_words (request.Do key c)
+said_of (row.Bad number column) = telling (text_of_bad_row number column)
 
 -- what a file says, row by row; without the header its first row is bad, and no other row is looked at
-pub data FileSays (bytes : List ℕ) : List Said → Type 0 where
+pub data FileSays (bytes : List ℕ) : List Saying → Type 0 where
   rows : (answers : List RowRequest) → IsBatch bytes answers → FileSays bytes (map said_of answers)
-  headless : (HasHeader bytes → ⊥) → FileSays bytes (Unfit 1 1 ∷ [])
+  headless : (HasHeader bytes → ⊥) → FileSays bytes (telling (text_of_bad_row 1 1) ∷ [])
 
 -- a row asks a command under a key
 abbrev pub IsRow : RowRequest → Type 0
@@ -44,7 +45,7 @@ AreRows (r ∷ more) = IsRow r × AreRows more
 -- ---- all rows
 
 -- what is accepted and written by the status. Other statuses do not come where rows are answered
-abbrev pub IsRowsOutput : Status → List Said → Stand → Stand → List Accepted → List ℕ → Type 0
+abbrev pub IsRowsOutput : Status → List Saying → Stand → Stand → List Accepted → List ℕ → Type 0
 IsRowsOutput Done saids s s' pending written = (pending ≡ []) × Answers (λ said. said ≡ saids) s s' written
 IsRowsOutput WriteFault saids s s' pending written = (pending ≡ []) × IsCutIn (AreFirst saids) 0 s s' written
 IsRowsOutput DiskFault saids s s' pending written = IsHeldUp (AreFirst saids) 0 s s' pending written
@@ -68,7 +69,7 @@ pub record IsIdle (s s' : Stand) (pending : List Accepted) (written : List ℕ) 
 
 -- the rows of a file are answered
 pub record IsFileOutput (status : Status) (bytes : List ℕ) (s s' : Stand) (pending : List Accepted) (written : List ℕ) : Type 0 where
-  pub saids : List Said
+  pub saids : List Saying
   pub file : FileSays bytes saids
   pub rows : IsRowsOutput status saids s s' pending written
 
@@ -82,7 +83,7 @@ pub record FileEnds {D : Type 0} (images : D → List ℕ → Type 0) (moment : 
   pub disk : OnDisk images moment images_since old new s.history s'.history pending
 
 pub record RowsEnd {D : Type 0} (images : D → List ℕ → Type 0) (moment : D → ℕ) (images_since : D → ℕ → List ℕ → Type 0) (old new : D)
-    (status : Status) (saids : List Said) (s s' : Stand) (held held' : Option (List ℕ)) : Type 0 where
+    (status : Status) (saids : List Saying) (s s' : Stand) (held held' : Option (List ℕ)) : Type 0 where
   pub pending : List Accepted
   pub written : List ℕ
   pub wrote : Appends held held' written
@@ -105,8 +106,8 @@ pub record ImportEnds {D : Type 0} (images : D → List ℕ → Type 0) (moment 
   pub disk : OnDisk images moment images_since old new s.history s'.history pending
 
 -- what some first rows of a file say
-pub record AreFirstIn (bytes : List ℕ) (said : List Said) : Type 0 where
-  pub saids : List Said
+pub record AreFirstIn (bytes : List ℕ) (said : List Saying) : Type 0 where
+  pub saids : List Saying
   pub file : FileSays bytes saids
   pub first : AreFirst saids said
 

@@ -5,16 +5,10 @@ use Rattle.svc_core.specs.declared.fault.CoreFault.{CoreFault}
 use Rattle.svc_core.specs.declared.fault.CoreFault.TheVariants as core
 use Rattle.serv_engine.specs.declared.fault.EngineFault.{EngineFault}
 use Rattle.serv_engine.specs.declared.fault.EngineFault.TheVariants as fault
-use Rattle.serv_machine.specs.declared.faults.Halt.{Halt}
-use Rattle.serv_machine.specs.declared.faults.Halt.TheVariants as halt
-use Rattle.serv_top.specs.declared.serving.Stop.{Stop}
-use Rattle.serv_top.specs.declared.serving.Stop.TheVariants as stop
+use Rattle.serv_machine.specs.declared.faults.Stop.{Stop}
+use Rattle.serv_machine.specs.declared.faults.Stop.TheVariants as stop
 use Rattle.serv_top.specs.declared.status.Status.{Status}
 use Rattle.serv_top.specs.declared.status.Status.TheVariants as status
-
-abbrev pub stop_of : Halt → Stop
-stop_of halt.DiskFault = stop.DiskFault
-stop_of halt.OutOfMemory = stop.OutOfMemory
 
 abbrev pub status_of : Stop → Status
 status_of stop.WriteFault = status.WriteFault

@@ -165,11 +165,11 @@ fn answer_rows<D: Disk, M: Machine<D>, K: Sink, L: Ledger>(
     for row in rows {
         match replies.act(&said_of(row), machine, disk, snk, steps) {
             Ok(()) => {}
-            Err(stop) => return stop.status(),
+            Err(stop) => return Status::from(stop),
         }
     }
     match replies.let_go(None, 0, machine, disk, snk) {
         Ok(()) => Status::Done,
-        Err(stop) => stop.status(),
+        Err(stop) => Status::from(stop),
     }
 }

@@ -12,16 +12,16 @@ ghost use Rattle.serv_top.specs.Extracts.{lines_of_commands, AreTakenOn, HasRoom
 ghost use Rattle.serv_top.specs.Imported.{FileSays};
 ghost use Rattle.serv_top.specs.Words.{month_in};
 ghost use Rattle.serv_machine.specs.Stands.{Stand};
-ghost use Rattle.serv_top.specs.declared.said.Said.{Said};
+ghost use Rattle.serv_machine.specs.Sayings.{Saying, replies_to};
 ghost use Rattle.serv_top.specs.Machine.{Says};
-ghost use Rattle.serv_top.specs.Replies.{Answers, IsBegun, IsCutAt, IsCutIn, IsHeldUp, replies_to};
+ghost use Rattle.serv_top.specs.Replies.{Answers, IsBegun, IsCutAt, IsCutIn, IsHeldUp};
 ghost use Rattle.serv_top.specs.Upheld.{AreFirst, AreSaidFirst, Say};
 ghost use Rattle.serv_top.specs.Whole.{IsCutOff};
 
 /// A line says one thing. So lines have one text of replies over a history, and one history after them;
 /// and a front part of their replies is some whole ones and a part of the next one. It does nothing.
 pub fn lines_have_one_answer()
-    ensures says { (line : List ℕ) (s t : Said) → Says line s → Says line t → s ≡ t }
+    ensures says { (line : List ℕ) (s t : Saying) → Says line s → Says line t → s ≡ t }
     ensures answers { (lines : List (List ℕ)) (s a b : Stand) (x y : List ℕ)
         → Answers (Say lines) s a x → Answers (Say lines) s b y → (x ≡ y) × (a.history ≡ b.history) }
     ensures cut { (waiting : ℕ) (lines : List (List ℕ)) (s t : Stand) (written : List ℕ)
@@ -33,7 +33,7 @@ pub fn lines_have_one_answer()
 pub fn replies_are_whole()
     ensures cut { (lines : List (List ℕ)) (s t : Stand) (written : List ℕ)
         → IsCutIn (AreSaidFirst lines) 0 s t written → IsCutOff (AreSaidFirst lines) s t written }
-    ensures cut_rows { (saids : List Said) (s t : Stand) (written : List ℕ)
+    ensures cut_rows { (saids : List Saying) (s t : Stand) (written : List ℕ)
         → IsCutIn (AreFirst saids) 0 s t written → IsCutOff (AreFirst saids) s t written }
     ensures held { (lines : List (List ℕ)) (s t : Stand) (pending : List Accepted) (written : List ℕ)
         (up : IsHeldUp (AreSaidFirst lines) 0 s t pending written) → written ≡ replies_to s.history up.done }
@@ -50,7 +50,7 @@ pub fn months_are_read()
 
 /// A file says one thing. It does nothing.
 pub fn files_say_one_thing()
-    ensures { (bytes : List ℕ) (s t : List Said) → FileSays bytes s → FileSays bytes t → s ≡ t }
+    ensures { (bytes : List ℕ) (s t : List Saying) → FileSays bytes s → FileSays bytes t → s ≡ t }
 {}
 
 /// The lines of a history's commands are read back as they stand: a stream of them has these lines and no other; and

@@ -7,16 +7,16 @@ ghost use Rattle.serv_disk.specs.Faults.{AppendsPart, HasCause, HasRisen};
 ghost use Rattle.serv_disk.specs.Stamps.{Notes};
 ghost use Rattle.serv_machine.specs.OnDisk.{OnDisk};
 ghost use Rattle.serv_machine.specs.Upheld.{Upholds};
+ghost use Rattle.serv_machine.specs.Sayings.{Saying};
 ghost use Rattle.serv_machine.specs.Stands.{Stand, running, stand};
-ghost use Rattle.serv_top.specs.Machine.{IsFormed};
+ghost use Rattle.serv_top.specs.Machine.{IsFormed, saying_of};
 ghost use Rattle.serv_top.specs.Serving.{AppendsFront, Gathered, IsHalted, IsReplied, IsWrittenBut, Stops};
 ghost use Rattle.serv_top.specs.Upheld.{AreFirst, AreReplies};
 
 use crate::said::Said;
-use crate::serving::{Stop, stop_at};
 use serv_disk::{Disk, Failed, Sink, write_beside};
 use serv_line::push_bad;
-use serv_machine::{Halt, Machine, answer_request};
+use serv_machine::{Halt, Machine, Stop, answer_request};
 use serv_rows::push_bad_row;
 use std::alloc::Global;
 use std::sync::ledger::Ledger;
@@ -56,26 +56,26 @@ impl Replies {
     ) -> Result<(), Stop>
         requires formed { IsFormed said.now }
         requires running { M.running machine.old disk.old }
-        ensures gathered { (before : List Said) (s : Stand) (held : Option (List ℕ))
+        ensures gathered { (before : List Saying) (s : Stand) (held : Option (List ℕ))
             → Gathered self.old.waiting before s
             (running (M.history machine.old) (M.kept machine.old) steps.old) held (K.held snk.old)
             self.old.text.items
-            → OnOk result (Gathered self.old.waiting (before ++ said.now ∷ []) s
+            → OnOk result (Gathered self.old.waiting (before ++ saying_of said.now ∷ []) s
             (running (M.history machine.new) (M.kept machine.new) steps.new) held (K.held snk.new)
             self.new.text.items) }
-        ensures stopped { (before : List Said) (s : Stand) (held : Option (List ℕ))
+        ensures stopped { (before : List Saying) (s : Stand) (held : Option (List ℕ))
             → Gathered self.old.waiting before s
             (running (M.history machine.old) (M.kept machine.old) steps.old) held (K.held snk.old)
             self.old.text.items
             → IfErr result (λ why. Stops D.images D.moment D.images_since disk.old disk.new why
-            (AreFirst (before ++ said.now ∷ [])) self.old.waiting s (M.kept machine.old)
+            (AreFirst (before ++ saying_of said.now ∷ [])) self.old.waiting s (M.kept machine.old)
             (stand (M.kept machine.new) steps.new) held (K.held snk.new)) }
         // Each write of this call is upheld.
-        ensures upheld { (before : List Said) (s : Stand) (held : Option (List ℕ))
+        ensures upheld { (before : List Saying) (s : Stand) (held : Option (List ℕ))
             → Gathered self.old.waiting before s
             (running (M.history machine.old) (M.kept machine.old) steps.old) held (K.held snk.old)
             self.old.text.items
-            → Upholds (AreReplies (AreFirst (before ++ said.now ∷ [])) s.history) (D.moment disk.new)
+            → Upholds (AreReplies (AreFirst (before ++ saying_of said.now ∷ [])) s.history) (D.moment disk.new)
             (D.images_since disk.new) (M.kept machine.new) held (K.log snk.old) (K.log snk.new) }
         ensures disk { OnOk result (OnDisk D.images D.moment D.images_since disk.old disk.new
             (M.kept machine.old) (M.kept machine.new) []) }
@@ -91,7 +91,7 @@ impl Replies {
                 Ok(()) => Ok(()),
                 Err(halt) => {
                     let _ = self.write_all(disk, snk);
-                    Err(stop_at(halt))
+                    Err(Stop::from(halt))
                 }
             },
             Err(stop) => Err(stop),
@@ -110,19 +110,19 @@ impl Replies {
     ) -> Result<(), Stop>
         requires next { IfSome next (λ c. IsCommand c.1.now) }
         requires running { M.running machine.old disk.old }
-        ensures gathered { (said : List Said) (s : Stand) (steps : ℕ) (held : Option (List ℕ))
+        ensures gathered { (said : List Saying) (s : Stand) (steps : ℕ) (held : Option (List ℕ))
             → Gathered self.old.waiting said s (running (M.history machine.old) (M.kept machine.old) steps)
             held (K.held snk.old) self.old.text.items
             → OnOk result (Gathered self.old.waiting said s
             (running (M.history machine.new) (M.kept machine.new) steps) held (K.held snk.new)
             self.new.text.items) }
-        ensures stopped { (said : List Said) (s : Stand) (steps : ℕ) (held : Option (List ℕ))
+        ensures stopped { (said : List Saying) (s : Stand) (steps : ℕ) (held : Option (List ℕ))
             → Gathered self.old.waiting said s (running (M.history machine.old) (M.kept machine.old) steps)
             held (K.held snk.old) self.old.text.items
             → IfErr result (λ why. Stops D.images D.moment D.images_since disk.old disk.new why
             (AreFirst said) self.old.waiting s (M.kept machine.old)
             (stand (M.kept machine.new) steps) held (K.held snk.new)) }
-        ensures upheld { (said : List Said) (s : Stand) (steps : ℕ) (held : Option (List ℕ))
+        ensures upheld { (said : List Saying) (s : Stand) (steps : ℕ) (held : Option (List ℕ))
             → Gathered self.old.waiting said s (running (M.history machine.old) (M.kept machine.old) steps)
             held (K.held snk.old) self.old.text.items
             → Upholds (AreReplies (AreFirst said) s.history) (D.moment disk.new) (D.images_since disk.new)
@@ -157,12 +157,12 @@ impl Replies {
     ) -> Result<(), Halt>
         requires formed { IsFormed said.now }
         requires ready { M.ready machine.old disk.old }
-        ensures replied { OnOk result (IsReplied said.now
+        ensures replied { OnOk result (IsReplied (saying_of said.now)
             (running (M.history machine.old) (M.kept machine.old) steps.old)
             (running (M.history machine.new) (M.kept machine.new) steps.new)
             self.old.text.items self.new.text.items) }
         ensures halts { IfErr result (λ why. IsHalted D.images D.moment D.images_since disk.old disk.new why
-            said.now (running (M.history machine.old) (M.kept machine.old) steps.old)
+            (saying_of said.now) (running (M.history machine.old) (M.kept machine.old) steps.old)
             (running (M.history machine.new) (M.kept machine.new) steps.new)) }
         ensures kept { OnErr result (self.new.text.items ≡ self.old.text.items) }
         ensures waiting { self.new.waiting ≡ self.old.waiting }

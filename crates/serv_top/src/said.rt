@@ -2,7 +2,7 @@
 
 ghost use Rattle.std.specs.Prelude.{◌≡◌, IfSome};
 ghost use Rattle.svc_types.specs.Requests.{IsCommand};
-ghost use Rattle.serv_top.specs.Machine.{IsFormed, Says};
+ghost use Rattle.serv_top.specs.Machine.{IsFormed, Says, saying_of};
 ghost use Rattle.serv_top.specs.Imported as imported;
 
 use serv_import::RowRequest;
@@ -35,7 +35,7 @@ impl Said {
 
 /// What a line says, which is given without its line feed.
 pub(crate) fn said_in(line: &[u8]) -> Said
-    ensures says { Says line.now result }
+    ensures says { Says line.now (saying_of result) }
     ensures formed { IsFormed result }
 {
     match read_line(line) {
@@ -47,7 +47,7 @@ pub(crate) fn said_in(line: &[u8]) -> Said
 /// What a row says.
 pub(crate) fn said_of(row: &RowRequest) -> Said
     requires { imported.IsRow row.now }
-    ensures said { result ≡ imported.said_of row.now }
+    ensures said { saying_of result ≡ imported.said_of row.now }
     ensures formed { IsFormed result }
 {
     match row {

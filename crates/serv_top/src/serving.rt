@@ -7,53 +7,20 @@ ghost use Rattle.serv_machine.specs.OnDisk.{OnDisk};
 ghost use Rattle.serv_machine.specs.Stands.{Stand, running, stand};
 ghost use Rattle.serv_top.specs.Serving.{AllServed, Served, Stops};
 ghost use Rattle.serv_top.specs.Lines.{IsPlain, ended_lines, lines_of};
-ghost use Rattle.serv_top.specs.Stop.{status_of, stop_of};
 ghost use Rattle.serv_machine.specs.Upheld.{Upholds};
 ghost use Rattle.serv_top.specs.Upheld.{AreReplies, AreSaidFirst};
 
 use crate::replies::Replies;
 use crate::said::said_in;
-use crate::status::Status;
 use memchr::memchr;
 use serv_disk::{Disk, Sink};
-use serv_machine::{Halt, Machine};
+use serv_machine::{Machine, Stop};
 use std::alloc::Global;
 use std::sync::ledger::Ledger;
 use svc_base::{OutOfMemory, Steps};
 
 /// How much of a line is kept: a line of 513 bytes is too long, whatever follows.
 const KEPT: usize = 513;
-
-/// Why no further line is answered.
-#[derive(Clone, Copy, Debug, PartialEq, Eq)]
-pub(crate) enum Stop {
-    WriteFault,
-    DiskFault,
-    OutOfMemory,
-}
-
-impl Stop {
-    /// The status of a run that ends so.
-    pub(crate) fn status(self) -> Status
-        ensures { result ≡ status_of self }
-    {
-        match self {
-            Stop::WriteFault => Status::WriteFault,
-            Stop::DiskFault => Status::DiskFault,
-            Stop::OutOfMemory => Status::OutOfMemory,
-        }
-    }
-}
-
-/// Where a line has no reply, no further one is answered.
-pub(crate) fn stop_at(halt: Halt) -> Stop
-    ensures { result ≡ stop_of halt }
-{
-    match halt {
-        Halt::DiskFault => Stop::DiskFault,
-        Halt::OutOfMemory => Stop::OutOfMemory,
-    }
-}
 
 /// Where the first line feed stands.
 fn line_feed_in(bytes: &[u8]) -> Option<usize>

@@ -3,6 +3,7 @@
 ghost use Rattle.std.specs.Prelude.{◌≡◌};
 ghost use Rattle.serv_top.specs.Status.{number_of};
 
+use serv_machine::Stop;
 use std::fmt;
 use svc_base::Month;
 
@@ -57,6 +58,21 @@ impl Status {
             Status::TooMuch(_) => 11,
             Status::OutOfMemory => 12,
             Status::JournalFull(_) => 13,
+        }
+    }
+}
+
+impl From<Stop> for Status {
+    ghost use Rattle.std.specs.Prelude.{◌≡◌};
+    ghost use Rattle.serv_top.specs.Stop.{status_of};
+
+    ghost from_gives = { λ stop status. status ≡ status_of stop };
+
+    fn from(stop: Stop) -> Status {
+        match stop {
+            Stop::WriteFault => Status::WriteFault,
+            Stop::DiskFault => Status::DiskFault,
+            Stop::OutOfMemory => Status::OutOfMemory,
         }
     }
 }

@@ -54,11 +54,11 @@ pub(crate) fn serve<D: Disk, M: Machine<D>, S: Source, K: Sink, L: Ledger>(
         match read_some(src, &mut room, most) {
             Ok(0) => match serving.finish(machine, disk, snk, steps) {
                 Ok(()) => return Status::Done,
-                Err(stop) => return stop.status(),
+                Err(stop) => return Status::from(stop),
             },
             Ok(n) => match serving.feed_all(&room[..n], machine, disk, snk, steps) {
                 Ok(()) => taken += n as u64,
-                Err(stop) => return stop.status(),
+                Err(stop) => return Status::from(stop),
             },
             Err(_) => return Status::ReadFault,
         }

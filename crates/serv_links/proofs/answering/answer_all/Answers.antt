@@ -54,7 +54,7 @@ returns-in-Err-clause-round g c =
     let asks = c.args.asks.now in
     let s = stand (g.M.Machine.kept c.args.machine.now) c.args.steps.now in
     round_stops g.D.Disk.images g.D.Disk.moment g.D.Disk.images_since (HasRisen (g.K.Sink.faults c.loop-ask.link) (g.K.Sink.faults c.answer.new.link)) (HasRisen (g.K.Sink.faults c.args.link.now) (g.K.Sink.faults c.answer.new.link))
-    c.in-Err.outcome c.args.disk.now c.loop-ask.disk c.answer.new.disk c.answer.new.self.answered asks (take i asks ++ c.ask-item.result ∷ []) (drop (i + 1) asks) s (stand (g.M.Machine.kept c.answer.new.machine) c.answer.new.steps) _ _ _ _
+    c.in-Err.why c.args.disk.now c.loop-ask.disk c.answer.new.disk c.answer.new.self.answered asks (take i asks ++ c.ask-item.result ∷ []) (drop (i + 1) asks) s (stand (g.M.Machine.kept c.answer.new.machine) c.answer.new.steps) _ _ _ _
     (risen_last _ _ _ c.loop-ask.invariant.later c.answer.ensures.later)
     (parted i asks c.ask-item.result c.ask-item.result c.loop-ask-test.true c.ask-item.is ∙ sym (append_assoc (take i asks) (c.ask-item.result ∷ []) (drop (i + 1) asks)))
     c.loop-ask.invariant.disk (c.in-Err.ensures.stopped (take i asks) s (g.K.Sink.held c.args.link.now) c.loop-ask.invariant.gathered)
@@ -98,7 +98,7 @@ returns-clause-round g c =
     let all : take c.loop-ask.ask-index asks ≡ asks = take_all c.loop-ask.ask-index asks (omega (arith, c.loop-ask-test.false)) in
     let gathered = rw all at c.loop-ask.invariant.gathered in
     round_stops g.D.Disk.images g.D.Disk.moment g.D.Disk.images_since (HasRisen (g.K.Sink.faults c.loop-ask.link) (g.K.Sink.faults c.settle.new.link)) (HasRisen (g.K.Sink.faults c.args.link.now) (g.K.Sink.faults c.settle.new.link))
-    c.in-Err-settle.outcome c.args.disk.now c.loop-ask.disk c.settle.new.disk c.settle.new.self.answered asks asks [] s (stand (g.M.Machine.kept c.settle.new.machine) c.loop-ask.steps) _ _ _ _
+    c.in-Err-settle.why c.args.disk.now c.loop-ask.disk c.settle.new.disk c.settle.new.self.answered asks asks [] s (stand (g.M.Machine.kept c.settle.new.machine) c.loop-ask.steps) _ _ _ _
     (risen_last _ _ _ c.loop-ask.invariant.later c.settle.ensures.later) (sym (append-nil asks)) c.loop-ask.invariant.disk
     (c.in-Err-settle.ensures.stopped asks s c.loop-ask.steps (g.K.Sink.held c.args.link.now) gathered)
 

@@ -1,6 +1,5 @@
 use Rattle.std.proofs.Common.{refl}
 use Rattle.serv_machine.proofs.OnDiskLemmas.{disk_none}
-use Rattle.serv_links.specs.Responses.{response_to}
 use Rattle.serv_links.specs.Verdicts.{response_of}
 use Rattle.serv_links.proofs.deciding.decide.Goals as goal
 
@@ -15,7 +14,7 @@ returns-in-Err-clause-disk g c = λ other.
     (g.met.M.Machine.keeps c.args.machine.now c.args.disk.now c.requires.ready) (g.met.D.Disk.only_now c.args.disk.now)
 
 pub returns-in-Faulty-clause-response : goal.returns-in-Faulty-clause-response
-unfolding response_of response_to
+unfolding response_of
 returns-in-Faulty-clause-response g c = rw c.in-Faulty.is refl
 
 pub returns-in-Faulty-clause-disk : goal.returns-in-Faulty-clause-disk

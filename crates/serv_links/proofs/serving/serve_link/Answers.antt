@@ -1,5 +1,6 @@
 use Rattle.std.proofs.Common.{◌≡◌, ◌+◌, ◌≤◌, [], take, refl, sym, ◌∙◌, arith, inr, append-nil}
 use Rattle.std.proofs.lemmas.Bool.{both_ways}
+use Rattle.serv_machine.specs.declared.faults.Stop.TheVariants as stop
 use Rattle.serv_machine.specs.Upheld.{Upholds}
 use Rattle.serv_machine.proofs.OnDiskLemmas.{disk_none}
 use Rattle.serv_machine.proofs.UpheldLemmas.{commands_kept}
@@ -7,7 +8,7 @@ use Rattle.serv_links.specs.Links.{link_limit}
 use Rattle.serv_machine.specs.Stands.{stand}
 use Rattle.serv_links.specs.Responses.{response_503}
 use Rattle.serv_links.proofs.AnsweredLemmas.{none_taken}
-use Rattle.serv_links.proofs.GoingLemmas.{same_left, same_reads, same_held, same_writes, same_log, starved_at_once, going_none, run_ends, run_breaks, run_broken, run_disk, run_memory, run_passes, run_cut, run_over, run_goes}
+use Rattle.serv_links.proofs.GoingLemmas.{stopped_as, same_left, same_reads, same_held, same_writes, same_log, starved_at_once, going_none, run_ends, run_breaks, run_broken, run_disk, run_memory, run_passes, run_cut, run_over, run_goes}
 use Rattle.serv_links.proofs.RoundLemmas.{risen_last}
 use Rattle.serv_links.proofs.serving.serve_link.Goals as goal
 
@@ -57,8 +58,8 @@ returns-in-Err-clause-served g c =
     (stand (g.M.Machine.kept c.args.machine.now) c.args.steps.now) (stand (g.M.Machine.kept c.pieces.machine) c.pieces.steps) c.pieces.invariant.run _ _ kept c.pieces.invariant.below _ _
     c.in-Err.ensures.kept (risen_last _ _ _ c.pieces.invariant.read_later c.read_some.ensures.cause.later c.in-Err.ensures.cause.failed)
 
-pub returns-in-Broken-clause-served : goal.returns-in-Broken-clause-served
-returns-in-Broken-clause-served g c =
+pub returns-in-Err-WriteFault-clause-served : goal.returns-in-Err-WriteFault-clause-served
+returns-in-Err-WriteFault-clause-served g c =
     let kept : g.C.Sink.held c.read_some.new.src ≡ g.C.Sink.held c.pieces.link =
     same_held (g.C.Source.beside c.pieces.link) (g.C.Source.beside c.read_some.new.src) _ _ _ _ _ _ _ _ (g.met.C.Link.writing c.pieces.link) (g.met.C.Link.writing c.read_some.new.src) c.read_some.ensures.beside in
     let unnoted : g.C.Sink.log c.read_some.new.src ≡ g.C.Sink.log c.pieces.link =
@@ -72,12 +73,12 @@ returns-in-Broken-clause-served g c =
     (stand (g.M.Machine.kept c.args.machine.now) c.args.steps.now) (stand (g.M.Machine.kept c.pieces.machine) c.pieces.steps) (stand (g.M.Machine.kept c.serve_piece-round.new.machine) c.serve_piece-round.new.steps)
     (g.C.Sink.log c.args.link.now) (g.C.Sink.log c.pieces.link) (g.C.Sink.log c.read_some.new.src) (g.C.Sink.log c.serve_piece-round.new.link) unnoted c.pieces.invariant.run kept (take c.in-Ok-read_some.count c.read_some.new.room) c.in-Ok-read_some.count c.in-Ok-read_some.ensures.count (omega (arith, c.in-Ok-read_some.ensures.bound, c.min-most.ensures)) c.in-Ok-read_some.ensures.taken stays
     _ c.serve_piece-round.result.outcome c.serve_piece-round.result.answered c.serve_piece-round.ensures.piece c.serve_piece-round.ensures.upheld within _ _
-    (risen_last (g.C.Sink.faults c.args.link.now) (g.C.Sink.faults c.read_some.new.src) (g.C.Sink.faults c.serve_piece-round.new.link) (omega (arith, c.pieces.invariant.write_later, same)) c.serve_piece-round.ensures.later) c.in-Broken.is
+    (risen_last (g.C.Sink.faults c.args.link.now) (g.C.Sink.faults c.read_some.new.src) (g.C.Sink.faults c.serve_piece-round.new.link) (omega (arith, c.pieces.invariant.write_later, same)) c.serve_piece-round.ensures.later) (stopped_as _ c.in-Err-WriteFault.field-0 stop.WriteFault c.in-Err-WriteFault.is (rw c.in-Err-WriteFault.is at c.in-Err-WriteFault.field-0-is))
     (risen_last (g.C.Sink.faults c.args.link.now) (g.C.Sink.faults c.read_some.new.src) (g.C.Sink.faults c.serve_piece-round.new.link) (omega (arith, c.pieces.invariant.write_later, same)) c.serve_piece-round.ensures.later
-    (c.serve_piece-round.ensures.broken c.in-Broken.is))
+    (c.serve_piece-round.ensures.broken (stopped_as _ c.in-Err-WriteFault.field-0 stop.WriteFault c.in-Err-WriteFault.is (rw c.in-Err-WriteFault.is at c.in-Err-WriteFault.field-0-is))))
 
-pub returns-in-Disk-clause-served : goal.returns-in-Disk-clause-served
-returns-in-Disk-clause-served g c =
+pub returns-in-Err-DiskFault-clause-served : goal.returns-in-Err-DiskFault-clause-served
+returns-in-Err-DiskFault-clause-served g c =
     let kept : g.C.Sink.held c.read_some.new.src ≡ g.C.Sink.held c.pieces.link =
     same_held (g.C.Source.beside c.pieces.link) (g.C.Source.beside c.read_some.new.src) _ _ _ _ _ _ _ _ (g.met.C.Link.writing c.pieces.link) (g.met.C.Link.writing c.read_some.new.src) c.read_some.ensures.beside in
     let unnoted : g.C.Sink.log c.read_some.new.src ≡ g.C.Sink.log c.pieces.link =
@@ -91,10 +92,10 @@ returns-in-Disk-clause-served g c =
     (stand (g.M.Machine.kept c.args.machine.now) c.args.steps.now) (stand (g.M.Machine.kept c.pieces.machine) c.pieces.steps) (stand (g.M.Machine.kept c.serve_piece-round.new.machine) c.serve_piece-round.new.steps)
     (g.C.Sink.log c.args.link.now) (g.C.Sink.log c.pieces.link) (g.C.Sink.log c.read_some.new.src) (g.C.Sink.log c.serve_piece-round.new.link) unnoted c.pieces.invariant.run kept (take c.in-Ok-read_some.count c.read_some.new.room) c.in-Ok-read_some.count c.in-Ok-read_some.ensures.count (omega (arith, c.in-Ok-read_some.ensures.bound, c.min-most.ensures)) c.in-Ok-read_some.ensures.taken stays
     _ c.serve_piece-round.result.outcome c.serve_piece-round.result.answered c.serve_piece-round.ensures.piece c.serve_piece-round.ensures.upheld within _ _
-    (risen_last (g.C.Sink.faults c.args.link.now) (g.C.Sink.faults c.read_some.new.src) (g.C.Sink.faults c.serve_piece-round.new.link) (omega (arith, c.pieces.invariant.write_later, same)) c.serve_piece-round.ensures.later) c.in-Disk.is
+    (risen_last (g.C.Sink.faults c.args.link.now) (g.C.Sink.faults c.read_some.new.src) (g.C.Sink.faults c.serve_piece-round.new.link) (omega (arith, c.pieces.invariant.write_later, same)) c.serve_piece-round.ensures.later) (stopped_as _ c.in-Err-DiskFault.field-0 stop.DiskFault c.in-Err-DiskFault.is (rw c.in-Err-DiskFault.is at c.in-Err-DiskFault.field-0-is))
 
-pub returns-in-NoMemory-clause-served : goal.returns-in-NoMemory-clause-served
-returns-in-NoMemory-clause-served g c =
+pub returns-in-Err-OutOfMemory-clause-served : goal.returns-in-Err-OutOfMemory-clause-served
+returns-in-Err-OutOfMemory-clause-served g c =
     let kept : g.C.Sink.held c.read_some.new.src ≡ g.C.Sink.held c.pieces.link =
     same_held (g.C.Source.beside c.pieces.link) (g.C.Source.beside c.read_some.new.src) _ _ _ _ _ _ _ _ (g.met.C.Link.writing c.pieces.link) (g.met.C.Link.writing c.read_some.new.src) c.read_some.ensures.beside in
     let unnoted : g.C.Sink.log c.read_some.new.src ≡ g.C.Sink.log c.pieces.link =
@@ -108,7 +109,7 @@ returns-in-NoMemory-clause-served g c =
     (stand (g.M.Machine.kept c.args.machine.now) c.args.steps.now) (stand (g.M.Machine.kept c.pieces.machine) c.pieces.steps) (stand (g.M.Machine.kept c.serve_piece-round.new.machine) c.serve_piece-round.new.steps)
     (g.C.Sink.log c.args.link.now) (g.C.Sink.log c.pieces.link) (g.C.Sink.log c.read_some.new.src) (g.C.Sink.log c.serve_piece-round.new.link) unnoted c.pieces.invariant.run kept (take c.in-Ok-read_some.count c.read_some.new.room) c.in-Ok-read_some.count c.in-Ok-read_some.ensures.count (omega (arith, c.in-Ok-read_some.ensures.bound, c.min-most.ensures)) c.in-Ok-read_some.ensures.taken stays
     _ c.serve_piece-round.result.outcome c.serve_piece-round.result.answered c.serve_piece-round.ensures.piece c.serve_piece-round.ensures.upheld within _ _
-    (risen_last (g.C.Sink.faults c.args.link.now) (g.C.Sink.faults c.read_some.new.src) (g.C.Sink.faults c.serve_piece-round.new.link) (omega (arith, c.pieces.invariant.write_later, same)) c.serve_piece-round.ensures.later) c.in-NoMemory.is
+    (risen_last (g.C.Sink.faults c.args.link.now) (g.C.Sink.faults c.read_some.new.src) (g.C.Sink.faults c.serve_piece-round.new.link) (omega (arith, c.pieces.invariant.write_later, same)) c.serve_piece-round.ensures.later) (stopped_as _ c.in-Err-OutOfMemory.field-0 stop.OutOfMemory c.in-Err-OutOfMemory.is (rw c.in-Err-OutOfMemory.is at c.in-Err-OutOfMemory.field-0-is))
 
 pub returns-then-taken-eq-LINK_LIMIT-clause-served : goal.returns-then-taken-eq-LINK_LIMIT-clause-served
 returns-then-taken-eq-LINK_LIMIT-clause-served g c =
@@ -122,7 +123,7 @@ returns-then-taken-eq-LINK_LIMIT-clause-served g c =
     run_passes g.D.Disk.images g.D.Disk.moment g.D.Disk.images_since c.args.disk.now c.pieces.disk c.serve_piece-round.new.disk _ _ _ _ _ _ _ _ c.pieces.conn c.serve_piece-round.new.conn c.pieces.answered c.pieces.taken
     (stand (g.M.Machine.kept c.args.machine.now) c.args.steps.now) (stand (g.M.Machine.kept c.pieces.machine) c.pieces.steps) (stand (g.M.Machine.kept c.serve_piece-round.new.machine) c.serve_piece-round.new.steps)
     (g.C.Sink.log c.args.link.now) (g.C.Sink.log c.pieces.link) (g.C.Sink.log c.read_some.new.src) (g.C.Sink.log c.serve_piece-round.new.link) unnoted c.pieces.invariant.run kept (take c.in-Ok-read_some.count c.read_some.new.room) c.in-Ok-read_some.count c.in-Ok-read_some.ensures.count (omega (arith, c.in-Ok-read_some.ensures.bound, c.min-most.ensures)) c.in-Ok-read_some.ensures.taken stays
-    _ c.serve_piece-round.result.outcome c.serve_piece-round.result.answered c.serve_piece-round.ensures.piece c.serve_piece-round.ensures.upheld c.in-Answered.is in
+    _ c.serve_piece-round.result.outcome c.serve_piece-round.result.answered c.serve_piece-round.ensures.piece c.serve_piece-round.ensures.upheld c.in-Ok-outcome.is in
     run_cut g.D.Disk.images g.D.Disk.moment g.D.Disk.images_since c.args.disk.now c.serve_piece-round.new.disk _ _ _ _ _ _ _ _ _ _ passed _ _ (omega (arith, c.if-taken-eq-LINK_LIMIT.true))
 
 pub returns-then-is_over-clause-served : goal.returns-then-is_over-clause-served
@@ -138,7 +139,7 @@ returns-then-is_over-clause-served g c =
     run_passes g.D.Disk.images g.D.Disk.moment g.D.Disk.images_since c.args.disk.now c.pieces.disk c.serve_piece-round.new.disk _ _ _ _ _ _ _ _ c.pieces.conn c.serve_piece-round.new.conn c.pieces.answered c.pieces.taken
     (stand (g.M.Machine.kept c.args.machine.now) c.args.steps.now) (stand (g.M.Machine.kept c.pieces.machine) c.pieces.steps) (stand (g.M.Machine.kept c.serve_piece-round.new.machine) c.serve_piece-round.new.steps)
     (g.C.Sink.log c.args.link.now) (g.C.Sink.log c.pieces.link) (g.C.Sink.log c.read_some.new.src) (g.C.Sink.log c.serve_piece-round.new.link) unnoted c.pieces.invariant.run kept (take c.in-Ok-read_some.count c.read_some.new.room) c.in-Ok-read_some.count c.in-Ok-read_some.ensures.count (omega (arith, c.in-Ok-read_some.ensures.bound, c.min-most.ensures)) c.in-Ok-read_some.ensures.taken stays
-    _ c.serve_piece-round.result.outcome c.serve_piece-round.result.answered c.serve_piece-round.ensures.piece c.serve_piece-round.ensures.upheld c.in-Answered.is in
+    _ c.serve_piece-round.result.outcome c.serve_piece-round.result.answered c.serve_piece-round.ensures.piece c.serve_piece-round.ensures.upheld c.in-Ok-outcome.is in
     run_over g.D.Disk.images g.D.Disk.moment g.D.Disk.images_since c.args.disk.now c.serve_piece-round.new.disk _ _ _ _ _ _ _ _ _ _ passed _ _ (omega (arith, within, c.if-taken-eq-LINK_LIMIT.false))
     (λ r stands. both_ways c.is_over.result (c.is_over.ensures.stands r stands) c.if-is_over.true)
 
@@ -159,12 +160,12 @@ pieces-preserved g c =
     run_passes g.D.Disk.images g.D.Disk.moment g.D.Disk.images_since c.args.disk.now c.pieces.disk c.serve_piece-round.new.disk _ _ _ _ _ _ _ _ c.pieces.conn c.serve_piece-round.new.conn c.pieces.answered c.pieces.taken
     (stand (g.M.Machine.kept c.args.machine.now) c.args.steps.now) (stand (g.M.Machine.kept c.pieces.machine) c.pieces.steps) (stand (g.M.Machine.kept c.serve_piece-round.new.machine) c.serve_piece-round.new.steps)
     (g.C.Sink.log c.args.link.now) (g.C.Sink.log c.pieces.link) (g.C.Sink.log c.read_some.new.src) (g.C.Sink.log c.serve_piece-round.new.link) unnoted c.pieces.invariant.run kept (take c.in-Ok-read_some.count c.read_some.new.room) c.in-Ok-read_some.count c.in-Ok-read_some.ensures.count (omega (arith, c.in-Ok-read_some.ensures.bound, c.min-most.ensures)) c.in-Ok-read_some.ensures.taken stays
-    _ c.serve_piece-round.result.outcome c.serve_piece-round.result.answered c.serve_piece-round.ensures.piece c.serve_piece-round.ensures.upheld c.in-Answered.is in
+    _ c.serve_piece-round.result.outcome c.serve_piece-round.result.answered c.serve_piece-round.ensures.piece c.serve_piece-round.ensures.upheld c.in-Ok-outcome.is in
     record {
       run = run_goes g.D.Disk.images g.D.Disk.moment g.D.Disk.images_since c.args.disk.now c.serve_piece-round.new.disk _ _ _ _ _ _ _ _ _ _ passed (sym c.is_over.ensures.value ∙ c.if-is_over.false);
       below = omega (arith, within, c.if-taken-eq-LINK_LIMIT.false);
       few = omega (arith, c.pieces.invariant.few, c.serve_piece-round.ensures.few, c.in-Ok-read_some.ensures.count);
-      ready = c.serve_piece-round.ensures.ready (λ is. let answered = c.in-Answered.is in cc);
+      ready = c.serve_piece-round.ensures.ready (λ is. let answered = c.in-Ok-outcome.is in cc);
       faults = omega (arith, c.pieces.invariant.faults, c.serve_piece-round.ensures.faults);
       read_later = omega (arith, c.pieces.invariant.read_later, c.read_some.ensures.cause.later, unread);
       write_later = omega (arith, c.pieces.invariant.write_later, same, c.serve_piece-round.ensures.later);

@@ -54,7 +54,7 @@ returns-in-Err-clause-ends g c =
     let item = c.row-item.result in
     let inv = c.loop-row.invariant in
     let stops = (rw (inv.waiting, c.said_of.ensures.said) at c.in-Err.ensures.stopped) (map said_of (take i list)) _ _ inv.gathers in
-    rw c.status.ensures
+    rw c.from.ensures
     (rows_stopped g.D.Disk.images g.D.Disk.moment g.D.Disk.images_since c.args.disk.now c.loop-row.disk c.act.new.disk (map said_of list) _ _ _ _ _ inv.disk c.in-Err.stop _
     (first_rows (map said_of list) (map said_of (take i list)) (map said_of (drop (suc i) list)) (said_of item) (item_at list i item c.row-item.is c.loop-row-test.true)) stops)
 
@@ -93,7 +93,7 @@ returns-clause-ends g c =
     let list = c.args.rows.now in
     let inv = c.loop-row.invariant in
     let all = rw (take_all c.loop-row.row-index list (omega (arith, c.loop-row-test.false))) at inv.gathers in
-    rw c.status-in-Err-let_go.ensures
+    rw c.from-in-Err-let_go.ensures
     (rows_stopped g.D.Disk.images g.D.Disk.moment g.D.Disk.images_since c.args.disk.now c.loop-row.disk c.let_go.new.disk (map said_of list) _ _ _ _ _ inv.disk c.in-Err-let_go.stop (map said_of list) (λ said is. is)
     ((rw inv.waiting at c.in-Err-let_go.ensures.stopped) (map said_of list) _ _ _ all))
 

@@ -1,4 +1,4 @@
-use Rattle.serv_top.specs.Replies.{replies_to}
+use Rattle.serv_machine.specs.Sayings.{replies_to}
 use Rattle.serv_top.specs.Upheld.{AreFirst, AreSaidFirst}
 use Rattle.serv_top.proofs.WholeLemmas.{cut_off, all_written}
 use Rattle.serv_top.proofs.laws.replies_are_whole.Goals as goal

@@ -43,7 +43,7 @@ returns-in-Err-finish-clause-ends g c =
     let below : c.loop-taken.taken < input_limit = c.loop-taken-test.true in
     let none : c.in-Ok-eq0.field-0 ≡ 0 = omega (arith, c.in-Ok-eq0.field-0-test) in
     let stopped = rw c.loop-taken.invariant.waiting at c.in-Err-finish.ensures.stopped in
-    rw c.status.ensures
+    rw c.from.ensures
     (ends_at_end g.D.Disk.images g.D.Disk.moment g.D.Disk.images_since c.args.disk.now c.loop-taken.disk c.finish.new.disk run _ _ _ below
     (rw none at c.in-Ok-eq0.ensures.taken) (c.in-Ok-eq0.ensures.end none) c.loop-taken.invariant.disk c.in-Err-finish.stop (stopped run.taken _ _ run.served))
 
@@ -54,7 +54,7 @@ returns-in-Err-feed_all-clause-ends g c =
     let within : c.loop-taken.taken + n ≤ input_limit = omega (arith, c.loop-taken-test.true, c.in-Ok.ensures.bound, c.min-most.ensures) in
     let long : length (take n c.read_some.new.room) ≡ n = c.in-Ok.ensures.count in
     let stopped = rw c.loop-taken.invariant.waiting at c.in-Err-feed_all.ensures.stopped in
-    rw c.status-in-Err-feed_all.ensures
+    rw c.from-in-Err-feed_all.ensures
     (ends_at_bytes g.D.Disk.images g.D.Disk.moment g.D.Disk.images_since c.args.disk.now c.loop-taken.disk c.feed_all.new.disk run _ _ _
     (take n c.read_some.new.room) n long within c.in-Ok.ensures.taken c.loop-taken.invariant.disk c.in-Err-feed_all.stop (stopped run.taken _ _ run.served))
 

@@ -3,7 +3,7 @@ use Rattle.serv_disk.specs.Faults.{HasRisen}
 use Rattle.serv_machine.specs.Stands.{running, stand}
 use Rattle.serv_machine.proofs.OnDiskLemmas.{disk_none}
 use Rattle.serv_machine.proofs.UpheldLemmas.{upheld_wider}
-use Rattle.serv_links.specs.declared.outcome.Outcome.TheVariants as outcome
+use Rattle.serv_machine.specs.declared.faults.Stop.TheVariants as stop
 use Rattle.serv_links.specs.Answered.{AreAnswers}
 use Rattle.serv_links.specs.Responses.{response_503}
 use Rattle.serv_links.proofs.AnsweredLemmas.{answers_more}
@@ -39,7 +39,7 @@ returns-in-Ok-read-clause-disk g c =
 pub returns-in-Err-read-clause-stopped : goal.returns-in-Err-read-clause-stopped
 returns-in-Err-read-clause-stopped g c = λ done s held gathers.
     let all = (g.met.M.Machine.settled c.settle.new.machine c.settle.new.disk c.in-Ok.ensures.ready).1 in
-    one_stops (c.in-Ok.ensures.gathered done s c.args.steps.now held gathers) g.D.Disk.images g.D.Disk.moment g.D.Disk.images_since c.args.disk.now c.settle.new.disk c.settle.new.disk _ c.in-Ok.ensures.disk (Err outcome.NoMemory)
+    one_stops (c.in-Ok.ensures.gathered done s c.args.steps.now held gathers) g.D.Disk.images g.D.Disk.moment g.D.Disk.images_since c.args.disk.now c.settle.new.disk c.settle.new.disk _ c.in-Ok.ensures.disk (Err stop.OutOfMemory)
     c.settle.new.self.answered (HasRisen (g.K.Sink.faults c.settle.new.link) (g.K.Sink.faults c.write_no_memory.new.link)) (HasRisen (g.K.Sink.faults c.args.link.now) (g.K.Sink.faults c.write_no_memory.new.link)) c.args.ask.now
     (stand (g.M.Machine.kept c.settle.new.machine) c.args.steps.now) (g.K.Sink.held c.write_no_memory.new.link) refl
     (risen_last (g.K.Sink.faults c.args.link.now) (g.K.Sink.faults c.settle.new.link) (g.K.Sink.faults c.write_no_memory.new.link) c.settle.ensures.later c.write_no_memory.ensures.later)

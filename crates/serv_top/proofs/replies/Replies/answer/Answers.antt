@@ -1,7 +1,9 @@
 use Rattle.std.proofs.Common.{refl}
 use Rattle.serv_machine.specs.declared.faults.Halt.TheVariants as halt
 use Rattle.serv_machine.proofs.OnDiskLemmas.{disk_none}
-use Rattle.serv_top.specs.declared.said.Said.TheVariants.{Faulty, Unfit}
+use Rattle.serv_line.specs.Replies.{text_of_bad}
+use Rattle.serv_rows.specs.Texts.{text_of_bad_row}
+use Rattle.serv_machine.specs.Sayings.{telling}
 use Rattle.serv_top.proofs.ResultLemmas.{ok_unless}
 use Rattle.serv_top.proofs.RequestLemmas.{idle_replied, idle_starved, request_halted, request_replied}
 use Rattle.serv_top.proofs.replies.Replies.answer.Goals as goal
@@ -24,7 +26,7 @@ returns-in-Asks-clause-running g c = ok_unless c.answer_request.result halt.Disk
 
 pub returns-in-Ok-clause-replied : goal.returns-in-Ok-clause-replied
 returns-in-Ok-clause-replied g c =
-    rw c.in-Faulty.is (idle_replied (Faulty c.in-Faulty.place) _ _ _ _ c.in-Ok.ensures.pushed refl refl (g.met.M.Machine.settled c.args.machine.now c.args.disk.now c.requires.ready).1)
+    rw c.in-Faulty.is (idle_replied (telling (text_of_bad c.in-Faulty.place)) _ _ _ _ c.in-Ok.ensures.pushed refl refl (g.met.M.Machine.settled c.args.machine.now c.args.disk.now c.requires.ready).1)
 
 pub returns-in-Ok-clause-disk : goal.returns-in-Ok-clause-disk
 returns-in-Ok-clause-disk g c =
@@ -36,12 +38,12 @@ returns-in-Ok-clause-running g c = (g.met.M.Machine.settled c.args.machine.now c
 
 pub returns-in-Err-clause-halts : goal.returns-in-Err-clause-halts
 returns-in-Err-clause-halts g c =
-    rw c.in-Faulty.is (idle_starved g.D.Disk.images g.D.Disk.moment g.D.Disk.images_since c.args.disk.now (Faulty c.in-Faulty.place) _ (g.met.M.Machine.settled c.args.machine.now c.args.disk.now c.requires.ready).1
+    rw c.in-Faulty.is (idle_starved g.D.Disk.images g.D.Disk.moment g.D.Disk.images_since c.args.disk.now (telling (text_of_bad c.in-Faulty.place)) _ (g.met.M.Machine.settled c.args.machine.now c.args.disk.now c.requires.ready).1
     (g.met.M.Machine.keeps c.args.machine.now c.args.disk.now c.requires.ready) (g.met.D.Disk.only_now c.args.disk.now))
 
 pub returns-in-Ok-push_bad_row-clause-replied : goal.returns-in-Ok-push_bad_row-clause-replied
 returns-in-Ok-push_bad_row-clause-replied g c =
-    rw c.in-Unfit.is (idle_replied (Unfit c.in-Unfit.row c.in-Unfit.column) _ _ _ _ c.in-Ok-push_bad_row.ensures.pushed refl refl (g.met.M.Machine.settled c.args.machine.now c.args.disk.now c.requires.ready).1)
+    rw c.in-Unfit.is (idle_replied (telling (text_of_bad_row c.in-Unfit.row c.in-Unfit.column)) _ _ _ _ c.in-Ok-push_bad_row.ensures.pushed refl refl (g.met.M.Machine.settled c.args.machine.now c.args.disk.now c.requires.ready).1)
 
 pub returns-in-Ok-push_bad_row-clause-disk : goal.returns-in-Ok-push_bad_row-clause-disk
 returns-in-Ok-push_bad_row-clause-disk g c =
@@ -53,5 +55,5 @@ returns-in-Ok-push_bad_row-clause-running g c = (g.met.M.Machine.settled c.args.
 
 pub returns-in-Err-push_bad_row-clause-halts : goal.returns-in-Err-push_bad_row-clause-halts
 returns-in-Err-push_bad_row-clause-halts g c =
-    rw c.in-Unfit.is (idle_starved g.D.Disk.images g.D.Disk.moment g.D.Disk.images_since c.args.disk.now (Unfit c.in-Unfit.row c.in-Unfit.column) _ (g.met.M.Machine.settled c.args.machine.now c.args.disk.now c.requires.ready).1
+    rw c.in-Unfit.is (idle_starved g.D.Disk.images g.D.Disk.moment g.D.Disk.images_since c.args.disk.now (telling (text_of_bad_row c.in-Unfit.row c.in-Unfit.column)) _ (g.met.M.Machine.settled c.args.machine.now c.args.disk.now c.requires.ready).1
     (g.met.M.Machine.keeps c.args.machine.now c.args.disk.now c.requires.ready) (g.met.D.Disk.only_now c.args.disk.now))

@@ -1,0 +1,101 @@
+-- What is said in order, and a command that is fresh, which is one more and the next one of a history that goes on.
+use Rattle.std.proofs.Common.{◌≡◌, ◌+◌, ◌≤◌, List, [], ◌∷◌, ◌++◌, refl, sym, ap, ◌∙◌, arith, append-nil, append_assoc}
+use Rattle.std.specs.Prelude.{Option, Some, None}
+use Rattle.svc_types.specs.declared.requests.Request.{Request}
+use Rattle.svc_types.specs.declared.requests.Request.TheVariants as request
+use Rattle.svc_world.specs.World.{Accepted, accepted}
+use Rattle.serv_machine.specs.History.{History, Decision, Kept, Refused, Full, Fresh, after_decision, decided}
+use Rattle.serv_machine.specs.Replies.{history_after_request}
+use Rattle.serv_machine.specs.Stands.{Stand}
+use Rattle.serv_machine.specs.Sayings.{Saying, after_asked, commands_asked, IsAppended, reply_to, history_after, bound_of, commands_of, IsFresh, history_after_all, replies_to, bound_of_all, MovesAll}
+use Rattle.serv_machine.proofs.NextLemmas.{next_is as it_is_next}
+
+-- ---- one list after another
+
+pub history_after_all-append : (h : History) (saids more : List Saying) → history_after_all h (saids ++ more) ≡ history_after_all (history_after_all h saids) more
+history_after_all-append h [] more = refl
+history_after_all-append h (said ∷ saids) more = history_after_all-append (history_after h said) saids more
+
+pub replies_to-append : (h : History) (saids more : List Saying) → replies_to h (saids ++ more) ≡ replies_to h saids ++ replies_to (history_after_all h saids) more
+replies_to-append h [] more = refl
+replies_to-append h (said ∷ saids) more = ap (λ text. reply_to h said ++ text) (replies_to-append (history_after h said) saids more) ∙ sym (append_assoc (reply_to h said) _ _)
+
+pub bound_of_all-append : (h : History) (saids more : List Saying) → bound_of_all h (saids ++ more) ≡ bound_of_all h saids + bound_of_all (history_after_all h saids) more
+bound_of_all-append h [] more = omega arith
+bound_of_all-append h (said ∷ saids) more =
+    let rest = bound_of_all-append (history_after h said) saids more in
+    omega (arith, rest)
+
+pub moves_all-append : (saids more : List Saying) (s mid s' : Stand) → MovesAll saids s mid → MovesAll more mid s' → MovesAll (saids ++ more) s s'
+moves_all-append saids more s mid s' first second = (
+  second.0 ∙ (ap (λ h. history_after_all h more) first.0 ∙ sym (history_after_all-append s.history saids more)),
+  (let both = bound_of_all-append s.history saids more in
+      let same : bound_of_all mid.history more ≡ bound_of_all (history_after_all s.history saids) more = ap (λ h. bound_of_all h more) first.0 in
+      let a : mid.steps ≤ s.steps + bound_of_all s.history saids = first.1 in
+      let b : s'.steps ≤ mid.steps + bound_of_all mid.history more = second.1 in
+      omega arith),
+)
+
+-- one thing more
+pub replies_to-push : (h : History) (saids : List Saying) (said : Saying) → replies_to h (saids ++ said ∷ []) ≡ replies_to h saids ++ reply_to (history_after_all h saids) said
+replies_to-push h saids said = replies_to-append h saids (said ∷ []) ∙ ap (λ text. replies_to h saids ++ text) (append-nil (reply_to (history_after_all h saids) said))
+
+pub bound_of_all-push : (h : History) (saids : List Saying) (said : Saying) → bound_of_all h (saids ++ said ∷ []) ≡ bound_of_all h saids + bound_of (history_after_all h saids) said
+bound_of_all-push h saids said =
+    let both = bound_of_all-append h saids (said ∷ []) in
+    omega (arith, both)
+
+-- ---- where commands are kept stays the same
+
+store_decided : (h : History) (a : Accepted) (d : Decision) → (after_decision h a d).store ≡ h.store
+store_decided h a (Kept reply) = refl
+store_decided h a (Refused why) = refl
+store_decided h a (Full bytes) = refl
+store_decided h a Fresh = refl
+
+store_asked : (h : History) (asks : Option Request) → (after_asked h asks).store ≡ h.store
+unfolding history_after_request
+store_asked h None = refl
+store_asked h (Some (request.Do key c)) = store_decided h (accepted key c) (decided h key c)
+store_asked h (Some (request.Ask q)) = refl
+
+pub store_after : (h : History) (said : Saying) → (history_after h said).store ≡ h.store
+store_after h said = store_asked h said.request
+
+pub store_after_all : (h : History) (saids : List Saying) → (history_after_all h saids).store ≡ h.store
+store_after_all h [] = refl
+store_after_all h (said ∷ saids) = store_after_all (history_after h said) saids ∙ store_after h said
+
+-- ---- a command that is fresh
+
+appended_grows : (h : History) (asks : Option Request) → IsAppended h asks → (after_asked h asks).commands ≡ h.commands ++ commands_asked asks
+unfolding history_after_request
+appended_grows h None is = absurd is
+appended_grows h (Some (request.Do key c)) is = ap (λ (d : Decision). (after_decision h (accepted key c) d).commands) is
+appended_grows h (Some (request.Ask q)) is = absurd is
+
+pub fresh_grows : (h : History) (said : Saying) → IsFresh h said → (history_after h said).commands ≡ h.commands ++ commands_of said
+fresh_grows h said is = appended_grows h said.request is
+
+-- it is one command
+pub record IsSingle (list : List Accepted) : Type 0 where
+  pub one : Accepted
+  pub is : list ≡ one ∷ []
+
+appended_one : (h : History) (asks : Option Request) → IsAppended h asks → IsSingle (commands_asked asks)
+appended_one h None is = absurd is
+appended_one h (Some (request.Do key c)) is = record { one = accepted key c; is = refl }
+appended_one h (Some (request.Ask q)) is = absurd is
+
+pub fresh_one : (h : History) (said : Saying) → IsFresh h said → IsSingle (commands_of said)
+fresh_one h said is = appended_one h said.request is
+
+-- where one command and others follow, it is the next
+pub next_is : (kept list more rest : List Accepted) (next : Accepted) → IsSingle list → (kept ++ list) ++ more ≡ kept ++ next ∷ rest → next ∷ [] ≡ list
+next_is kept list more rest next only is =
+    let same : next ≡ only.one = it_is_next kept more rest only.one next (ap (λ x. (kept ++ x) ++ more) (sym only.is) ∙ is) in
+    ap (λ x. x ∷ []) same ∙ sym only.is
+
+-- where nothing follows
+pub next_alone : (kept list rest : List Accepted) (next : Accepted) → IsSingle list → kept ++ list ≡ kept ++ next ∷ rest → next ∷ [] ≡ list
+next_alone kept list rest next only is = next_is kept list [] rest next only (append-nil (kept ++ list) ∙ is)
