@@ -1,7 +1,6 @@
 pub mod Meanings
 pub mod Responses
 pub mod Outcomes
-pub mod Verdicts
 pub mod Gathered
 pub mod Answered
 pub mod Links

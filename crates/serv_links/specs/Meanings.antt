@@ -1,5 +1,5 @@
 -- What the requests of a connection mean to the books.
-use Rattle.std.specs.Prelude.{◌≡◌, ℕ, List, [], ◌∷◌, Bool, false, ◌==◌, Option, None, is_some, ⊤}
+use Rattle.std.specs.Prelude.{◌≡◌, ℕ, List, [], ◌∷◌, false, ◌==◌, Option, None, is_some, ⊤}
 use Rattle.svc_types.specs.Requests.{IsQuery, IsRequest}
 use Rattle.svc_types.specs.declared.requests.Request.{Request}
 use Rattle.svc_types.specs.declared.requests.Request.TheVariants as request
@@ -49,8 +49,3 @@ IsAsk (Fault status last allow) = IsFault status allow
 abbrev pub IsFormed : Meaning → Type 0
 IsFormed (Asks r ends) = IsRequest r
 IsFormed (Faulty status ends allow) = IsFault status allow
-
--- whether the connection ends after the response
-abbrev pub ends_of : Meaning → Bool
-ends_of (Asks r ends) = ends
-ends_of (Faulty status ends allow) = ends

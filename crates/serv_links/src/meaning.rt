@@ -1,8 +1,8 @@
 //! What a request of a connection means to the books.
 
-ghost use Rattle.std.specs.Prelude.{◌≡◌, IfOk, IfSome};
+ghost use Rattle.std.specs.Prelude.{IfOk, IfSome};
 ghost use Rattle.svc_types.specs.Requests.{IsCommand};
-ghost use Rattle.serv_links.specs.Meanings.{IsAsk, IsFormed, Means, ends_of};
+ghost use Rattle.serv_links.specs.Meanings.{IsAsk, IsFormed, Means};
 
 use serv_http::{Allow, Ask};
 use serv_json::{JsonFault, read_json};
@@ -17,18 +17,6 @@ pub enum Meaning {
     Asks(Request, bool),
     /// A fault of HTTP: its status, with the route's method where it is 405.
     Faulty(u16, bool, Option<Allow>),
-}
-
-impl Meaning {
-    /// Whether the connection ends after the response.
-    pub(crate) fn ends(&self) -> bool
-        ensures { result ≡ ends_of self.now }
-    {
-        match self {
-            Meaning::Asks(_, ends) => *ends,
-            Meaning::Faulty(_, ends, _) => *ends,
-        }
-    }
 }
 
 /// Reads what a request means. Errs only where memory is short.

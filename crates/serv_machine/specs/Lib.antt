@@ -1,4 +1,5 @@
 pub mod History
+pub mod Verdicts
 pub mod Replies
 pub mod Stages
 pub mod Stands

@@ -1,22 +1,17 @@
 -- What a machine says to a request, what it holds after it, and how many steps it may take.
-use Rattle.std.specs.Prelude.{◌≡◌, ℕ, List, [], ◌∷◌, Option, Some, None, ⊤}
+use Rattle.std.specs.Prelude.{◌≡◌, ℕ, List, [], ◌∷◌, ⊤}
 use Rattle.svc_types.specs.declared.requests.Command.{Command}
 use Rattle.svc_types.specs.declared.requests.Request.{Request}
 use Rattle.svc_types.specs.declared.requests.Request.TheVariants as request
 use Rattle.svc_types.specs.declared.replies.Reply.{Reply}
-use Rattle.svc_types.specs.declared.replies.Refusal.{Refusal}
-use Rattle.serv_line.specs.Replies.{text_of_reply, text_of_full}
-use Rattle.serv_line.specs.Refusals.{text_of_refusal}
-use Rattle.serv_report.specs.AnswerTexts.{text_of_answer}
 use Rattle.svc_core.specs.Bound.{step_bound, query_bound}
-use Rattle.svc_world.specs.declared.answer.Answer.{Answer}
 use Rattle.svc_world.specs.World.{Accepted, accepted, world}
 use Rattle.svc_world.specs.Judging.{next_reply}
-use Rattle.svc_world.specs.Answers.{answer_to, query_refusal}
 use Rattle.serv_disk.specs.Faults.{HasRisen}
 use Rattle.serv_machine.specs.declared.faults.ActFault.{ActFault}
 use Rattle.serv_machine.specs.declared.faults.ActFault.TheVariants as fault
 use Rattle.serv_machine.specs.History.{History, Decision, Kept, Refused, Full, Fresh, decided, after_decision}
+use Rattle.serv_machine.specs.Verdicts.{verdict_to, text_in}
 
 -- ---- a command
 
@@ -42,24 +37,8 @@ IsFaultBy d old new fault.OutOfMemory = IsUnsaid d
 
 -- ---- the text of the reply
 
--- to a command: the reply that was given to it, the first rule that refuses it, that the journal is full, or the reply to
--- the next command
-abbrev pub text_of_decision : History → Command → Decision → List ℕ
-text_of_decision h c (Kept reply) = text_of_reply reply
-text_of_decision h c (Refused why) = text_of_refusal why
-text_of_decision h c (Full bytes) = text_of_full bytes
-text_of_decision h c Fresh = text_of_reply (next_reply h.commands c)
-
--- to a query: the first rule that refuses it, or its answer; one that is not refused has an answer
-abbrev pub text_of_asked : Option Refusal → Option Answer → List ℕ
-text_of_asked (Some why) answer = text_of_refusal why
-text_of_asked None (Some answer) = text_of_answer answer
-text_of_asked None None = []
-
 unfoldable pub reply_to_request : History → Request → List ℕ
-reply_to_request h (request.Do key c) = text_of_decision h c (decided h key c)
-reply_to_request h (request.Ask q) =
-    text_of_asked (query_refusal h.commands q) (answer_to h.commands q)
+reply_to_request h r = text_in (verdict_to h r)
 
 -- ---- what is held after it
 

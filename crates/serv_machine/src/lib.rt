@@ -8,9 +8,11 @@ mod in_memory;
 mod machine;
 mod nowhere;
 mod over_journal;
+mod verdict;
 
-pub use answering::answer_request;
+pub use answering::{answer_request, decide, decide_query};
 pub use faults::{ActFault, Halt, Stop};
 pub use frugal::Frugal;
 pub use machine::Machine;
 pub use nowhere::Nowhere;
+pub use verdict::{Verdict, push_verdict};

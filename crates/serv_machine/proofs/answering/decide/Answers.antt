@@ -1,7 +1,5 @@
-use Rattle.std.proofs.Common.{refl}
 use Rattle.serv_machine.proofs.OnDiskLemmas.{disk_none}
-use Rattle.serv_links.specs.Verdicts.{response_of}
-use Rattle.serv_links.proofs.deciding.decide.Goals as goal
+use Rattle.serv_machine.proofs.answering.decide.Goals as goal
 
 pub returns-in-Ok-clause-disk : goal.returns-in-Ok-clause-disk
 returns-in-Ok-clause-disk g c = λ other.
@@ -10,14 +8,5 @@ returns-in-Ok-clause-disk g c = λ other.
 
 pub returns-in-Err-clause-disk : goal.returns-in-Err-clause-disk
 returns-in-Err-clause-disk g c = λ other.
-    disk_none g.D.Disk.images g.D.Disk.moment g.D.Disk.images_since c.args.disk.now _ _ (g.met.M.Machine.settled c.args.machine.now c.args.disk.now c.requires.ready).1
-    (g.met.M.Machine.keeps c.args.machine.now c.args.disk.now c.requires.ready) (g.met.D.Disk.only_now c.args.disk.now)
-
-pub returns-in-Faulty-clause-response : goal.returns-in-Faulty-clause-response
-unfolding response_of
-returns-in-Faulty-clause-response g c = rw c.in-Faulty.is refl
-
-pub returns-in-Faulty-clause-disk : goal.returns-in-Faulty-clause-disk
-returns-in-Faulty-clause-disk g c = λ other.
     disk_none g.D.Disk.images g.D.Disk.moment g.D.Disk.images_since c.args.disk.now _ _ (g.met.M.Machine.settled c.args.machine.now c.args.disk.now c.requires.ready).1
     (g.met.M.Machine.keeps c.args.machine.now c.args.disk.now c.requires.ready) (g.met.D.Disk.only_now c.args.disk.now)
