@@ -1,7 +1,7 @@
 -- A run over a journal: what stands where it was opened, and where it was not.
 use Rattle.std.proofs.Common.{◌≡◌, ◌⊎◌, ℕ, ◌+◌, ◌-◌, ◌<◌, ◌≤◌, List, [], ◌∷◌, ◌++◌, length, refl, ap, subst, ◌∙◌, inl, inr, ⊎_elim, arith}
 use Rattle.std.specs.Prelude.{Option, Some}
-use Rattle.svc_world.specs.World.{Accepted, accepted}
+use Rattle.svc_world.specs.World.{Accepted}
 use Rattle.svc_world.specs.Judging.{IsHistory}
 use Rattle.serv_disk.specs.Disks.{Each}
 use Rattle.serv_disk.specs.Faults.{HasRisen}
@@ -14,7 +14,7 @@ use Rattle.serv_engine.specs.Engines.{EngineState, IsDurable}
 use Rattle.serv_engine.specs.Opening.{IsFound, IsPassing, IsOpenFault, IsOpenCause, history_bound}
 use Rattle.serv_engine.proofs.GoodLemmas.{good_journal, good_undamaged}
 use Rattle.serv_engine.proofs.LengthLemmas.{journal_base}
-use Rattle.serv_machine.specs.History.{History, Store, Refused, in_journal}
+use Rattle.serv_machine.specs.History.{History, Store, in_journal}
 use Rattle.serv_machine.specs.Engines.{history_of}
 use Rattle.serv_machine.specs.EngineLaws.{durable_whole}
 use Rattle.serv_machine.specs.OnDisk.{OnDisk}
@@ -27,7 +27,7 @@ use Rattle.serv_machine.specs.Sayings.{Saying, history_after_all, MovesAll}
 use Rattle.serv_machine.proofs.SayingLemmas.{store_after, store_after_all}
 use Rattle.serv_top.specs.Replies.{IsBegun, IsCutIn, IsHeldUp, IsMaybeNext}
 use Rattle.serv_top.specs.Outcome.{Ended, Ends, IsOutput, input_limit}
-use Rattle.serv_top.specs.Stop.{status_of_fault}
+use Rattle.serv_top.specs.Status.{status_of_fault}
 use Rattle.serv_top.specs.Journal.{KeepsGood, IsCause, IsOnly, IsUnopened, IsOpened, IsRunOver, IsApplied, journal_limit}
 use Rattle.serv_top.specs.Lines.{lines_of}
 use Rattle.serv_top.specs.Upheld.{AreSaidFirst, IsAcknowledged}

@@ -27,7 +27,7 @@ use Rattle.serv_rows.specs.Texts.{text_of_bad_row}
 use Rattle.serv_top.specs.Replies.{IsStopped}
 use Rattle.serv_top.specs.Serving.{Gathered, Stops}
 use Rattle.serv_top.specs.Outcome.{input_limit}
-use Rattle.serv_top.specs.Stop.{status_of}
+use Rattle.serv_top.specs.Status.{status_of}
 use Rattle.serv_top.specs.Upheld.{AreFirst, IsAcknowledged}
 use Rattle.serv_top.specs.Imported.{AreFirstIn, FileSays, said_of, IsRow, AreRows, IsRowsOutput, RowsEnd, IsUnread, rows, headless, FileEnds, Imports, ImportEnds, IsImported}
 use Rattle.serv_top.specs.Journal.{IsOpened, IsUnopened, journal_limit}

@@ -12,14 +12,13 @@ pub mod SoundLemmas
 pub mod RoomLemmas
 pub mod Running
 pub mod Applied
-pub mod ShownLemmas
 pub mod WrittenLemmas
 pub mod WordLemmas
 pub mod ImportLemmas
-pub mod ReviewLemmas
+pub mod TextLemmas
 pub mod LinksLemmas
 pub mod FeedLemmas
-pub mod ExtractLemmas
+pub mod TakenOnLemmas
 pub mod AskLemmas
 pub mod AnsweredLemmas
 pub mod GoingLemmas

@@ -18,7 +18,7 @@ use Rattle.serv_machine.specs.Stands.{Stand, stand, Running}
 use Rattle.serv_top.specs.Replies.{Answers}
 use Rattle.serv_top.specs.Serving.{AllServed, Served, Stopped, Stops}
 use Rattle.serv_top.specs.Upheld.{Say, AreSaidFirst}
-use Rattle.serv_top.specs.Stop.{status_of}
+use Rattle.serv_top.specs.Status.{status_of}
 use Rattle.serv_top.specs.Outcome.{Ended, Ends, Ran, input_limit}
 use Rattle.serv_top.proofs.ServedLemmas.{served_none}
 use Rattle.serv_top.proofs.SoundLemmas.{nothing_sound, begun_sound}

@@ -5,8 +5,7 @@ use Rattle.serv_machine.specs.History.{History}
 use Rattle.serv_machine.specs.Stands.{Stand}
 use Rattle.serv_machine.specs.Sayings.{Saying, reply_to, history_after_all, replies_to, bound_of_all}
 use Rattle.serv_machine.proofs.SayingLemmas.{replies_to-push}
-use Rattle.serv_top.specs.Replies.{before_last, IsCutIn}
-use Rattle.serv_top.specs.Whole.{IsCutOff}
+use Rattle.serv_top.specs.Replies.{before_last, IsCutIn, IsCutOff}
 
 -- the last of what is said
 record LastOf (saids : List Saying) : Type 0 where
@@ -57,12 +56,16 @@ cut_off First s s' written c =
     let few : length (replies_to s.history front) ≤ length written = omega (arith, c.late) in
     let a = ahead (replies_to s.history front) (reply_to (history_after_all s.history front) end.last) written c.cut.rest text few in
     record {
-      answered = front;
-      next = end.last;
-      first = subst First end.saids_are c.first;
-      after = c.after ∙ ap (history_after_all s.history) end.saids_are;
-      cost = subst (λ ss. s'.steps ≤ s.steps + bound_of_all s.history ss) end.saids_are c.cost;
-      part = a.part;
-      text = a.text;
-      partial = record { rest = c.cut.rest; some = c.cut.some; joined = a.left };
+      at = record {
+        said = front;
+        last = end.last;
+        first = subst First end.saids_are c.first;
+        part = a.part;
+        text = a.text;
+        partial = record { rest = c.cut.rest; some = c.cut.some; joined = a.left };
+      };
+      moved = (
+        c.after ∙ ap (history_after_all s.history) end.saids_are,
+        subst (λ ss. s'.steps ≤ s.steps + bound_of_all s.history ss) end.saids_are c.cost,
+      );
     }

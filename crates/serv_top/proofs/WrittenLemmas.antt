@@ -1,23 +1,20 @@
 -- A text that is written over a journal.
-use Rattle.std.proofs.Common.{◌≡◌, ◌⊎◌, ℕ, ◌≤◌, List, [], ◌∷◌, ◌++◌, length, take, refl, sym, ap, ◌∙◌, subst, inl, inr, ⊎_elim}
+use Rattle.std.proofs.Common.{◌≡◌, ℕ, ◌≤◌, List, [], length, take, refl, sym, ap, ◌∙◌, subst, inl, inr, ⊎_elim}
 use Rattle.std.specs.List.{flat_map}
 use Rattle.std.proofs.lemmas.List.{take_all}
 use Rattle.std.proofs.lemmas.List.Folds.{flat_map-map}
-use Rattle.std.specs.Prelude.{Option, Some}
+use Rattle.std.specs.Prelude.{Option}
 use Rattle.std.proofs.KnownBytes.{Appends-nil}
 use Rattle.svc_types.specs.declared.requests.Command.{Command}
 use Rattle.svc_world.specs.World.{Accepted, accepted}
-use Rattle.svc_world.specs.Judging.{IsHistory}
 use Rattle.svc_core.specs.Posted.{history_of}
-use Rattle.serv_disk.specs.Faults.{HasRisen, IsProperPrefix}
+use Rattle.serv_disk.specs.Faults.{IsProperPrefix}
 use Rattle.serv_line.specs.Replies.{ended}
-use Rattle.serv_engine.specs.Histories.{IsGoodFound, line_of_command}
+use Rattle.serv_engine.specs.Histories.{line_of_command}
 use Rattle.serv_top.specs.declared.status.Status.{Status}
 use Rattle.serv_top.specs.declared.status.Status.TheVariants as status
-use Rattle.serv_top.specs.Journal.{IsUnopened}
-use Rattle.serv_top.specs.Written.{IsTextOver, IsWrittenAs, Writes}
-use Rattle.serv_top.specs.Extracts.{lines_of_commands}
-use Rattle.serv_top.proofs.Applied.{unopened_ends}
+use Rattle.serv_top.specs.Written.{IsWrittenAs, Writes}
+use Rattle.serv_top.specs.TakenOn.{lines_of_commands}
 use Rattle.serv_top.specs.Ends.{Completes, Finishes}
 
 -- all lines of a list of commands
@@ -50,13 +47,3 @@ written_finishes other T written calm says = absurd says
 
 pub written_ends : (st : Status) (T : List ℕ → Type 0) (written : List ℕ) → (st ≡ status.WriteFault → ⊥) → IsWrittenAs st T written → Completes st
 written_ends st T written calm says = ⊎_elim (λ done. inl done) (λ short. inr (inl short)) (written_finishes st T written calm says)
-
-pub complete_text : {D A : Type 0} (seen : D → Option (List ℕ)) (images : D → List ℕ → Type 0) (moment : D → ℕ) (images_since : D → ℕ → List ℕ → Type 0) (faults : D → ℕ) (old new : D) (st : Status)
-    (bound : List Accepted → ℕ) (T : List Accepted → ℕ → List ℕ → Type 0) (steps steps' : ℕ) (held held' : Option (List ℕ)) (s : List ℕ) (h : List Accepted) (a : Accepted)
-    → seen old ≡ Some s → IsHistory (h ++ a ∷ []) → IsGoodFound h a s → (st ≡ status.WriteFault → ⊥) → (HasRisen (faults old) (faults new) → ⊥)
-    → (IsUnopened seen images moment images_since faults old new st steps steps' × A) ⊎ IsTextOver seen images moment images_since old new bound (λ c base. Writes st (T c base) held held') steps steps' → Completes st
-complete_text {D} seen images moment images_since faults old new st bound T steps steps' held held' s h a told is_history good writes calm which =
-    ⊎_elim
-    (λ closed. unopened_ends st s h a (faults old) (faults new) (seen old) told is_history good closed.0.cause calm)
-    (λ over. written_ends st (T over.commands over.base) over.wrote.written writes over.wrote.says)
-    which

@@ -1,6 +1,5 @@
 -- How a run ends where nothing fails, by what the words ask for.
-use Rattle.std.specs.Prelude.{◌≡◌, ◌⊎◌, ℕ, ◌<◌, List, [], ◌∷◌, ◌++◌, length, Option, Some, ⊤}
-use Rattle.svc_types.specs.declared.requests.Query.{Query}
+use Rattle.std.specs.Prelude.{◌≡◌, ◌⊎◌, ℕ, ◌<◌, List, [], ◌∷◌, ◌++◌, length, true, Option, Some, ⊤}
 use Rattle.svc_world.specs.World.{Accepted}
 use Rattle.svc_world.specs.Judging.{IsHistory}
 use Rattle.serv_disk.specs.Disks.{Each}
@@ -8,33 +7,30 @@ use Rattle.serv_engine.specs.Histories.{IsGoodFound}
 use Rattle.serv_top.specs.declared.status.Status.{Status}
 use Rattle.serv_top.specs.declared.status.Status.TheVariants.{Done, AlreadyThere, NoReport, OutOfMemory, JournalFull}
 use Rattle.serv_top.specs.declared.words.Task.{Task}
-use Rattle.serv_top.specs.declared.words.Task.TheVariants.{Init, Apply, Session, Import, Show, Drill, Serve, Review}
+use Rattle.serv_top.specs.declared.words.Task.TheVariants.{Init, Apply, Session, Import, Write, Drill, Serve}
+use Rattle.serv_top.specs.declared.texts.Text.TheVariants.{Show, Ask}
 use Rattle.serv_top.specs.Outcome.{input_limit}
+use Rattle.serv_top.specs.Texts.{reads_input}
 use Rattle.serv_top.specs.Words.{task_in, IsAsking}
 
--- what words ask for: a task, or the reply to a query
-pub data Order : Type 0 where
-  Does : Task → Order
-  Asks : Query → Order
-
--- these words ask for it
-abbrev pub IsGiven : List (List ℕ) → Order → Type 0
-IsGiven words (Does task) = task_in words ≡ Some task
-IsGiven words (Asks q) = IsAsking words q
+-- these words ask for it; any query is asked by its own words
+abbrev pub IsGiven : List (List ℕ) → Task → Type 0
+IsGiven words (Write (Ask q)) = IsAsking words q
+IsGiven words other = task_in words ≡ Some other
 
 -- the journal is opened for it
-abbrev pub IsOverJournal : Order → Type 0
-IsOverJournal (Does Init) = ⊥
-IsOverJournal (Does Session) = ⊥
-IsOverJournal (Does (Drill loans number)) = ⊥
+abbrev pub IsOverJournal : Task → Type 0
+IsOverJournal Init = ⊥
+IsOverJournal Session = ⊥
+IsOverJournal (Drill loans number) = ⊥
 IsOverJournal other = ⊤
 
 -- the input is read for it
-abbrev pub ReadsInput : Order → Type 0
-ReadsInput (Does Session) = ⊤
-ReadsInput (Does Apply) = ⊤
-ReadsInput (Does Import) = ⊤
-ReadsInput (Does (Review x)) = ⊤
+abbrev pub ReadsInput : Task → Type 0
+ReadsInput Session = ⊤
+ReadsInput Apply = ⊤
+ReadsInput Import = ⊤
+ReadsInput (Write text) = reads_input text ≡ true
 ReadsInput other = ⊥
 
 -- the input is told, and shorter than the limit
@@ -53,15 +49,14 @@ pub record IsGoodDisk (seen : Option (List ℕ)) (images : List ℕ → Type 0) 
   pub good : Each images (IsGoodFound commands next)
 
 -- its input is short, its disk is good, and of what it reads, writes, keeps or waits for nothing has failed
-abbrev pub IsUndisturbed : Order → Option (List ℕ) → Option (List ℕ) → (List ℕ → Type 0) → Type 0 → Type 0 → Type 0 → Type 0 → Type 0
-IsUndisturbed (Does Init) left seen images reads writes disks nets = ¬ disks
-IsUndisturbed (Does Session) left seen images reads writes disks nets = IsShort left × (¬ reads) × (¬ writes)
-IsUndisturbed (Does (Drill loans number)) left seen images reads writes disks nets = ¬ writes
-IsUndisturbed (Does Apply) left seen images reads writes disks nets = IsShort left × IsGoodDisk seen images × (¬ reads) × (¬ writes) × (¬ disks)
-IsUndisturbed (Does Import) left seen images reads writes disks nets = IsShort left × IsGoodDisk seen images × (¬ reads) × (¬ writes) × (¬ disks)
-IsUndisturbed (Does (Review x)) left seen images reads writes disks nets = IsShort left × IsGoodDisk seen images × (¬ reads) × (¬ writes) × (¬ disks)
-IsUndisturbed (Does (Serve port most)) left seen images reads writes disks nets = IsGoodDisk seen images × (¬ writes) × (¬ disks) × (¬ nets)
-IsUndisturbed other left seen images reads writes disks nets = IsGoodDisk seen images × (¬ writes) × (¬ disks)
+abbrev pub IsUndisturbed : Task → Option (List ℕ) → Option (List ℕ) → (List ℕ → Type 0) → Type 0 → Type 0 → Type 0 → Type 0 → Type 0
+IsUndisturbed Init left seen images reads writes disks nets = ¬ disks
+IsUndisturbed Session left seen images reads writes disks nets = IsShort left × (¬ reads) × (¬ writes)
+IsUndisturbed (Drill loans number) left seen images reads writes disks nets = ¬ writes
+IsUndisturbed (Serve port most) left seen images reads writes disks nets = IsGoodDisk seen images × (¬ writes) × (¬ disks) × (¬ nets)
+IsUndisturbed (Write text) left seen images reads writes disks nets =
+    (reads_input text ≡ true → IsShort left × (¬ reads)) × IsGoodDisk seen images × (¬ writes) × (¬ disks)
+IsUndisturbed other left seen images reads writes disks nets = IsShort left × IsGoodDisk seen images × (¬ reads) × (¬ writes) × (¬ disks)
 
 -- it is done, or memory was short; over a journal it may also be one that cannot be written anew
 abbrev pub Finishes : Status → Type 0
@@ -71,9 +66,9 @@ abbrev pub Completes : Status → Type 0
 Completes status = (status ≡ Done) ⊎ ((status ≡ OutOfMemory) ⊎ ((bytes : ℕ) × (status ≡ JournalFull bytes)))
 
 -- how it may end then
-abbrev pub MayEnd : Order → Status → Type 0
-MayEnd (Does Init) status = (status ≡ Done) ⊎ (status ≡ AlreadyThere)
-MayEnd (Does Session) status = Finishes status
-MayEnd (Does (Drill loans number)) status = Finishes status
-MayEnd (Does (Show q)) status = Completes status ⊎ ((last : Option ℕ) × (status ≡ NoReport last))
+abbrev pub MayEnd : Task → Status → Type 0
+MayEnd Init status = (status ≡ Done) ⊎ (status ≡ AlreadyThere)
+MayEnd Session status = Finishes status
+MayEnd (Drill loans number) status = Finishes status
+MayEnd (Write (Show q)) status = Completes status ⊎ ((last : Option ℕ) × (status ≡ NoReport last))
 MayEnd other status = Completes status

@@ -1,54 +1,51 @@
--- Texts that are made of a journal's commands.
-use Rattle.std.specs.Prelude.{◌≡◌, ℕ, ◌+◌, ◌≤◌, List, [], ◌∷◌, ◌++◌, Option}
-use Rattle.std.specs.List.{flat_map}
-use Rattle.svc_world.specs.World.{Accepted, world}
-use Rattle.svc_world.specs.Judging.{next_reply}
-use Rattle.serv_line.specs.Replies.{ended, text_of_reply}
-use Rattle.serv_engine.specs.Histories.{line_of_command, lengths_of}
-use Rattle.serv_machine.specs.History.{Store, Memory, Journal}
+-- Texts that are made of a journal's commands, and of the input where they are about it.
+use Rattle.std.specs.Prelude.{◌≡◌, ℕ, ◌≤◌, Bool, true, false, List}
+use Rattle.svc_spec.specs.Months.{cost_of_month}
+use Rattle.svc_world.specs.World.{World, Accepted, world}
+use Rattle.serv_line.specs.Replies.{text_of_bad}
+use Rattle.servicing_transfer.specs.Confirmations.{IsConfirmation}
 use Rattle.servicing_transfer.specs.Parts.{in_range, out_of_range, part_of}
+use Rattle.servicing_transfer.specs.Stated.{IsBadLine}
 use Rattle.servicing_transfer.specs.StatementTexts.{text_of_statement}
+use Rattle.pmi_track.specs.Texts.{insurance_text, insurance_cost, drop_text}
+use Rattle.bank_recon.specs.Texts.{IsReconText}
 use Rattle.serv_top.specs.declared.extracts.Extract.{Extract}
-use Rattle.serv_top.specs.declared.extracts.Extract.TheVariants.{Transfer, Remain, Statement}
-use Rattle.serv_top.specs.declared.status.Status.{Status}
-use Rattle.serv_machine.specs.Stands.{Stand}
-use Rattle.serv_top.specs.Written.{IsTextOver, Writes}
+use Rattle.serv_top.specs.declared.extracts.Extract.TheVariants.{Transfer, Remain, Statement, Confirm, Pmi, PmiDrops, Reconcile}
+use Rattle.serv_top.specs.TakenOn.{lines_of_commands}
 
--- the lines of commands, each with a line feed: what `apply` is given to accept them again
-abbrev pub lines_of_commands : List Accepted → List ℕ
-lines_of_commands commands = flat_map (λ a. ended (line_of_command a)) commands
+-- how a statement differs from the books; of an input that is no statement, its first line that does not fit
+pub data IsConfirmed (w : World) (input text : List ℕ) : Type 0 where
+  stated : IsConfirmation w input text → IsConfirmed w input text
+  faulty : (line : ℕ) → IsBadLine input line → text ≡ text_of_bad line → IsConfirmed w input text
 
--- a store has room for these commands and no others
-abbrev pub HasRoomFor : Store → List Accepted → Type 0
-HasRoomFor Memory commands = Unit {0}
-HasRoomFor (Journal base limit) commands = base + lengths_of commands ≤ limit
+-- the text over these commands, and about this input: the lines of their part for the loans of a range, or for all other
+-- loans; the statement of all loans; how a statement differs from the books; whether the insurance of a file's loans ends,
+-- and the commands that drop it; how a bank's movements match the rows of a span of the commands
+abbrev pub IsExtract : Extract → List Accepted → List ℕ → List ℕ → Type 0
+IsExtract (Transfer from to) commands input text = text ≡ lines_of_commands (part_of (in_range from to) commands)
+IsExtract (Remain from to) commands input text = text ≡ lines_of_commands (part_of (out_of_range from to) commands)
+IsExtract Statement commands input text = text ≡ text_of_statement (world commands)
+IsExtract Confirm commands input text = IsConfirmed (world commands) input text
+IsExtract Pmi commands input text = text ≡ insurance_text commands input
+IsExtract PmiDrops commands input text = text ≡ drop_text commands input
+IsExtract (Reconcile first last) commands input text = IsReconText commands first last input text
 
--- the replies to commands that come after others, each to the next one, joined
-abbrev pub replies_after : List Accepted → List Accepted → List ℕ
-replies_after before [] = []
-replies_after before (a ∷ more) = text_of_reply (next_reply before a.command) ++ replies_after (before ++ a ∷ []) more
+-- the steps that it may take
+abbrev pub extract_bound : Extract → List Accepted → List ℕ → ℕ
+extract_bound Pmi commands input = insurance_cost cost_of_month commands input
+extract_bound PmiDrops commands input = insurance_cost cost_of_month commands input
+extract_bound other commands input = 0
 
--- lines were acted on as the commands of a history: these are what is held after them, and each has the reply to the
--- next command
-pub record AreTakenOn (commands : List Accepted) (after : Stand) (written : List ℕ) : Type 0 where
-  pub commands_are : after.history.commands ≡ commands
-  pub replies : written ≡ replies_after [] commands
+-- whether it is about the input
+abbrev pub is_about_input : Extract → Bool
+is_about_input (Transfer from to) = false
+is_about_input (Remain from to) = false
+is_about_input Statement = false
+is_about_input other = true
 
--- the text over these commands: the lines of their part for the loans of a range, or
--- for all other loans, or the statement of all loans
-abbrev pub IsExtract : Extract → List Accepted → List ℕ → Type 0
-IsExtract (Transfer from to) commands text = text ≡ lines_of_commands (part_of (in_range from to) commands)
-IsExtract (Remain from to) commands text = text ≡ lines_of_commands (part_of (out_of_range from to) commands)
-IsExtract Statement commands text = text ≡ text_of_statement (world commands)
-
--- a range goes up
+-- a range and a span go up, and commands are numbered from 1
 abbrev pub IsAskedExtract : Extract → Type 0
 IsAskedExtract (Transfer from to) = from ≤ to
 IsAskedExtract (Remain from to) = from ≤ to
-IsAskedExtract Statement = Unit {0}
-
--- a journal was opened, and the text over its commands is written, which takes no step
-abbrev pub IsExtracted : {D : Type 0} → (D → Option (List ℕ)) → (D → List ℕ → Type 0) → (D → ℕ) → (D → ℕ → List ℕ → Type 0) → D → D → Status → Extract → ℕ → ℕ
-    → Option (List ℕ) → Option (List ℕ) → Type 0
-IsExtracted seen images moment images_since old new status extract steps steps' held held' =
-    IsTextOver seen images moment images_since old new (λ h. 0) (λ h base. Writes status (IsExtract extract h) held held') steps steps'
+IsAskedExtract (Reconcile first last) = (1 ≤ first) × (first ≤ last)
+IsAskedExtract other = Unit {0}

@@ -42,6 +42,11 @@ pub record IsCutAt (First : List Saying → Type 0) (h : History) (written : Lis
   pub text : written ≡ replies_to h said ++ part
   pub partial : IsProperPrefix part (reply_to (history_after_all h said) last)
 
+-- the same where no reply may wait, as over a journal: all up to the last one were acted on
+pub record IsCutOff (First : List Saying → Type 0) (s s' : Stand) (written : List ℕ) : Type 0 where
+  pub at : IsCutAt First s.history written
+  pub moved : MovesAll (at.said ++ at.last ∷ []) s s'
+
 -- nothing was accepted, or the next one was
 abbrev pub IsMaybeNext : History → List Saying → History → Type 0
 IsMaybeNext h [] h' = h' ≡ h

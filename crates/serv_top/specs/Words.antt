@@ -3,18 +3,17 @@ use Rattle.std.specs.Prelude.{◌≡◌, ◌≢◌, ℕ, ◌≤◌, ◌+◌, ◌
 use Rattle.std.specs.Str.{bytes_eq}
 use Rattle.std.specs.Str.Parse.{digits_value}
 use Rattle.svc_base.specs.Calendar.{year_of_month}
-use Rattle.svc_base.specs.Text.{IsReadMonth, text_of_month, text_of_number}
+use Rattle.svc_base.specs.Text.{text_of_month, text_of_number}
 use Rattle.svc_types.specs.declared.requests.Query.{Query}
 use Rattle.svc_types.specs.declared.requests.Query.TheVariants as query
 use Rattle.svc_types.specs.declared.requests.Request.TheVariants as request
 use Rattle.svc_types.specs.Requests.{IsQuery}
 use Rattle.serv_line.specs.Lines.{words_of_request}
 use Rattle.serv_top.specs.declared.extracts.Extract.TheVariants as extract
-use Rattle.serv_top.specs.declared.reviews.Review.TheVariants as review
-use Rattle.serv_top.specs.Extracts.{IsAskedExtract}
-use Rattle.serv_top.specs.Reviews.{IsAskedReview}
+use Rattle.serv_top.specs.declared.texts.Text.TheVariants.{Show, Make}
+use Rattle.serv_top.specs.Texts.{IsText}
 use Rattle.serv_top.specs.declared.words.Task.{Task}
-use Rattle.serv_top.specs.declared.words.Task.TheVariants.{Init, Apply, Session, Import, Show, Drill, Serve, Extract, Review}
+use Rattle.serv_top.specs.declared.words.Task.TheVariants.{Init, Apply, Session, Import, Write, Drill, Serve}
 
 -- two digits as a number
 abbrev pub number_of_pair : ℕ → ℕ → ℕ
@@ -45,10 +44,10 @@ number_in most text =
 -- the texts that a word asks for
 abbrev pub text_of_word : List ℕ → Option Task
 text_of_word word =
-    if bytes_eq word (codes "statement") then Some (Extract extract.Statement)
-    else (if bytes_eq word (codes "confirm") then Some (Review review.Confirm)
-    else (if bytes_eq word (codes "pmi") then Some (Review review.Pmi)
-    else (if bytes_eq word (codes "pmi-drops") then Some (Review review.PmiDrops) else None)))
+    if bytes_eq word (codes "statement") then Some (Write (Make extract.Statement))
+    else (if bytes_eq word (codes "confirm") then Some (Write (Make extract.Confirm))
+    else (if bytes_eq word (codes "pmi") then Some (Write (Make extract.Pmi))
+    else (if bytes_eq word (codes "pmi-drops") then Some (Write (Make extract.PmiDrops)) else None)))
 
 abbrev pub task_of_word : List ℕ → Option Task
 task_of_word word =
@@ -56,14 +55,14 @@ task_of_word word =
     else (if bytes_eq word (codes "apply") then Some Apply
     else (if bytes_eq word (codes "session") then Some Session
     else (if bytes_eq word (codes "import") then Some Import
-    else (if bytes_eq word (codes "custodial") then Some (Show query.Custodial) else text_of_word word))))
+    else (if bytes_eq word (codes "custodial") then Some (Write (Show query.Custodial)) else text_of_word word))))
 
 -- what a word asks for about a month
 abbrev pub task_about : List ℕ → Option ℕ → Option Task
 task_about word None = None
 task_about word (Some month) =
-    if bytes_eq word (codes "report") then Some (Show (query.Report month))
-    else (if bytes_eq word (codes "trial") then Some (Show (query.Trial month)) else None)
+    if bytes_eq word (codes "report") then Some (Write (Show (query.Report month)))
+    else (if bytes_eq word (codes "trial") then Some (Write (Show (query.Trial month))) else None)
 
 -- the generated year of 1 to 500 loans
 abbrev pub year_of : Option ℕ → Option ℕ → Option Task
@@ -88,14 +87,14 @@ range_in from to = range_of (number_in 4294967295 from) (number_in 4294967295 to
 
 -- a span of commands begins at 1 or behind it
 abbrev pub span : ℕ → ℕ → Option Task
-span first last = if nat_le 1 first then Some (Review (review.Reconcile first last)) else None
+span first last = if nat_le 1 first then Some (Write (Make (extract.Reconcile first last))) else None
 
 -- what a word asks for about a range of loans, or of commands
 abbrev pub task_over : List ℕ → Option (ℕ × ℕ) → Option Task
 task_over word None = None
 task_over word (Some (from, to)) =
-    if bytes_eq word (codes "transfer") then Some (Extract (extract.Transfer from to))
-    else (if bytes_eq word (codes "remain") then Some (Extract (extract.Remain from to))
+    if bytes_eq word (codes "transfer") then Some (Write (Make (extract.Transfer from to)))
+    else (if bytes_eq word (codes "remain") then Some (Write (Make (extract.Remain from to)))
     else (if bytes_eq word (codes "reconcile") then span from to else None))
 
 -- what a word asks for about two numbers
@@ -105,24 +104,15 @@ task_with word first second =
     else (if bytes_eq word (codes "serve") then served_at (number_in 65535 first) (number_in 1000000 second)
     else task_over word (range_in first second))
 
--- the queries that words of their own ask
-abbrev pub IsShowing : Query → Type 0
-IsShowing (query.Report m) = IsReadMonth m
-IsShowing (query.Trial m) = IsReadMonth m
-IsShowing query.Custodial = Unit {0}
-IsShowing other = ⊥
-
--- words ask no other query, no year of more loans, no further port or connections, no range that goes down, and no span from 0
+-- words ask for no other text, no year of more loans, and no further port or connections
 abbrev pub IsTask : Task → Type 0
 IsTask Init = Unit {0}
 IsTask Apply = Unit {0}
 IsTask Session = Unit {0}
 IsTask Import = Unit {0}
-IsTask (Show q) = IsShowing q
+IsTask (Write text) = IsText text
 IsTask (Drill loans number) = loans ≤ 500
 IsTask (Serve port links) = (port ≤ 65535) × (links ≤ 1000000)
-IsTask (Extract x) = IsAskedExtract x
-IsTask (Review x) = IsAskedReview x
 
 -- a journal's name, which is not empty, and what is to be done, for two of these a month, and for two of these two numbers
 abbrev pub task_in : List (List ℕ) → Option Task

@@ -1,20 +1,18 @@
-//! Texts that are made of a journal's commands.
+//! Texts that are made of a journal's commands, and of the input where they are about it.
 
-ghost use Rattle.std.specs.Prelude.{◌≡◌, ◌≤◌, ◌⊎◌, ◌++◌, IfOk, OnOk};
-ghost use Rattle.svc_world.specs.World.{accepted};
+ghost use Rattle.std.specs.Prelude.{◌≡◌, ◌≤◌, ◌+◌, ◌^◌, ◌++◌, length, IfOk, OnOk};
+ghost use Rattle.svc_world.specs.World.{accepted, world};
 ghost use Rattle.svc_core.specs.Posted.{history_of};
-ghost use Rattle.serv_disk.specs.Faults.{HasRisen};
-ghost use Rattle.serv_line.specs.Replies.{ended};
+ghost use Rattle.serv_line.specs.Replies.{ended, text_of_bad};
 ghost use Rattle.serv_engine.specs.Histories.{line_of_command};
-ghost use Rattle.serv_top.specs.Journal.{HasFileFaults, IsUnopened};
-ghost use Rattle.serv_top.specs.Extracts.{IsAskedExtract, IsExtract, IsExtracted, lines_of_commands};
+ghost use Rattle.serv_top.specs.TakenOn.{lines_of_commands};
+ghost use Rattle.serv_top.specs.Extracts.{IsAskedExtract, IsConfirmed, IsExtract, extract_bound};
+ghost use Rattle.serv_top.specs.Extracts as extracts;
 
-use crate::over_journal::open_journal;
-use crate::status::Status;
-use crate::writing::write_text;
-use serv_disk::{Disk, Sink};
-use serv_line::{push_bytes, push_line};
-use servicing_transfer::{split, statement};
+use bank_recon::recon_text;
+use pmi_track::{pmi_drops, pmi_text};
+use serv_line::{push_bytes, push_line, push_wide};
+use servicing_transfer::{ConfirmFault, confirm, split, statement};
 use std::alloc::Global;
 use std::sync::ledger::Ledger;
 use svc_base::{OutOfMemory, Steps};
@@ -22,7 +20,7 @@ use svc_checkpoint::Checked;
 use svc_core::Core;
 use svc_types::{Command, Key, Request};
 
-/// A text that is made of a journal's commands.
+/// A text that is made of a journal's commands, and of the input where it is about it.
 #[derive(Clone, Copy, Debug, PartialEq, Eq)]
 pub(crate) enum Extract {
     /// The lines of the commands on the loans from one number to another, which are handed over.
@@ -31,57 +29,55 @@ pub(crate) enum Extract {
     Remain(u32, u32),
     /// The statement of all loans.
     Statement,
+    /// How a statement differs from the books.
+    Confirm,
+    /// Whether the mortgage insurance of each loan of a file ends, and when.
+    Pmi,
+    /// The commands that drop the premiums of insurance that ends.
+    PmiDrops,
+    /// How a bank's movements match the rows of the commands between two numbers.
+    Reconcile(u32, u32),
 }
 
-/// Opens the journal of the disk, and writes the text over its commands in one go.
-pub(crate) fn write_extract<K: Sink, D: Disk, L: Ledger>(
-    alloc: Global,
-    extract: Extract,
-    snk: &mut K,
-    disk: &mut D,
-    steps: &mut Steps<L>,
-) -> Status
-    requires { IsAskedExtract extract }
-    ensures extracted { (IsUnopened D.seen D.images D.moment D.images_since D.faults disk.old disk.new result
-        steps.old steps.new × (snk.new ≡ snk.old))
-        ⊎ IsExtracted D.seen D.images D.moment D.images_since disk.old disk.new result extract
-        steps.old steps.new (K.held snk.old) (K.held snk.new) }
-    ensures file { HasFileFaults (D.seen disk.old) result }
-    ensures write { result ≡ Status.WriteFault → HasRisen (K.faults snk.old) (K.faults snk.new) }
-    ensures disk { result ≡ Status.DiskFault → HasRisen (D.faults disk.old) (D.faults disk.new) }
-    ensures write_later { K.faults snk.old ≤ K.faults snk.new }
-    ensures disk_later { D.faults disk.old ≤ D.faults disk.new }
-{
-    match open_journal(alloc, disk, steps) {
-        Ok(engine) => match text_of(alloc, extract, engine.core(), steps) {
-            Ok(text) => write_text(snk, &text),
-            Err(_) => Status::OutOfMemory,
-        },
-        Err(status) => status,
+impl Extract {
+    /// Whether it is about the input.
+    pub(crate) fn is_about_input(self) -> bool
+        ensures { result ≡ extracts.is_about_input self }
+    {
+        match self {
+            Extract::Transfer(_, _) | Extract::Remain(_, _) | Extract::Statement => false,
+            Extract::Confirm | Extract::Pmi | Extract::PmiDrops | Extract::Reconcile(_, _) => true,
+        }
     }
-}
 
-/// The text over the commands of the books.
-fn text_of<L: Ledger>(
-    alloc: Global,
-    extract: Extract,
-    core: &Core<Checked>,
-    steps: &mut Steps<L>,
-) -> Result<Vec<u8>, OutOfMemory>
-    requires { IsAskedExtract extract }
-    ensures text { IfOk result (λ text. IsExtract extract core.now.history text.items) }
-    ensures steps { steps.new ≤ steps.old }
-{
-    match extract {
-        Extract::Transfer(from, to) => {
-            let halves = split(alloc, core, from, to)?;
-            lines_of(alloc, &halves.inside)
+    /// The text over the commands of the books and about an input.
+    pub(crate) fn text<L: Ledger>(
+        self,
+        alloc: Global,
+        core: &Core<Checked>,
+        input: &[u8],
+        steps: &mut Steps<L>,
+    ) -> Result<Vec<u8>, OutOfMemory>
+        requires asked { IsAskedExtract self }
+        requires size { length input.now ≤ 2 ^ 26 }
+        ensures text { IfOk result (λ text. IsExtract self core.now.history input.now text.items) }
+        ensures steps { steps.new ≤ steps.old + extract_bound self core.now.history input.now }
+    {
+        match self {
+            Extract::Transfer(from, to) => {
+                let halves = split(alloc, core, from, to)?;
+                lines_of(alloc, &halves.inside)
+            }
+            Extract::Remain(from, to) => {
+                let halves = split(alloc, core, from, to)?;
+                lines_of(alloc, &halves.outside)
+            }
+            Extract::Statement => statement(alloc, core, steps),
+            Extract::Confirm => confirmed(alloc, core, input, steps),
+            Extract::Pmi => pmi_text(alloc, core, input, steps),
+            Extract::PmiDrops => pmi_drops(alloc, core, input, steps),
+            Extract::Reconcile(first, last) => recon_text(alloc, core, first, last, input),
         }
-        Extract::Remain(from, to) => {
-            let halves = split(alloc, core, from, to)?;
-            lines_of(alloc, &halves.outside)
-        }
-        Extract::Statement => statement(alloc, core, steps),
     }
 }
 
@@ -103,4 +99,33 @@ fn push_command(text: &mut Vec<u8>, key: &Key, command: &Command) -> Result<(), 
 {
     push_line(text, &Request::Do(*key, *command))?;
     push_bytes(text, b"\n")
+}
+
+/// How a statement differs from the books; of a text that is no statement, the line that does not fit.
+fn confirmed<L: Ledger>(
+    alloc: Global,
+    core: &Core<Checked>,
+    input: &[u8],
+    steps: &mut Steps<L>,
+) -> Result<Vec<u8>, OutOfMemory>
+    ensures text { IfOk result (λ text. IsConfirmed (world core.now.history) input.now text.items) }
+    ensures steps { steps.new ≤ steps.old }
+{
+    match confirm(alloc, core, input, steps) {
+        Ok(text) => Ok(text),
+        Err(ConfirmFault::BadLine(line)) => bad_line(alloc, line),
+        Err(ConfirmFault::OutOfMemory) => Err(OutOfMemory),
+    }
+}
+
+/// The text that names a line that does not fit.
+#[tactic(auto, unfolding(serv_line::specs::Replies::text_of_bad))]
+fn bad_line(alloc: Global, line: u64) -> Result<Vec<u8>, OutOfMemory>
+    ensures { IfOk result (λ text. text.items ≡ text_of_bad line) }
+{
+    let mut text = Vec::new(alloc);
+    push_bytes(&mut text, b"bad ")?;
+    push_wide(&mut text, line)?;
+    push_bytes(&mut text, b"\n")?;
+    Ok(text)
 }

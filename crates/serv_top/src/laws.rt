@@ -8,15 +8,14 @@ ghost use Rattle.serv_engine.specs.Histories.{lines_of_history};
 ghost use Rattle.serv_engine.specs.Opening.{IsTooLong};
 ghost use Rattle.serv_top.specs.Journal.{journal_limit};
 ghost use Rattle.serv_top.specs.Lines.{ended_lines, lines_of};
-ghost use Rattle.serv_top.specs.Extracts.{lines_of_commands, AreTakenOn, HasRoomFor};
+ghost use Rattle.serv_top.specs.TakenOn.{lines_of_commands, AreTakenOn, HasRoomFor};
 ghost use Rattle.serv_top.specs.Imported.{FileSays};
 ghost use Rattle.serv_top.specs.Words.{month_in};
 ghost use Rattle.serv_machine.specs.Stands.{Stand};
 ghost use Rattle.serv_machine.specs.Sayings.{Saying, replies_to};
 ghost use Rattle.serv_top.specs.Machine.{Says};
-ghost use Rattle.serv_top.specs.Replies.{Answers, IsBegun, IsCutAt, IsCutIn, IsHeldUp};
+ghost use Rattle.serv_top.specs.Replies.{Answers, IsBegun, IsCutAt, IsCutIn, IsCutOff, IsHeldUp};
 ghost use Rattle.serv_top.specs.Upheld.{AreFirst, AreSaidFirst, Say};
-ghost use Rattle.serv_top.specs.Whole.{IsCutOff};
 
 /// A line says one thing. So lines have one text of replies over a history, and one history after them;
 /// and a front part of their replies is some whole ones and a part of the next one. It does nothing.

@@ -1,7 +1,6 @@
 //! The program's top call: request lines from a source, replies to a sink, and the status of the run.
 #![tactic(auto)]
 
-mod asking;
 mod drilling;
 mod extracts;
 mod importing;
@@ -10,12 +9,11 @@ mod over_doors;
 mod over_journal;
 mod query_words;
 mod replies;
-mod reviews;
 mod said;
 mod serving;
-mod showing;
 mod status;
 mod stream;
+mod texts;
 mod top;
 mod words;
 mod writing;

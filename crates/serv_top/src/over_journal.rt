@@ -3,13 +3,11 @@
 ghost use Rattle.std.specs.Prelude.{◌≡◌, ◌≢◌, ◌⊎◌, ℕ, ◌-◌, ◌<◌, ◌≤◌, List, length, false, Some, Err, IfErr, IfOk, OnOk};
 ghost use Rattle.serv_disk.specs.Disks.{Each, LeavesOnly};
 ghost use Rattle.serv_disk.specs.Faults.{HasRisen};
-ghost use Rattle.serv_journal.specs.Reading.{IsNoJournal};
 ghost use Rattle.serv_journal.specs.declared.format.Version.TheVariants as version;
 ghost use Rattle.serv_engine.specs.Histories.{lengths_of};
 ghost use Rattle.serv_engine.specs.Engines.{IsDurable};
-ghost use Rattle.serv_engine.specs.Opening.{IsDamagedAt, IsTooLong};
-ghost use Rattle.serv_top.specs.Stop.{status_of_fault};
-ghost use Rattle.serv_top.specs.Journal.{HasFileFaults, IsInit, IsOnly, IsOpened, IsUnopened, IsApplied, journal_limit};
+ghost use Rattle.serv_top.specs.Status.{status_of_fault};
+ghost use Rattle.serv_top.specs.Journal.{HasFileFaults, IsInit, IsOpened, IsUnopened, IsApplied, journal_limit};
 
 use crate::status::Status;
 use crate::stream::serve;
@@ -96,12 +94,7 @@ pub(crate) fn apply<S: Source, K: Sink, D: Disk, L: Ledger>(
         (S.left src.old) (S.left src.new) (K.held snk.old) (K.held snk.new)
         (K.log snk.old) (K.log snk.new) }
     // The faults of the file come exactly by their causes.
-    ensures not_journal { (s : List ℕ) → D.seen disk.old ≡ Some s → IsNoJournal s
-        → IsOnly Status.NotJournal result }
-    ensures damaged { (s : List ℕ) (place : ℕ) → D.seen disk.old ≡ Some s → IsDamagedAt place s
-        → IsOnly (Status.Damaged place) result }
-    ensures full { (s : List ℕ) (bytes : ℕ) → D.seen disk.old ≡ Some s → IsTooLong journal_limit bytes s
-        → IsOnly (Status.JournalFull bytes) result }
+    ensures file { HasFileFaults (D.seen disk.old) result }
     ensures read { result ≡ Status.ReadFault → HasRisen (S.faults src.old) (S.faults src.new) }
     ensures write { result ≡ Status.WriteFault → HasRisen (K.faults snk.old) (K.faults snk.new) }
     ensures disk { result ≡ Status.DiskFault → HasRisen (D.faults disk.old) (D.faults disk.new) }

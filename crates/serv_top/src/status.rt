@@ -64,7 +64,7 @@ impl Status {
 
 impl From<Stop> for Status {
     ghost use Rattle.std.specs.Prelude.{◌≡◌};
-    ghost use Rattle.serv_top.specs.Stop.{status_of};
+    ghost use Rattle.serv_top.specs.Status.{status_of};
 
     ghost from_gives = { λ stop status. status ≡ status_of stop };
 

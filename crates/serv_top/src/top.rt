@@ -1,39 +1,29 @@
 //! The program's top call.
 
 ghost use Rattle.std.specs.Prelude.{◌≡◌, ◌≢◌, ℕ, ◌+◌, ◌<◌, ◌≤◌, ◌⊎◌, ◌↔◌, List, map, length, Option, None, Some};
-ghost use Rattle.svc_types.specs.declared.requests.Query.{Query};
 ghost use Rattle.serv_disk.specs.Disks.{Each, LeavesOnly};
 ghost use Rattle.serv_disk.specs.Faults.{HasRisen};
-ghost use Rattle.serv_top.specs.declared.words.Task.TheVariants as task;
 ghost use Rattle.serv_top.specs.Journal.{IsInit, HasFileFaults, IsUnopened, IsApplied};
 ghost use Rattle.serv_top.specs.Imported.{IsImported};
 ghost use Rattle.serv_drill.specs.Machine.{cost_of_works, first_tally};
 ghost use Rattle.serv_drill.specs.Summary.{summary};
 ghost use Rattle.serv_drill.specs.Works.{year_works};
 ghost use Rattle.serv_links.specs.Doors.{ServedLink};
-ghost use Rattle.serv_top.specs.Asked.{IsAsked};
-ghost use Rattle.serv_top.specs.Shown.{IsShown};
-ghost use Rattle.serv_top.specs.declared.extracts.Extract.{Extract};
-ghost use Rattle.serv_top.specs.Extracts.{IsExtracted};
-ghost use Rattle.serv_top.specs.declared.reviews.Review.{Review};
-ghost use Rattle.serv_top.specs.Reviews.{IsReviewed};
+ghost use Rattle.serv_top.specs.Texts.{IsTextOver};
 ghost use Rattle.serv_top.specs.Served.{IsServedOver};
 ghost use Rattle.serv_top.specs.Outcome.{Ran};
 ghost use Rattle.serv_top.specs.Written.{Writes};
-ghost use Rattle.serv_top.specs.Words.{IsAsking, IsUnknown, task_in};
-ghost use Rattle.serv_top.specs.Ends.{Order, IsGiven, IsOverJournal, ReadsInput, IsUndisturbed, MayEnd};
+ghost use Rattle.serv_top.specs.Words.{IsUnknown, task_in};
+ghost use Rattle.serv_top.specs.Ends.{IsGiven, IsOverJournal, ReadsInput, IsUndisturbed, MayEnd};
 
-use crate::asking::ask;
 use crate::drilling::write_year;
-use crate::extracts::write_extract;
 use crate::importing::import;
 use crate::over_doors::serve_over;
 use crate::over_journal::{apply, make_journal};
 use crate::query_words::read_asking;
-use crate::reviews::write_review;
-use crate::showing::show;
 use crate::status::Status;
 use crate::stream::serve;
+use crate::texts::{Text, write_over_journal};
 use crate::words::{Task, read_words};
 use serv_disk::{Disk, Doors, Sink, Source};
 use serv_machine::Nowhere;
@@ -105,66 +95,46 @@ pub fn run<S: Source, K: Sink, D: Disk, G: Doors, L: Ledger>(
     ensures untouched_sink { result ≡ Status.Usage → snk.new ≡ snk.old }
     ensures untouched_disk { result ≡ Status.Usage → disk.new ≡ disk.old }
     ensures untouched_steps { result ≡ Status.Usage → steps.new ≡ steps.old }
-    ensures untouched_doors { ((port most : ℕ) → task_in (map (λ w. w.now) words.now) ≢ Some (task.Serve port most))
+    ensures untouched_doors { ((port most : ℕ) → task_in (map (λ w. w.now) words.now) ≢ Some (Task.Serve port most))
         → doors.new ≡ doors.old }
 
     // In memory: what is taken, accepted and written, for each status, and the steps of it.
-    ensures session { task_in (map (λ w. w.now) words.now) ≡ Some task.Session
+    ensures session { task_in (map (λ w. w.now) words.now) ≡ Some Task.Session
         → Ran GATHERED result steps.old steps.new
         (S.left src.old) (S.left src.new) (K.held snk.old) (K.held snk.new) × (disk.new ≡ disk.old) }
 
     // Over a journal the same, with what a crash at any moment leaves on the disk; or none was opened.
-    ensures apply { task_in (map (λ w. w.now) words.now) ≡ Some task.Apply
+    ensures apply { task_in (map (λ w. w.now) words.now) ≡ Some Task.Apply
         → (IsUnopened D.seen D.images D.moment D.images_since D.faults disk.old disk.new result
         steps.old steps.new × (src.new ≡ src.old) × (snk.new ≡ snk.old))
         ⊎ IsApplied D.seen D.images D.moment D.images_since disk.old disk.new result steps.old steps.new
         (S.left src.old) (S.left src.new) (K.held snk.old) (K.held snk.new) (K.log snk.old) (K.log snk.new) }
 
     // The rows of a file over a journal: the whole file is taken first.
-    ensures import { task_in (map (λ w. w.now) words.now) ≡ Some task.Import
+    ensures import { task_in (map (λ w. w.now) words.now) ≡ Some Task.Import
         → (IsUnopened D.seen D.images D.moment D.images_since D.faults disk.old disk.new result
         steps.old steps.new × (src.new ≡ src.old) × (snk.new ≡ snk.old))
         ⊎ IsImported D.seen D.images D.moment D.images_since disk.old disk.new result steps.old steps.new
         (S.left src.old) (S.left src.new) (K.held snk.old) (K.held snk.new) (K.log snk.old) (K.log snk.new) }
 
-    // The answer to a query over a journal is written: the text of `? report`, `? trial` or `? custodial`.
-    ensures show { (q : Query) → task_in (map (λ w. w.now) words.now) ≡ Some (task.Show q)
-        → (IsUnopened D.seen D.images D.moment D.images_since D.faults disk.old disk.new result
-        steps.old steps.new × (snk.new ≡ snk.old))
-        ⊎ IsShown D.seen D.images D.moment D.images_since disk.old disk.new result q
-        steps.old steps.new (K.held snk.old) (K.held snk.new) }
-    ensures show_sink { (q : Query) (last : Option ℕ) → task_in (map (λ w. w.now) words.now) ≡ Some (task.Show q)
-        → result ≡ Status.NoReport last → snk.new ≡ snk.old }
-
-    // The reply to any query over a journal is written, as its line has it: its answer, or its refusal.
-    ensures ask { (q : Query) → IsAsking (map (λ w. w.now) words.now) q
-        → (IsUnopened D.seen D.images D.moment D.images_since D.faults disk.old disk.new result
-        steps.old steps.new × (snk.new ≡ snk.old))
-        ⊎ IsAsked D.seen D.images D.moment D.images_since disk.old disk.new result q
-        steps.old steps.new (K.held snk.old) (K.held snk.new) }
-
-    // A text over the commands of a journal is written.
-    ensures extract { (x : Extract) → task_in (map (λ w. w.now) words.now) ≡ Some (task.Extract x)
-        → (IsUnopened D.seen D.images D.moment D.images_since D.faults disk.old disk.new result
-        steps.old steps.new × (snk.new ≡ snk.old))
-        ⊎ IsExtracted D.seen D.images D.moment D.images_since disk.old disk.new result x
-        steps.old steps.new (K.held snk.old) (K.held snk.new) }
-
-    // A text about the input and the commands of a journal is written: the whole input is taken first.
-    ensures review { (x : Review) → task_in (map (λ w. w.now) words.now) ≡ Some (task.Review x)
+    // A text over a journal is written: the answer or the reply to a query, or an extract. Where it is about the input,
+    // the whole input is taken first; nothing is written where its month has no report.
+    ensures text { (text : Text) → IsGiven (map (λ w. w.now) words.now) (Task.Write text)
         → (IsUnopened D.seen D.images D.moment D.images_since D.faults disk.old disk.new result
         steps.old steps.new × (src.new ≡ src.old) × (snk.new ≡ snk.old))
-        ⊎ IsReviewed D.seen D.images D.moment D.images_since disk.old disk.new result x
+        ⊎ IsTextOver D.seen D.images D.moment D.images_since disk.old disk.new result text
         steps.old steps.new (S.left src.old) (S.left src.new) (K.held snk.old) (K.held snk.new) }
+    ensures no_report { (text : Text) → IsGiven (map (λ w. w.now) words.now) (Task.Write text)
+        → (last : Option ℕ) → result ≡ Status.NoReport last → snk.new ≡ snk.old }
 
     // The summary of a generated year is written, which is made in memory.
-    ensures drill { (loans number : ℕ) → task_in (map (λ w. w.now) words.now) ≡ Some (task.Drill loans number)
+    ensures drill { (loans number : ℕ) → task_in (map (λ w. w.now) words.now) ≡ Some (Task.Drill loans number)
         → Writes result (λ text. text ≡ summary loans number) (K.held snk.old) (K.held snk.new)
         × (steps.new ≤ steps.old + cost_of_works first_tally (year_works loans number))
         × (disk.new ≡ disk.old) }
 
     // Links are served over a journal, one after another, and handed back; and then their summary is written.
-    ensures serve { (port most : ℕ) → task_in (map (λ w. w.now) words.now) ≡ Some (task.Serve port most)
+    ensures serve { (port most : ℕ) → task_in (map (λ w. w.now) words.now) ≡ Some (Task.Serve port most)
         → (IsUnopened D.seen D.images D.moment D.images_since D.faults disk.old disk.new result
         steps.old steps.new × (snk.new ≡ snk.old) × (doors.new ≡ doors.old))
         ⊎ IsServedOver D.seen D.images D.moment D.images_since disk.old disk.new
@@ -175,19 +145,19 @@ pub fn run<S: Source, K: Sink, D: Disk, G: Doors, L: Ledger>(
 
     // Over a journal, a file that is none, is damaged or too long is answered so, but for want of memory or a fault of
     // the disk. A word that reads no input leaves it as it was.
-    ensures file { (o : Order) → IsGiven (map (λ w. w.now) words.now) o → IsOverJournal o
+    ensures file { (t : Task) → IsGiven (map (λ w. w.now) words.now) t → IsOverJournal t
         → HasFileFaults (D.seen disk.old) result }
-    ensures unread { (o : Order) → IsGiven (map (λ w. w.now) words.now) o → ¬ ReadsInput o → src.new ≡ src.old }
+    ensures unread { (t : Task) → IsGiven (map (λ w. w.now) words.now) t → ¬ ReadsInput t → src.new ≡ src.old }
 
     // A journal is made of a file of at most 9 bytes, and nothing else is touched.
-    ensures init { task_in (map (λ w. w.now) words.now) ≡ Some task.Init
+    ensures init { task_in (map (λ w. w.now) words.now) ≡ Some Task.Init
         → IsInit result (D.seen disk.old) (D.seen disk.new) (D.images disk.new) (D.faults disk.old) (D.faults disk.new)
         × (snk.new ≡ snk.old) × (steps.new ≡ steps.old) }
-    ensures init_moments { task_in (map (λ w. w.now) words.now) ≡ Some task.Init
+    ensures init_moments { task_in (map (λ w. w.now) words.now) ≡ Some Task.Init
         → Each (D.images disk.old) (λ c. length c ≤ 9)
         → LeavesOnly D.moment D.images_since disk.old disk.new (λ c. length c ≤ 9) }
     ensures already { (s : List ℕ) → D.seen disk.old ≡ Some s → 9 < length s
-        → task_in (map (λ w. w.now) words.now) ≡ Some task.Init
+        → task_in (map (λ w. w.now) words.now) ≡ Some Task.Init
         → (result ≡ Status.AlreadyThere) ⊎ (result ≡ Status.DiskFault) }
 
     // A fault is answered only where the count of its object rose in this call. No count falls.
@@ -203,25 +173,23 @@ pub fn run<S: Source, K: Sink, D: Disk, G: Doors, L: Ledger>(
 
     // Where its input is short, its disk is good for a history and a command, and no object that it uses fails, a run
     // is done, or memory is short, or the journal cannot be written anew; a journal may be there, a report not be.
-    ensures complete { (o : Order) → IsGiven (map (λ w. w.now) words.now) o
-        → IsUndisturbed o (S.left src.old) (D.seen disk.old) (D.images disk.old)
+    ensures complete { (t : Task) → IsGiven (map (λ w. w.now) words.now) t
+        → IsUndisturbed t (S.left src.old) (D.seen disk.old) (D.images disk.old)
         (HasRisen (S.faults src.old) (S.faults src.new)) (HasRisen (K.faults snk.old) (K.faults snk.new))
         (HasRisen (D.faults disk.old) (D.faults disk.new)) (HasRisen (G.faults doors.old) (G.faults doors.new))
-        → MayEnd o result }
+        → MayEnd t result }
 {
     match read_words(words) {
         None => match read_asking(words) {
-            Some(query) => ask(alloc, &query, snk, disk, steps),
+            Some(query) => write_over_journal(alloc, &Text::Ask(query), src, snk, disk, steps),
             None => Status::Usage,
         },
         Some(Task::Init) => make_journal(disk),
         Some(Task::Apply) => apply(alloc, src, snk, disk, steps),
-        Some(Task::Show(query)) => show(alloc, &query, snk, disk, steps),
+        Some(Task::Session) => session(alloc, src, snk, steps),
+        Some(Task::Import) => import(alloc, src, snk, disk, steps),
+        Some(Task::Write(text)) => write_over_journal(alloc, &text, src, snk, disk, steps),
         Some(Task::Drill(loans, number)) => write_year(alloc, loans, number, snk, steps),
         Some(Task::Serve(_, most)) => serve_over(alloc, most, snk, disk, doors, steps),
-        Some(Task::Import) => import(alloc, src, snk, disk, steps),
-        Some(Task::Session) => session(alloc, src, snk, steps),
-        Some(Task::Extract(extract)) => write_extract(alloc, extract, snk, disk, steps),
-        Some(Task::Review(review)) => write_review(alloc, review, src, snk, disk, steps),
     }
 }

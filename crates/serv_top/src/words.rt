@@ -7,7 +7,7 @@ ghost use Rattle.serv_top.specs.Words.{IsAsking, IsTask, month_in, number_in, po
 ghost use Rattle.serv_top.specs.Words as words;
 
 use crate::extracts::Extract;
-use crate::reviews::Review;
+use crate::texts::Text;
 use serv_links::MOST_LINKS;
 use svc_base::{Month, read_month, read_number};
 use svc_types::Query;
@@ -23,17 +23,12 @@ pub(crate) enum Task {
     Session,
     /// Answers the rows of a file over the journal.
     Import,
-    /// Writes the answer to a query over the journal: a month's report, its balances, or the line of the
-    /// custodial accounts.
-    Show(Query),
+    /// Writes a text over the journal.
+    Write(Text),
     /// Makes the generated year of so many loans in memory, whose draws begin with the number, and writes its summary.
     Drill(u32, u32),
     /// Serves up to so many connections to a port, one after another, over the journal, and writes a summary.
     Serve(u16, u32),
-    /// Writes a text over the journal's commands.
-    Extract(Extract),
-    /// Writes a text about the input, which is read whole, over the journal's commands.
-    Review(Review),
 }
 
 /// The most loans of a generated year.
@@ -51,16 +46,16 @@ fn text_of(word: &str) -> Option<Task>
     ensures well { IfSome result IsTask }
 {
     if word == "statement" {
-        return Some(Task::Extract(Extract::Statement));
+        return Some(Task::Write(Text::Make(Extract::Statement)));
     }
     if word == "confirm" {
-        return Some(Task::Review(Review::Confirm));
+        return Some(Task::Write(Text::Make(Extract::Confirm)));
     }
     if word == "pmi" {
-        return Some(Task::Review(Review::Pmi));
+        return Some(Task::Write(Text::Make(Extract::Pmi)));
     }
     if word == "pmi-drops" {
-        return Some(Task::Review(Review::PmiDrops));
+        return Some(Task::Write(Text::Make(Extract::PmiDrops)));
     }
     None
 }
@@ -83,7 +78,7 @@ fn task_of(word: &str) -> Option<Task>
         return Some(Task::Import);
     }
     if word == "custodial" {
-        return Some(Task::Show(Query::Custodial));
+        return Some(Task::Write(Text::Show(Query::Custodial)));
     }
     text_of(word)
 }
@@ -107,10 +102,10 @@ fn task_of_month(word: &str, text: &str) -> Option<Task>
 {
     let month = month_of(text)?;
     if word == "report" {
-        return Some(Task::Show(Query::Report(month)));
+        return Some(Task::Write(Text::Show(Query::Report(month))));
     }
     if word == "trial" {
-        return Some(Task::Show(Query::Trial(month)));
+        return Some(Task::Write(Text::Show(Query::Trial(month))));
     }
     None
 }
@@ -170,7 +165,7 @@ fn span(first: u32, last: u32) -> Option<Task>
     ensures well { IfSome result IsTask }
 {
     if first >= 1 {
-        Some(Task::Review(Review::Reconcile(first, last)))
+        Some(Task::Write(Text::Make(Extract::Reconcile(first, last))))
     } else {
         None
     }
@@ -183,10 +178,10 @@ fn task_of_range(word: &str, from: &str, to: &str) -> Option<Task>
 {
     let (from, to) = range(from, to)?;
     if word == "transfer" {
-        return Some(Task::Extract(Extract::Transfer(from, to)));
+        return Some(Task::Write(Text::Make(Extract::Transfer(from, to))));
     }
     if word == "remain" {
-        return Some(Task::Extract(Extract::Remain(from, to)));
+        return Some(Task::Write(Text::Make(Extract::Remain(from, to))));
     }
     if word == "reconcile" {
         return span(from, to);

@@ -8,14 +8,8 @@ returns-in-Ok-clause-applied g c =
     inr (applied g.D.Disk.seen g.D.Disk.images g.D.Disk.moment g.D.Disk.images_since c.args.disk.now c.open_journal.new.disk c.serve-status.new.disk c.serve-status.result c.in-Ok.engine _
     c.args.steps.now c.open_journal.new.steps c.serve-status.new.steps _ _ _ _ _ _ c.in-Ok.ensures.opened c.in-Ok.ensures.limit c.serve-status.ensures.ends c.serve-status.ensures.acknowledged)
 
-pub returns-in-Ok-clause-not_journal : goal.returns-in-Ok-clause-not_journal
-returns-in-Ok-clause-not_journal g c = (c.in-Ok.ensures.faultless c.serve-status.result).not_journal
-
-pub returns-in-Ok-clause-damaged : goal.returns-in-Ok-clause-damaged
-returns-in-Ok-clause-damaged g c = (c.in-Ok.ensures.faultless c.serve-status.result).damaged
-
-pub returns-in-Ok-clause-full : goal.returns-in-Ok-clause-full
-returns-in-Ok-clause-full g c = (c.in-Ok.ensures.faultless c.serve-status.result).full
+pub returns-in-Ok-clause-file : goal.returns-in-Ok-clause-file
+returns-in-Ok-clause-file g c = c.in-Ok.ensures.faultless c.serve-status.result
 
 pub returns-in-Ok-clause-disk : goal.returns-in-Ok-clause-disk
 returns-in-Ok-clause-disk g c = λ is.

@@ -1,7 +1,7 @@
 use Rattle.std.proofs.Common.{refl, inl, inr, ⊎_elim, ap}
 use Rattle.std.proofs.Math.Nat.{le_refl}
 use Rattle.serv_engine.specs.declared.fault.EngineFault.TheVariants as fault
-use Rattle.serv_top.specs.Stop.{status_of_fault}
+use Rattle.serv_top.specs.Status.{status_of_fault}
 use Rattle.serv_top.proofs.Applied.{opened, cause_of, only_of}
 use Rattle.serv_top.proofs.over_journal.open_journal.Goals as goal
 

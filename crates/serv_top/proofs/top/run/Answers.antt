@@ -1,15 +1,13 @@
 use Rattle.std.proofs.Common.{refl, sym, ap, ◌∙◌}
 use Rattle.std.specs.Prelude.{Some}
-use Rattle.serv_top.specs.Asked.{IsReplyOver}
-use Rattle.serv_top.specs.Extracts.{IsExtract}
-use Rattle.serv_top.proofs.AskLemmas.{asks_none, one_asked}
+use Rattle.serv_top.specs.declared.texts.Text.TheVariants.{Ask}
+use Rattle.serv_top.proofs.AskLemmas.{asks_none}
 use Rattle.serv_top.proofs.EndLemmas.{init_ends, session_ends}
 use Rattle.serv_top.proofs.ImportLemmas.{complete_import}
 use Rattle.serv_top.proofs.LinksLemmas.{complete_served}
-use Rattle.serv_top.proofs.OrderLemmas.{of_none, of_query, of_task}
-use Rattle.serv_top.proofs.ShownLemmas.{complete_shown}
-use Rattle.serv_top.proofs.WrittenLemmas.{complete_text, written_finishes}
-use Rattle.serv_top.proofs.ReviewLemmas.{complete_review}
+use Rattle.serv_top.proofs.OrderLemmas.{no_text, of_none, of_query, of_task, text_of_none, text_of_query, text_of_task}
+use Rattle.serv_top.proofs.TextLemmas.{complete_text}
+use Rattle.serv_top.proofs.WrittenLemmas.{written_finishes}
 use Rattle.serv_top.proofs.Applied.{complete_run}
 use Rattle.serv_top.proofs.top.run.Goals as goal
 
@@ -29,24 +27,12 @@ returns-in-Some-Import-clause-complete g c = of_task _ _ _ (ap Some (sym c.in-So
     _ _ _ _ _ _ calm.0.input disk.content disk.commands disk.next calm.0.told calm.0.short disk.told disk.history (disk.good disk.content (g.met.D.Disk.reads_image c.args.disk.now disk.content disk.told)) (λ is. calm.2 (c.import.ensures.read is)) (λ is. calm.3 (c.import.ensures.write is))
     (λ is. calm.4 (c.import.ensures.disk is)) calm.4 c.import.ensures.imported)
 
-pub returns-in-Some-Review-clause-complete : goal.returns-in-Some-Review-clause-complete
-returns-in-Some-Review-clause-complete g c = of_task _ _ _ (ap Some (sym c.in-Some-Review.field-0-is) ∙ c.in-Some-Review.ensures.task) c.in-Some-Review.ensures.other
+pub returns-in-Some-Write-clause-complete : goal.returns-in-Some-Write-clause-complete
+returns-in-Some-Write-clause-complete g c = of_task _ _ _ (ap Some (sym c.in-Some-Write.field-0-is) ∙ c.in-Some-Write.ensures.task) c.in-Some-Write.ensures.other
     (λ calm. let disk = calm.1 in
-    complete_review g.D.Disk.seen g.D.Disk.images g.D.Disk.moment g.D.Disk.images_since g.D.Disk.faults c.args.disk.now c.write_review.new.disk c.write_review.result c.in-Some-Review.review c.args.steps.now c.write_review.new.steps
-    _ _ _ _ calm.0.input disk.content disk.commands disk.next calm.0.told calm.0.short disk.told disk.history (disk.good disk.content (g.met.D.Disk.reads_image c.args.disk.now disk.content disk.told)) (λ is. calm.2 (c.write_review.ensures.read is)) (λ is. calm.3 (c.write_review.ensures.write is))
-    calm.4 c.write_review.ensures.reviewed)
-
-pub returns-in-Some-Show-clause-complete : goal.returns-in-Some-Show-clause-complete
-returns-in-Some-Show-clause-complete g c = of_task _ _ _ (ap Some (sym c.in-Some-Show.field-0-is) ∙ c.in-Some-Show.ensures.task) c.in-Some-Show.ensures.other
-    (λ calm. let disk = calm.0 in
-    complete_shown g.D.Disk.seen g.D.Disk.images g.D.Disk.moment g.D.Disk.images_since g.D.Disk.faults c.args.disk.now c.show.new.disk c.show.result _ c.args.steps.now c.show.new.steps
-    _ _ disk.content disk.commands disk.next disk.told disk.history (disk.good disk.content (g.met.D.Disk.reads_image c.args.disk.now disk.content disk.told)) (λ is. calm.1 (c.show.ensures.write is)) calm.2 c.show.ensures.shown)
-
-pub returns-in-Some-Extract-clause-complete : goal.returns-in-Some-Extract-clause-complete
-returns-in-Some-Extract-clause-complete g c = of_task _ _ _ (ap Some (sym c.in-Some-Extract.field-0-is) ∙ c.in-Some-Extract.ensures.task) c.in-Some-Extract.ensures.other
-    (λ calm. let disk = calm.0 in
-    complete_text g.D.Disk.seen g.D.Disk.images g.D.Disk.moment g.D.Disk.images_since g.D.Disk.faults c.args.disk.now c.write_extract.new.disk c.write_extract.result _ (λ h base. IsExtract c.in-Some-Extract.extract h) c.args.steps.now c.write_extract.new.steps
-    _ _ disk.content disk.commands disk.next disk.told disk.history (disk.good disk.content (g.met.D.Disk.reads_image c.args.disk.now disk.content disk.told)) (λ is. calm.1 (c.write_extract.ensures.write is)) calm.2 c.write_extract.ensures.extracted)
+    complete_text g.D.Disk.seen g.D.Disk.images g.D.Disk.moment g.D.Disk.images_since g.D.Disk.faults c.args.disk.now c.write_over_journal-in-Some-Write.new.disk c.write_over_journal-in-Some-Write.result c.in-Some-Write.text c.args.steps.now c.write_over_journal-in-Some-Write.new.steps
+    _ _ _ _ disk.content disk.commands disk.next (λ reading. let input = calm.0 reading in (input.0, λ is. input.1 (c.write_over_journal-in-Some-Write.ensures.read is))) disk.told disk.history
+    (disk.good disk.content (g.met.D.Disk.reads_image c.args.disk.now disk.content disk.told)) (λ is. calm.2 (c.write_over_journal-in-Some-Write.ensures.write is)) calm.3 c.write_over_journal-in-Some-Write.ensures.written)
 
 pub returns-in-Some-Serve-clause-complete : goal.returns-in-Some-Serve-clause-complete
 returns-in-Some-Serve-clause-complete g c = of_task _ _ _ (ap Some (sym c.in-Some-Serve.field-0-is) ∙ c.in-Some-Serve.ensures.task) c.in-Some-Serve.ensures.other
@@ -57,9 +43,10 @@ returns-in-Some-Serve-clause-complete g c = of_task _ _ _ (ap Some (sym c.in-Som
 
 pub returns-in-Some-clause-complete : goal.returns-in-Some-clause-complete
 returns-in-Some-clause-complete g c = of_query _ _ _ c.in-None.ensures.task c.in-Some.ensures.only
-    (λ calm. let disk = calm.0 in
-    complete_text g.D.Disk.seen g.D.Disk.images g.D.Disk.moment g.D.Disk.images_since g.D.Disk.faults c.args.disk.now c.ask.new.disk c.ask.result _ (IsReplyOver c.in-Some.query) c.args.steps.now c.ask.new.steps
-    _ _ disk.content disk.commands disk.next disk.told disk.history (disk.good disk.content (g.met.D.Disk.reads_image c.args.disk.now disk.content disk.told)) (λ is. calm.1 (c.ask.ensures.write is)) calm.2 c.ask.ensures.asked)
+    (λ calm. let disk = calm.1 in
+    complete_text g.D.Disk.seen g.D.Disk.images g.D.Disk.moment g.D.Disk.images_since g.D.Disk.faults c.args.disk.now c.write_over_journal.new.disk c.write_over_journal.result (Ask c.in-Some.query) c.args.steps.now c.write_over_journal.new.steps
+    _ _ _ _ disk.content disk.commands disk.next (λ reading. let input = calm.0 reading in (input.0, λ is. input.1 (c.write_over_journal.ensures.read is))) disk.told disk.history
+    (disk.good disk.content (g.met.D.Disk.reads_image c.args.disk.now disk.content disk.told)) (λ is. calm.2 (c.write_over_journal.ensures.write is)) calm.3 c.write_over_journal.ensures.written)
 
 pub returns-in-None-read_asking-clause-complete : goal.returns-in-None-read_asking-clause-complete
 returns-in-None-read_asking-clause-complete g c = of_none _ _ c.in-None.ensures.task (asks_none _ c.in-None-read_asking.ensures.only)
@@ -80,30 +67,22 @@ returns-in-Some-Drill-clause-complete g c = of_task _ _ _ (ap Some (sym c.in-Som
 
 pub returns-in-Some-Apply-clause-file : goal.returns-in-Some-Apply-clause-file
 returns-in-Some-Apply-clause-file g c = of_task _ _ _ (ap Some (sym c.in-Some-Apply.field-0-is) ∙ c.in-Some-Apply.ensures.task) c.in-Some-Apply.ensures.other
-    (λ over. record { not_journal = c.apply.ensures.not_journal; damaged = c.apply.ensures.damaged; full = c.apply.ensures.full })
+    (λ over. c.apply.ensures.file)
 
 pub returns-in-Some-Import-clause-file : goal.returns-in-Some-Import-clause-file
 returns-in-Some-Import-clause-file g c = of_task _ _ _ (ap Some (sym c.in-Some-Import.field-0-is) ∙ c.in-Some-Import.ensures.task) c.in-Some-Import.ensures.other
     (λ over. c.import.ensures.file)
 
-pub returns-in-Some-Show-clause-file : goal.returns-in-Some-Show-clause-file
-returns-in-Some-Show-clause-file g c = of_task _ _ _ (ap Some (sym c.in-Some-Show.field-0-is) ∙ c.in-Some-Show.ensures.task) c.in-Some-Show.ensures.other
-    (λ over. c.show.ensures.file)
-
-pub returns-in-Some-Extract-clause-file : goal.returns-in-Some-Extract-clause-file
-returns-in-Some-Extract-clause-file g c = of_task _ _ _ (ap Some (sym c.in-Some-Extract.field-0-is) ∙ c.in-Some-Extract.ensures.task) c.in-Some-Extract.ensures.other
-    (λ over. c.write_extract.ensures.file)
-
-pub returns-in-Some-Review-clause-file : goal.returns-in-Some-Review-clause-file
-returns-in-Some-Review-clause-file g c = of_task _ _ _ (ap Some (sym c.in-Some-Review.field-0-is) ∙ c.in-Some-Review.ensures.task) c.in-Some-Review.ensures.other
-    (λ over. c.write_review.ensures.file)
+pub returns-in-Some-Write-clause-file : goal.returns-in-Some-Write-clause-file
+returns-in-Some-Write-clause-file g c = of_task _ _ _ (ap Some (sym c.in-Some-Write.field-0-is) ∙ c.in-Some-Write.ensures.task) c.in-Some-Write.ensures.other
+    (λ over. c.write_over_journal-in-Some-Write.ensures.file)
 
 pub returns-in-Some-Serve-clause-file : goal.returns-in-Some-Serve-clause-file
 returns-in-Some-Serve-clause-file g c = of_task _ _ _ (ap Some (sym c.in-Some-Serve.field-0-is) ∙ c.in-Some-Serve.ensures.task) c.in-Some-Serve.ensures.other
     (λ over. c.serve_over.ensures.file)
 
 pub returns-in-Some-clause-file : goal.returns-in-Some-clause-file
-returns-in-Some-clause-file g c = of_query _ _ _ c.in-None.ensures.task c.in-Some.ensures.only (λ over. c.ask.ensures.file)
+returns-in-Some-clause-file g c = of_query _ _ _ c.in-None.ensures.task c.in-Some.ensures.only (λ over. c.write_over_journal.ensures.file)
 
 pub returns-in-None-read_asking-clause-file : goal.returns-in-None-read_asking-clause-file
 returns-in-None-read_asking-clause-file g c = of_none _ _ c.in-None.ensures.task (asks_none _ c.in-None-read_asking.ensures.only)
@@ -130,21 +109,13 @@ pub returns-in-Some-Import-clause-unread : goal.returns-in-Some-Import-clause-un
 returns-in-Some-Import-clause-unread g c = of_task _ _ _ (ap Some (sym c.in-Some-Import.field-0-is) ∙ c.in-Some-Import.ensures.task) c.in-Some-Import.ensures.other
     (λ unread. absurd (unread tt))
 
-pub returns-in-Some-Review-clause-unread : goal.returns-in-Some-Review-clause-unread
-returns-in-Some-Review-clause-unread g c = of_task _ _ _ (ap Some (sym c.in-Some-Review.field-0-is) ∙ c.in-Some-Review.ensures.task) c.in-Some-Review.ensures.other
-    (λ unread. absurd (unread tt))
-
 pub returns-in-Some-Session-clause-unread : goal.returns-in-Some-Session-clause-unread
 returns-in-Some-Session-clause-unread g c = of_task _ _ _ (ap Some (sym c.in-Some-Session.field-0-is) ∙ c.in-Some-Session.ensures.task) c.in-Some-Session.ensures.other
     (λ unread. absurd (unread tt))
 
-pub returns-in-Some-Show-clause-unread : goal.returns-in-Some-Show-clause-unread
-returns-in-Some-Show-clause-unread g c = of_task _ _ _ (ap Some (sym c.in-Some-Show.field-0-is) ∙ c.in-Some-Show.ensures.task) c.in-Some-Show.ensures.other
-    (λ unread. refl)
-
-pub returns-in-Some-Extract-clause-unread : goal.returns-in-Some-Extract-clause-unread
-returns-in-Some-Extract-clause-unread g c = of_task _ _ _ (ap Some (sym c.in-Some-Extract.field-0-is) ∙ c.in-Some-Extract.ensures.task) c.in-Some-Extract.ensures.other
-    (λ unread. refl)
+pub returns-in-Some-Write-clause-unread : goal.returns-in-Some-Write-clause-unread
+returns-in-Some-Write-clause-unread g c = of_task _ _ _ (ap Some (sym c.in-Some-Write.field-0-is) ∙ c.in-Some-Write.ensures.task) c.in-Some-Write.ensures.other
+    (λ unread. c.write_over_journal-in-Some-Write.ensures.unread unread)
 
 pub returns-in-Some-Serve-clause-unread : goal.returns-in-Some-Serve-clause-unread
 returns-in-Some-Serve-clause-unread g c = of_task _ _ _ (ap Some (sym c.in-Some-Serve.field-0-is) ∙ c.in-Some-Serve.ensures.task) c.in-Some-Serve.ensures.other
@@ -159,18 +130,66 @@ returns-in-Some-Init-clause-unread g c = of_task _ _ _ (ap Some (sym c.in-Some-I
     (λ unread. refl)
 
 pub returns-in-Some-clause-unread : goal.returns-in-Some-clause-unread
-returns-in-Some-clause-unread g c = of_query _ _ _ c.in-None.ensures.task c.in-Some.ensures.only (λ unread. refl)
+returns-in-Some-clause-unread g c = of_query _ _ _ c.in-None.ensures.task c.in-Some.ensures.only (λ unread. c.write_over_journal.ensures.unread unread)
 
 pub returns-in-None-read_asking-clause-unread : goal.returns-in-None-read_asking-clause-unread
 returns-in-None-read_asking-clause-unread g c = of_none _ _ c.in-None.ensures.task (asks_none _ c.in-None-read_asking.ensures.only)
 
--- ---- queries
+-- ---- texts
 
-pub returns-in-Some-clause-ask : goal.returns-in-Some-clause-ask
-returns-in-Some-clause-ask g c = λ q asking. rw (one_asked c.in-Some.query q (c.in-Some.ensures.only q asking)) c.ask.ensures.asked
+pub returns-in-Some-Init-clause-text : goal.returns-in-Some-Init-clause-text
+returns-in-Some-Init-clause-text g c = no_text _ _ _ (ap Some (sym c.in-Some-Init.field-0-is) ∙ c.in-Some-Init.ensures.task) c.in-Some-Init.ensures.other tt
+
+pub returns-in-Some-Init-clause-no_report : goal.returns-in-Some-Init-clause-no_report
+returns-in-Some-Init-clause-no_report g c = no_text _ _ _ (ap Some (sym c.in-Some-Init.field-0-is) ∙ c.in-Some-Init.ensures.task) c.in-Some-Init.ensures.other tt
+
+pub returns-in-Some-Apply-clause-text : goal.returns-in-Some-Apply-clause-text
+returns-in-Some-Apply-clause-text g c = no_text _ _ _ (ap Some (sym c.in-Some-Apply.field-0-is) ∙ c.in-Some-Apply.ensures.task) c.in-Some-Apply.ensures.other tt
+
+pub returns-in-Some-Apply-clause-no_report : goal.returns-in-Some-Apply-clause-no_report
+returns-in-Some-Apply-clause-no_report g c = no_text _ _ _ (ap Some (sym c.in-Some-Apply.field-0-is) ∙ c.in-Some-Apply.ensures.task) c.in-Some-Apply.ensures.other tt
+
+pub returns-in-Some-Session-clause-text : goal.returns-in-Some-Session-clause-text
+returns-in-Some-Session-clause-text g c = no_text _ _ _ (ap Some (sym c.in-Some-Session.field-0-is) ∙ c.in-Some-Session.ensures.task) c.in-Some-Session.ensures.other tt
+
+pub returns-in-Some-Session-clause-no_report : goal.returns-in-Some-Session-clause-no_report
+returns-in-Some-Session-clause-no_report g c = no_text _ _ _ (ap Some (sym c.in-Some-Session.field-0-is) ∙ c.in-Some-Session.ensures.task) c.in-Some-Session.ensures.other tt
+
+pub returns-in-Some-Import-clause-text : goal.returns-in-Some-Import-clause-text
+returns-in-Some-Import-clause-text g c = no_text _ _ _ (ap Some (sym c.in-Some-Import.field-0-is) ∙ c.in-Some-Import.ensures.task) c.in-Some-Import.ensures.other tt
+
+pub returns-in-Some-Import-clause-no_report : goal.returns-in-Some-Import-clause-no_report
+returns-in-Some-Import-clause-no_report g c = no_text _ _ _ (ap Some (sym c.in-Some-Import.field-0-is) ∙ c.in-Some-Import.ensures.task) c.in-Some-Import.ensures.other tt
+
+pub returns-in-Some-Drill-clause-text : goal.returns-in-Some-Drill-clause-text
+returns-in-Some-Drill-clause-text g c = no_text _ _ _ (ap Some (sym c.in-Some-Drill.field-0-is) ∙ c.in-Some-Drill.ensures.task) c.in-Some-Drill.ensures.other tt
+
+pub returns-in-Some-Drill-clause-no_report : goal.returns-in-Some-Drill-clause-no_report
+returns-in-Some-Drill-clause-no_report g c = no_text _ _ _ (ap Some (sym c.in-Some-Drill.field-0-is) ∙ c.in-Some-Drill.ensures.task) c.in-Some-Drill.ensures.other tt
+
+pub returns-in-Some-Serve-clause-text : goal.returns-in-Some-Serve-clause-text
+returns-in-Some-Serve-clause-text g c = no_text _ _ _ (ap Some (sym c.in-Some-Serve.field-0-is) ∙ c.in-Some-Serve.ensures.task) c.in-Some-Serve.ensures.other tt
+
+pub returns-in-Some-Serve-clause-no_report : goal.returns-in-Some-Serve-clause-no_report
+returns-in-Some-Serve-clause-no_report g c = no_text _ _ _ (ap Some (sym c.in-Some-Serve.field-0-is) ∙ c.in-Some-Serve.ensures.task) c.in-Some-Serve.ensures.other tt
+
+pub returns-in-Some-Write-clause-text : goal.returns-in-Some-Write-clause-text
+returns-in-Some-Write-clause-text g c = text_of_task _ _ _ (ap Some (sym c.in-Some-Write.field-0-is) ∙ c.in-Some-Write.ensures.task) c.in-Some-Write.ensures.other c.write_over_journal-in-Some-Write.ensures.written
+
+pub returns-in-Some-clause-text : goal.returns-in-Some-clause-text
+returns-in-Some-clause-text g c = text_of_query _ _ _ c.in-None.ensures.task c.in-Some.ensures.only c.write_over_journal.ensures.written
+
+pub returns-in-None-read_asking-clause-text : goal.returns-in-None-read_asking-clause-text
+returns-in-None-read_asking-clause-text g c = text_of_none _ _ c.in-None.ensures.task (asks_none _ c.in-None-read_asking.ensures.only)
+
+pub returns-in-Some-Write-clause-no_report : goal.returns-in-Some-Write-clause-no_report
+returns-in-Some-Write-clause-no_report g c = text_of_task _ _ _ (ap Some (sym c.in-Some-Write.field-0-is) ∙ c.in-Some-Write.ensures.task) c.in-Some-Write.ensures.other c.write_over_journal-in-Some-Write.ensures.idle
+
+pub returns-in-Some-clause-no_report : goal.returns-in-Some-clause-no_report
+returns-in-Some-clause-no_report g c = text_of_query _ _ _ c.in-None.ensures.task c.in-Some.ensures.only c.write_over_journal.ensures.idle
+
+pub returns-in-None-read_asking-clause-no_report : goal.returns-in-None-read_asking-clause-no_report
+returns-in-None-read_asking-clause-no_report g c = text_of_none _ _ c.in-None.ensures.task (asks_none _ c.in-None-read_asking.ensures.only)
 
 pub returns-in-None-read_asking-clause-usage : goal.returns-in-None-read_asking-clause-usage
 returns-in-None-read_asking-clause-usage g c = (λ is. (sym c.in-None.ensures.task, asks_none _ c.in-None-read_asking.ensures.only), λ unknown. refl)
-
-pub returns-in-None-read_asking-clause-ask : goal.returns-in-None-read_asking-clause-ask
-returns-in-None-read_asking-clause-ask g c = λ q asking. absurd (asks_none _ c.in-None-read_asking.ensures.only q asking)

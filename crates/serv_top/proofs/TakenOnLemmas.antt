@@ -14,14 +14,15 @@ use Rattle.serv_line.specs.Replies.{text_of_reply}
 use Rattle.serv_line.proofs.LineLemmas.{line_printed}
 use Rattle.serv_engine.specs.Histories.{line_of_command, lines_of_history, record_length, lengths_of}
 use Rattle.serv_machine.specs.History.{Store, Memory, Journal, History, Full, Fresh, by_judgement, decided, after_decision}
-use Rattle.serv_machine.specs.Replies.{text_of_decision, reply_to_request, history_after_request}
+use Rattle.serv_machine.specs.Replies.{reply_to_request, history_after_request}
+use Rattle.serv_machine.specs.Verdicts.{text_of_verdict, verdict_by, verdict_to}
 use Rattle.serv_top.specs.Lines.{IsPlain, onto_first, onto_ended, lines_of, ended_lines}
 use Rattle.serv_machine.specs.Stands.{Stand}
 use Rattle.serv_machine.specs.Sayings.{Saying, history_after_all, replies_to}
 use Rattle.serv_top.specs.Machine.{in_words, asks}
 use Rattle.serv_top.specs.Replies.{Answers}
 use Rattle.serv_top.specs.Upheld.{Say}
-use Rattle.serv_top.specs.Extracts.{lines_of_commands, HasRoomFor, replies_after, AreTakenOn}
+use Rattle.serv_top.specs.TakenOn.{lines_of_commands, HasRoomFor, replies_after, AreTakenOn}
 use Rattle.serv_top.proofs.LineLemmas.{say_one}
 
 -- ---- the lines of a stream of them
@@ -112,13 +113,13 @@ after_asked (a ∷ more) before store h room =
 
 replies_asked : (more before : List Accepted) (store : Store) → IsHistoryFrom before more → HasRoomFor store (before ++ more)
     → replies_to (held before store) (asked more) ≡ replies_after before more
-unfolding asked held history_after_request reply_to_request
+unfolding asked held history_after_request reply_to_request verdict_to
 replies_asked [] before store h room = refl
 replies_asked (a ∷ more) before store h room =
     let fresh = is_fresh store before more a h.0 room in
     let next = ap (after_decision (held before store) a) fresh in
     let more_room : HasRoomFor store ((before ++ a ∷ []) ++ more) = subst (HasRoomFor store) (sym (append_assoc before (a ∷ []) more)) room in
-    let first = ap (text_of_decision (held before store) a.command) fresh in
+    let first = ap (λ d. text_of_verdict (verdict_by (held before store) a.command d)) fresh in
     ap (λ text. text ++ replies_to (after_decision (held before store) a (decided (held before store) a.key a.command)) (asked more)) first
     ∙ ap (λ s. text_of_reply (next_reply before a.command) ++ replies_to s (asked more)) next
     ∙ ap (λ rest. text_of_reply (next_reply before a.command) ++ rest) (replies_asked more (before ++ a ∷ []) store h.1 more_room)

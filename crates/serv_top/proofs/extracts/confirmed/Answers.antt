@@ -1,8 +1,8 @@
 use Rattle.std.proofs.Common.{subst}
 use Rattle.servicing_transfer.specs.Stated.{IsBadLine, IsConfirmFault}
-use Rattle.serv_top.specs.Reviews.{faulty}
-use Rattle.serv_top.proofs.ReviewLemmas.{ok_map}
-use Rattle.serv_top.proofs.reviews.confirmed.Goals as goal
+use Rattle.serv_top.specs.Extracts.{faulty}
+use Rattle.serv_top.proofs.TextLemmas.{ok_map}
+use Rattle.serv_top.proofs.extracts.confirmed.Goals as goal
 
 pub returns-in-Err-BadLine-clause-text : goal.returns-in-Err-BadLine-clause-text
 returns-in-Err-BadLine-clause-text g c =
