@@ -13,6 +13,7 @@ use crate::faults::{ActFault, Halt};
 use crate::machine::Machine;
 use crate::verdict::{Verdict, push_verdict};
 use serv_disk::Disk;
+use serv_line::{push_full, push_refusal, push_reply};
 use std::sync::ledger::Ledger;
 use svc_base::{OutOfMemory, Steps};
 use svc_core::CoreFault;
@@ -20,7 +21,6 @@ use svc_types::{Command, Key, Query, Request};
 
 /// Acts on a request, and appends the text of its reply; a fresh command is begun. Where it halts nothing is
 /// appended; for want of memory a command may then be begun, or accepted, all the same.
-#[tactic(auto, using(crate::proofs::NearLemmas::near_by), unfolding(crate::specs::Replies::reply_to_request))]
 pub fn answer_request<D: Disk, M: Machine<D>, L: Ledger>(
     machine: &mut M,
     disk: &mut D,
@@ -51,9 +51,85 @@ pub fn answer_request<D: Disk, M: Machine<D>, L: Ledger>(
     ensures faults { D.faults disk.old ≤ D.faults disk.new }
     ensures steps { steps.new ≤ steps.old + bound_of_request (M.history machine.old) request.now }
 {
-    let verdict = decide(machine, disk, request, steps)?;
-    push_verdict(out, &verdict)?;
-    Ok(())
+    match request {
+        Request::Do(key, command) => answer_command(machine, disk, key, command, out, steps),
+        Request::Ask(query) => {
+            answer_query(machine, query, out, steps)?;
+            Ok(())
+        }
+    }
+}
+
+/// Acts on a command, and appends its reply. It makes no verdict: one is as wide as an answer, and to copy it takes a line
+/// 350 instructions.
+#[tactic(auto, using(crate::proofs::NearLemmas::near_by), unfolding(crate::specs::Replies::reply_to_request, crate::specs::Verdicts::verdict_to, crate::specs::Replies::history_after_request, crate::specs::Replies::bound_of_request))]
+fn answer_command<D: Disk, M: Machine<D>, L: Ledger>(
+    machine: &mut M,
+    disk: &mut D,
+    key: &Key,
+    command: &Command,
+    out: &mut Vec<u8>,
+    steps: &mut Steps<L>,
+) -> Result<(), Halt>
+    requires command { IsCommand command.now }
+    requires ready { M.ready machine.old disk.old }
+    ensures reply { OnOk result (out.new.items
+        ≡ out.old.items ++ reply_to_request (M.history machine.old) (request.Do key.now command.now)) }
+    ensures kept { OnErr result (out.new.items ≡ out.old.items) }
+    ensures history { OnOk result (M.history machine.new
+        ≡ history_after_request (M.history machine.old) (request.Do key.now command.now)) }
+    ensures held { OnOk result (IsKeptBut (IsAppending (M.history machine.old) (request.Do key.now command.now))
+        (M.history machine.old) (M.history machine.new) (M.kept machine.new)) }
+    ensures near { result ≡ Err Halt.OutOfMemory → IsNear (M.history machine.old)
+        (history_after_request (M.history machine.old) (request.Do key.now command.now)) (M.kept machine.new) }
+    ensures stopped { result ≡ Err Halt.DiskFault → (M.kept machine.new ≡ M.history machine.old)
+        × HasRisen (D.faults disk.old) (D.faults disk.new) }
+    ensures appending { result ≡ Err Halt.DiskFault → IsAppending (M.history machine.old) (request.Do key.now command.now) }
+    ensures disk { result ≢ Err Halt.DiskFault → OnDisk D.images D.moment D.images_since disk.old disk.new
+        (M.history machine.old) (M.kept machine.new) [] }
+    ensures torn { result ≡ Err Halt.DiskFault → OnDisk D.images D.moment D.images_since disk.old disk.new
+        (M.history machine.old) (M.history machine.old) (commands_in (request.Do key.now command.now)) }
+    ensures running { result ≢ Err Halt.DiskFault → M.running machine.new disk.new }
+    ensures failed { result ≡ Err Halt.DiskFault → M.failed machine.new }
+    ensures faults { D.faults disk.old ≤ D.faults disk.new }
+    ensures steps { steps.new ≤ steps.old + bound_of_request (M.history machine.old) (request.Do key.now command.now) }
+{
+    match machine.begin(disk, key, command, steps) {
+        Ok(reply) => {
+            push_reply(out, &reply)?;
+            Ok(())
+        }
+        Err(ActFault::Refused(why)) => {
+            push_refusal(out, &why)?;
+            Ok(())
+        }
+        Err(ActFault::Full(bytes)) => {
+            push_full(out, bytes)?;
+            Ok(())
+        }
+        Err(ActFault::DiskFault) => Err(Halt::DiskFault),
+        Err(ActFault::OutOfMemory) => Err(Halt::OutOfMemory),
+    }
+}
+
+/// Answers a query, and appends the answer.
+#[tactic(auto, unfolding(crate::specs::Replies::reply_to_request))]
+fn answer_query<D: Disk, M: Machine<D>, L: Ledger>(
+    machine: &M,
+    query: &Query,
+    out: &mut Vec<u8>,
+    steps: &mut Steps<L>,
+) -> Result<(), OutOfMemory>
+    requires { IsQuery query.now }
+    ensures reply { OnOk result
+        (out.new.items ≡ out.old.items ++ reply_to_request (M.history machine.now) (request.Ask query.now)) }
+    ensures kept { OnErr result (out.new.items ≡ out.old.items) }
+    ensures history { M.history machine.now ≡ history_after_request (M.history machine.now) (request.Ask query.now) }
+    ensures steps { steps.new ≤ steps.old
+        + bound_of_request (M.history machine.now) (request.Ask query.now) }
+{
+    let verdict = decide_query(machine, query, steps)?;
+    push_verdict(out, &verdict)
 }
 
 /// Decides about a request; a fresh command is begun. Where it halts, no command is begun or accepted.
