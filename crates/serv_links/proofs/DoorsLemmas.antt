@@ -5,18 +5,19 @@ use Rattle.std.proofs.lemmas.List.Sums.{sum_by_push}
 use Rattle.svc_world.specs.World.{Accepted}
 use Rattle.serv_disk.specs.Listening.{IsNext, IsBack}
 use Rattle.serv_disk.specs.Stamps.{Stamp}
-use Rattle.serv_machine.specs.OnDisk.{OnDisk}
-use Rattle.serv_machine.specs.Upheld.{Upholds}
+use Rattle.serv_machine.specs.OnDisk.{OnDisk, Upholds}
 use Rattle.serv_machine.proofs.OnDiskLemmas.{disk_more}
 use Rattle.serv_machine.proofs.UpheldLemmas.{upheld_later}
 use Rattle.serv_links.specs.declared.doors.DoorsEnd.TheVariants as doors_end
 use Rattle.serv_links.specs.declared.link_end.LinkEnd.{LinkEnd}
 use Rattle.serv_links.specs.declared.link_end.LinkEnd.TheVariants.{Ended, Broken, Cut, Disk, NoMemory}
 use Rattle.serv_links.specs.declared.summary.Summary.{Summary}
-use Rattle.serv_machine.specs.Stands.{Stand}
+use Rattle.serv_machine.specs.History.{Stand}
 use Rattle.serv_disk.specs.Faults.{HasRisen}
-use Rattle.serv_links.specs.Outcomes.{Writes}
-use Rattle.serv_links.specs.Answered.{AreAnswersOf}
+use Rattle.serv_machine.specs.Answering.{Writes}
+use Rattle.serv_machine.specs.declared.faults.Stop.TheVariants.{WriteFault, OutOfMemory}
+use Rattle.serv_links.specs.Outcomes.{AreInFront, AreAnswersOf, ComeFirst}
+use Rattle.serv_links.proofs.StoppedLemmas.{nothing_begun}
 use Rattle.serv_links.specs.Links.{IsDiskEnd, Serves, number_in}
 use Rattle.serv_links.specs.Doors.{ServedLink, AreServed, AreTaken, AreBack, HasServed, NoDisk, IsSummary, ServesDoors, as_broken, as_cut, as_memory}
 
@@ -92,8 +93,10 @@ nothing_pending : (e : LinkEnd) (reads writes : Type 0) (U : (ℕ → List Accep
 nothing_pending (Ended n) reads writes U left left' s s' pending added calm is = is.says.0
 nothing_pending (Cut n) reads writes U left left' s s' pending added calm is = is.says.0
 nothing_pending (Disk n) reads writes U left left' s s' pending added calm is = absurd (calm tt)
-nothing_pending (Broken n) reads writes U left left' s s' pending added calm is = elim is.says [ inl read ↦ read.1 | inr write ↦ write.1.stopped.one.0 ]
-nothing_pending (NoMemory n) reads writes U left left' s s' pending added calm is = elim is.says [ inl cut ↦ cut.stopped.one.0 | inr starved ↦ starved.0 ]
+nothing_pending (Broken n) reads writes U left left' s s' pending added calm is = elim is.says [ inl read ↦ read.1 | inr write ↦ (let e = write.1.ended in nothing_begun WriteFault (ComeFirst n write.1.asks) 0 s s' pending e.before (λ is. cc) e.stopped) ]
+nothing_pending (NoMemory n) reads writes U left left' s s' pending added calm is =
+    let e = is.says.ended in
+    nothing_begun OutOfMemory (ComeFirst n is.says.asks) 0 s s' pending e.before (λ is. cc) e.stopped
 
 -- ---- links so far
 
@@ -101,7 +104,7 @@ nothing_pending (NoMemory n) reads writes U left left' s s' pending added calm i
 serves_later : (U V : (ℕ → List Accepted → Type 0) → Type 0) (e : LinkEnd) (reads writes : Type 0) (left left' : Option (List ℕ)) (s s' : Stand) (pending : List Accepted) (added : List ℕ)
     → ((Covers : ℕ → List Accepted → Type 0) → U Covers → V Covers) → Serves e reads writes U left left' s s' pending added → Serves e reads writes V left left' s s' pending added
 serves_later U V e reads writes left left' s s' pending added then is =
-    record { taken = is.taken; took = is.took; within = is.within; read_on = is.read_on; says = is.says; acknowledged = then (AreAnswersOf s.history is.taken) is.acknowledged }
+    record { taken = is.taken; took = is.took; within = is.within; read_on = is.read_on; says = is.says; acknowledged = then (AreAnswersOf (AreInFront is.taken) s.history) is.acknowledged }
 
 module _ {D C : Type 0} (images : D → List ℕ → Type 0) (moment : D → ℕ) (images_since : D → ℕ → List ℕ → Type 0) (left held : C → Option (List ℕ)) (log : C → Option (List Stamp)) (reads writes : C → ℕ) where
   -- a link that was served, where the disk is this one and the books stand so
@@ -168,14 +171,14 @@ module _ {D C : Type 0} (images : D → List ℕ → Type 0) (moment : D → ℕ
       disk_on = disk_more images moment images_since old mid new s.history t.history s'.history link.pending along.disk link.disk
 
       has_on : HasServed (P new s') c0 c3 b0 b3 (along.ends ++ e ∷ []) s s' link.pending
-      has_on = has_more new c2 c3 b2 b3 e x y s' link.pending link.disk next stays kept back (record { added = link.wrote; appends = link.appends; serves = link.says_so })
+      has_on = has_more new c2 c3 b2 b3 e x y s' link.pending link.disk next stays kept back (record { added = link.written; appends = link.wrote; serves = link.says_so })
 
       long : length (along.ends ++ e ∷ []) ≡ n + 1
       long = let joined = length-append along.ends (e ∷ []) in let is = along.count in omega arith
 
       pub along_more : ¬ (IsDiskEnd e) → Along old new summary' (n + 1) c0 c3 b0 b3 s s'
       along_more calm =
-          let none : link.pending ≡ [] = nothing_pending e _ _ _ _ _ t s' link.pending link.wrote calm link.says_so in
+          let none : link.pending ≡ [] = nothing_pending e _ _ _ _ _ t s' link.pending link.written calm link.says_so in
           record {
             ends = along.ends ++ e ∷ [];
             has = subst (λ p. HasServed (P new s') c0 c3 b0 b3 (along.ends ++ e ∷ []) s s' p) none has_on;

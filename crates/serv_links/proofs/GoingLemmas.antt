@@ -6,25 +6,27 @@ use Rattle.std.proofs.KnownBytes.{Appends-nil, Consumes-nil, Consumes-trans}
 use Rattle.std.proofs.lemmas.Bool.{both_ways}
 use Rattle.svc_world.specs.World.{Accepted}
 use Rattle.serv_disk.specs.Sides.{Reading, Writing}
-use Rattle.serv_disk.specs.Stamps.{Stamp}
+use Rattle.serv_disk.specs.Stamps.{Stamp, Notes}
 use Rattle.serv_http.specs.declared.ask.Ask.{Ask}
 use Rattle.serv_http.specs.declared.conn.Conn.{Conn}
 use Rattle.serv_http.specs.Conns.{StandsFor, StandsForLeft, is_over}
 use Rattle.serv_http.specs.Streams.{AsksTo}
 use Rattle.serv_http.proofs.StreamLemmas.{asks-grow}
-use Rattle.serv_machine.specs.OnDisk.{OnDisk}
+use Rattle.serv_machine.specs.Answering.{Writes}
+use Rattle.serv_machine.specs.OnDisk.{OnDisk, Upholds}
+use Rattle.serv_links.specs.declared.link_end.LinkEnd.{LinkEnd}
 use Rattle.serv_links.specs.declared.link_end.LinkEnd.TheVariants as link_end
 use Rattle.serv_machine.specs.declared.faults.Stop.{Stop}
 use Rattle.serv_machine.specs.declared.faults.Stop.TheVariants as stop
-use Rattle.serv_machine.specs.Stands.{Stand}
-use Rattle.serv_links.specs.Responses.{response_503}
-use Rattle.serv_links.specs.Outcomes.{IsAnswered, IsCutOff, IsUnread, IsPiece, AppendsFront, Writes}
-use Rattle.serv_machine.specs.Upheld.{Upholds}
+use Rattle.serv_machine.specs.History.{Stand}
+use Rattle.serv_links.specs.Meanings.{last_text}
+use Rattle.serv_links.specs.Outcomes.{IsAnswered, AreRead, AreInFront, IsCutOff, IsPiece, AppendsFront, AreAnswersOf}
 use Rattle.serv_machine.proofs.UpheldLemmas.{upheld_none}
-use Rattle.serv_links.specs.Answered.{AreAnswersIn, AreAnswersOf}
-use Rattle.serv_links.proofs.AnsweredLemmas.{asks_none, piece_upheld}
-use Rattle.serv_links.specs.Links.{IsAll, IsReadOn, IsStarved, Serves, link_limit, read_limit}
-use Rattle.serv_links.proofs.RoundLemmas.{answered_none, answered_more, stopped_more, piece_weaker, writes_more, writes_as}
+use Rattle.serv_links.proofs.AnsweredLemmas.{asks_none, front_none, front_grows, piece_upheld, unread_upheld}
+use Rattle.serv_links.specs.Links.{IsAll, IsReadOn, IsServed, Serves, link_limit, read_limit}
+use Rattle.serv_links.proofs.RoundLemmas.{answered_none, answered_more, ended_more, cut_off_weaker, unread_ended}
+use Rattle.serv_links.proofs.StoppedLemmas.{writes_more}
+use Rattle.serv_machine.proofs.GatheredLemmas.{writes_as}
 
 -- all requests of the bytes taken are answered, and the connection stands for what is left of them; and of what so many bytes
 -- answer, which writes are upheld
@@ -38,7 +40,7 @@ pub record Going (upheld : (ℕ → List Accepted → Type 0) → Type 0) (left 
   pub asked : AsksTo bytes asks (Some rest)
   pub stands : StandsFor c rest
   pub answered : IsAnswered n asks s s' added
-  pub acknowledged : upheld (AreAnswersOf s.history bytes)
+  pub acknowledged : upheld (AreAnswersOf (AreInFront bytes) s.history)
 
 -- the same where the connection may have ended
 pub record Passed (upheld : (ℕ → List Accepted → Type 0) → Type 0) (left left' : Option (List ℕ)) (c : Conn) (n taken : ℕ) (s s' : Stand) (pending : List Accepted) (added : List ℕ) : Type 0 where
@@ -52,7 +54,7 @@ pub record Passed (upheld : (ℕ → List Accepted → Type 0) → Type 0) (left
   pub stands : StandsForLeft c over
   pub read_on : IsReadOn bytes
   pub answered : IsAnswered n asks s s' added
-  pub acknowledged : upheld (AreAnswersOf s.history bytes)
+  pub acknowledged : upheld (AreAnswersOf (AreInFront bytes) s.history)
 
 -- why it stops
 pub stopped_as : (o : Result (Unit {0}) Stop) (e why : Stop) → o ≡ Err e → e ≡ why → o ≡ Err why
@@ -90,7 +92,7 @@ took_more left left' left'' left''' bytes piece first second same = subst (λ l.
 
 module _ (U V : (ℕ → List Accepted → Type 0) → Type 0) (left left' : Option (List ℕ)) (c : Conn) (n taken : ℕ) (s t : Stand) (pending : List Accepted) (added : List ℕ) (going : Going U left left' c n taken s t pending added)
     (left'' left''' : Option (List ℕ)) (piece : List ℕ) (count : ℕ) (long : length piece ≡ count) (few : count ≤ read_limit) (took : Consumes left' left'' piece) (same : left''' ≡ left'') (cut : Type 0)
-    (up : V (AreAnswersOf s.history (going.bytes ++ piece))) where
+    (up : V (AreAnswersOf (AreInFront (going.bytes ++ piece)) s.history)) where
   -- it went on before the piece
   last_read : IsReadOn (going.bytes ++ piece)
   last_read = record { before = going.bytes; piece = piece; parted = refl; few = omega (arith, few, long); asks = going.asks; going = going.rest; asked = going.asked }
@@ -111,42 +113,25 @@ module _ (U V : (ℕ → List Accepted → Type 0) → Type 0) (left left' : Opt
     acknowledged = up;
   }
 
-  cut_off_more : (o : Stop) (m : ℕ) (t' : Stand) (pending' : List Accepted) (w : List ℕ) → IsCutOff cut o m (going.rest ++ piece) t t' pending' w
-      → IsCutOff cut o (n + m) (going.bytes ++ piece) s t' pending' (added ++ w)
-  cut_off_more o m t' pending' w more = record {
+  cut_off_more : (why : Stop) (m : ℕ) (t' : Stand) (pending' : List Accepted) (w : List ℕ) → IsCutOff (AreRead (going.rest ++ piece)) cut why m t t' pending' w
+      → IsCutOff (AreInFront (going.bytes ++ piece)) cut why (n + m) s t' pending' (added ++ w)
+  cut_off_more why m t' pending' w more = record {
     asks = going.asks ++ more.asks;
-    left = more.left;
-    asked = asks-grow going.asks more.asks going.bytes going.rest piece more.left going.asked more.asked;
-    stopped = stopped_more cut o n m going.asks more.asks s t t' pending' added w going.answered more.stopped;
-  }
-
-  starved_more : (m : ℕ) (t' : Stand) (pending' : List Accepted) (w : List ℕ) → IsUnread cut m t t' pending' w → IsStarved cut (n + m) (going.bytes ++ piece) (added ++ w) s t'
-  starved_more m t' pending' w unread = record {
-    asks = going.asks;
-    first = record { front = going.bytes; more = piece; parted = refl; left = Some going.rest; asked = going.asked };
-    mid = t;
-    before = added;
-    answered = subst (λ k. IsAnswered k going.asks s t added) (let none = unread.none in omega arith) going.answered;
-    part = w;
-    added_is = refl;
-    front = unread.front;
-    stays = unread.stays;
+    known = front_grows going.asks more.asks going.bytes going.rest piece going.asked more.known;
+    ended = ended_more cut why n m going.asks more.asks s t t' pending' added w going.answered more.ended;
   }
 
   -- it ends there
-  module _ (within : taken + count ≤ link_limit) (reads : Type 0) (m : ℕ) (c' : Conn) (t' : Stand) (pending' : List Accepted) (w : List ℕ) where
-    small : length (going.bytes ++ piece) ≤ link_limit
-    small = let all = bytes_more going.bytes piece taken count going.count long in omega arith
-
-    broken_more : cut → IsPiece cut (Err stop.WriteFault) m (going.rest ++ piece) c' t t' pending' w → Serves (link_end.Broken (n + m)) reads cut V left left''' s t' pending' (added ++ w)
-    broken_more risen more = record { taken = going.bytes ++ piece; took = took_more left left' left'' left''' going.bytes piece going.took took same; within = small; read_on = last_read; says = inr (risen, cut_off_more stop.WriteFault m t' pending' w more); acknowledged = up }
-
-    disk_more_end : IsPiece cut (Err stop.DiskFault) m (going.rest ++ piece) c' t t' pending' w → Serves (link_end.Disk (n + m)) reads cut V left left''' s t' pending' (added ++ w)
-    disk_more_end more = record { taken = going.bytes ++ piece; took = took_more left left' left'' left''' going.bytes piece going.took took same; within = small; read_on = last_read; says = cut_off_more stop.DiskFault m t' pending' w more; acknowledged = up }
-
-    memory_more : IsPiece cut (Err stop.OutOfMemory) m (going.rest ++ piece) c' t t' pending' w → Serves (link_end.NoMemory (n + m)) reads cut V left left''' s t' pending' (added ++ w)
-    memory_more (inl more) = record { taken = going.bytes ++ piece; took = took_more left left' left'' left''' going.bytes piece going.took took same; within = small; read_on = last_read; says = inl (cut_off_more stop.OutOfMemory m t' pending' w more); acknowledged = up }
-    memory_more (inr unread) = record { taken = going.bytes ++ piece; took = took_more left left' left'' left''' going.bytes piece going.took took same; within = small; read_on = last_read; says = inr (unread.nothing, starved_more m t' pending' w unread); acknowledged = up }
+  stopped_more : taken + count ≤ link_limit → (reads : Type 0) (end : LinkEnd) (t' : Stand) (pending' : List Accepted) (all : List ℕ) → IsServed end reads cut (IsAtEnd left''') (going.bytes ++ piece) s t' pending' all
+      → Serves end reads cut V left left''' s t' pending' all
+  stopped_more within reads end t' pending' all says = record {
+    taken = going.bytes ++ piece;
+    took = took_more left left' left'' left''' going.bytes piece going.took took same;
+    within = (let long = bytes_more going.bytes piece taken count going.count long in omega arith);
+    read_on = last_read;
+    says = says;
+    acknowledged = up;
+  }
 
 -- ---- where it ends without a further piece
 
@@ -227,43 +212,27 @@ module _ (U : (ℕ → List Accepted → Type 0) → Type 0) (left left' : Optio
 
 module _ {D : Type 0} (images : D → List ℕ → Type 0) (moment : D → ℕ) (images_since : D → ℕ → List ℕ → Type 0) where
   -- no memory was there for the connection
-  pub starved_at_once : (d : D) (reads writes : Type 0) (U : (ℕ → List Accepted → Type 0) → Type 0) (left left' held held' : Option (List ℕ)) (s : Stand) → U (AreAnswersOf s.history []) → left' ≡ left → AppendsFront writes held held' response_503
-      → OnDisk images moment images_since d d s.history s.history []
-      → Writes images moment images_since d d (Serves (link_end.NoMemory 0) reads writes U left left' s s) s.history s.history held held'
-  starved_at_once d reads writes U left left' held held' s up same front disk = record {
-    pending = [];
-    wrote = front.part;
-    appends = front.appends;
-    says_so = record {
-      taken = [];
-      took = subst (λ l. Consumes left l []) (sym same) (Consumes-nil left);
-      within = omega arith;
-      read_on = record { before = []; piece = []; parted = refl; few = omega arith; asks = []; going = []; asked = asks_none };
-      says = inr (
-        refl,
-        record {
-          asks = [];
-          first = record { front = []; more = []; parted = refl; left = Some []; asked = asks_none };
-          mid = s;
-          before = [];
-          answered = answered_none s s refl (omega arith);
-          part = front.part;
-          added_is = refl;
-          front = front.front;
-          stays = (refl, omega arith);
-        },
-      );
-      acknowledged = up;
-    };
-    disk = disk;
-  }
+  pub starved_at_once : (d : D) → ((c : List ℕ) → images_since d (moment d) c → images d c) → (reads writes : Type 0) (left left' held held' : Option (List ℕ)) (log log' : Option (List Stamp)) (s : Stand) → left' ≡ left
+      → AppendsFront writes held held' (last_text stop.OutOfMemory) → ((x : List ℕ) → held ≡ Some x → Notes (moment d) (length x + length (last_text stop.OutOfMemory)) log log') → OnDisk images moment images_since d d s.history s.history []
+      → Writes images moment images_since d d (Serves (link_end.NoMemory 0) reads writes (λ covers. Upholds covers (moment d) (images_since d) s.history held log log') left left' s s) s.history s.history held held'
+  starved_at_once d only reads writes left left' held held' log log' s same front notes disk =
+      writes_as images moment images_since d d _ _ _ _ held held'
+      (λ pending w cut. record {
+        taken = [];
+        took = subst (λ l. Consumes left l []) (sym same) (Consumes-nil left);
+        within = omega arith;
+        read_on = record { before = []; piece = []; parted = refl; few = omega arith; asks = []; going = []; asked = asks_none };
+        says = cut;
+        acknowledged = unread_upheld images moment images_since d only (AreInFront []) front_none s held log log' disk notes;
+      })
+      (unread_ended images moment images_since (AreInFront []) front_none writes d s held held' front disk)
 
   pub going_none : (d : D) (left held : Option (List ℕ)) (log : Option (List Stamp)) (c : Conn) (s : Stand) → StandsFor c [] → OnDisk images moment images_since d d s.history s.history []
       → Writes images moment images_since d d (Going (λ covers. Upholds covers (moment d) (images_since d) s.history held log log) left left c 0 0 s s) s.history s.history held held
   going_none d left held log c s stands disk = record {
     pending = [];
-    wrote = [];
-    appends = Appends-nil held;
+    written = [];
+    wrote = Appends-nil held;
     says_so = record {
       nothing = refl;
       bytes = [];
@@ -274,7 +243,7 @@ module _ {D : Type 0} (images : D → List ℕ → Type 0) (moment : D → ℕ) 
       asked = asks_none;
       stands = stands;
       answered = answered_none s s refl (omega arith);
-      acknowledged = upheld_none (AreAnswersOf s.history []) (moment d) (images_since d) s.history held log;
+      acknowledged = upheld_none (AreAnswersOf (AreInFront []) s.history) (moment d) (images_since d) s.history held log;
     };
     disk = disk;
   }
@@ -305,44 +274,52 @@ module _ {D : Type 0} (images : D → List ℕ → Type 0) (moment : D → ℕ) 
       (run : Run old mid (Going (λ covers. Upholds covers (moment mid) (images_since mid) t.history held log log') left left' c n taken s t) s t held held') (same : held'' ≡ held')
       (piece : List ℕ) (count : ℕ) (long : length piece ≡ count) (few : count ≤ read_limit) (took : Consumes left' left'' piece) (stays : left''' ≡ left'')
       (cut : Type 0) (o : Result (Unit {0}) Stop) (m : ℕ) (served : (r : List ℕ) → StandsFor c r → Run mid new (IsPiece cut o m (r ++ piece) c' t t') t t' held'' held''')
-      (upheld : (r : List ℕ) → StandsFor c r → Upholds (AreAnswersIn t.history (r ++ piece)) (moment new) (images_since new) t'.history held'' log'' log''') where
+      (upheld : (r : List ℕ) → StandsFor c r → Upholds (AreAnswersOf (AreRead (r ++ piece)) t.history) (moment new) (images_since new) t'.history held'' log'' log''') where
     abbrev V : (ℕ → List Accepted → Type 0) → Type 0
     V covers = Upholds covers (moment new) (images_since new) t'.history held log log'''
 
     -- what was answered of the bytes before it, and of it
-    up : V (AreAnswersOf s.history (run.says_so.bytes ++ piece))
+    up : V (AreAnswersOf (AreInFront (run.says_so.bytes ++ piece)) s.history)
     up =
         let g = run.says_so in
-        let later : Upholds (AreAnswersIn t.history (g.rest ++ piece)) (moment new) (images_since new) t'.history held' log' log''' =
-        subst (λ l. Upholds (AreAnswersIn t.history (g.rest ++ piece)) (moment new) (images_since new) t'.history held' l log''') unnoted
-        (subst (λ h. Upholds (AreAnswersIn t.history (g.rest ++ piece)) (moment new) (images_since new) t'.history h log'' log''') same (upheld g.rest g.stands)) in
+        let later : Upholds (AreAnswersOf (AreRead (g.rest ++ piece)) t.history) (moment new) (images_since new) t'.history held' log' log''' =
+        subst (λ l. Upholds (AreAnswersOf (AreRead (g.rest ++ piece)) t.history) (moment new) (images_since new) t'.history held' l log''') unnoted
+        (subst (λ h. Upholds (AreAnswersOf (AreRead (g.rest ++ piece)) t.history) (moment new) (images_since new) t'.history h log'' log''') same (upheld g.rest g.stands)) in
         let second = served g.rest g.stands in
-        piece_upheld images moment images_since mid new n s t t' second.pending second.disk held held' run.wrote run.appends log log' log''' g.asks g.bytes g.rest piece g.asked g.answered g.acknowledged later
+        piece_upheld images moment images_since mid new n s t t' second.pending second.disk held held' run.written run.wrote log log' log''' g.asks g.bytes g.rest piece g.asked g.answered g.acknowledged later
 
     joined : (R : List Accepted → List ℕ → Type 0)
-        → ((p : List Accepted) (w : List ℕ) → IsPiece cut o m (run.says_so.rest ++ piece) c' t t' p w → R p (run.wrote ++ w)) → Run old new R s t' held held'''
+        → ((p : List Accepted) (w : List ℕ) → IsPiece cut o m (run.says_so.rest ++ piece) c' t t' p w → R p (run.written ++ w)) → Run old new R s t' held held'''
     joined R then =
         let second : Run mid new (IsPiece cut o m (run.says_so.rest ++ piece) c' t t') t t' held' held''' =
         subst (λ h. Run mid new (IsPiece cut o m (run.says_so.rest ++ piece) c' t t') t t' h held''') same (served run.says_so.rest run.says_so.stands) in
         writes_more images moment images_since old mid new _ _ R _ _ _ held held' held''' run run.says_so.nothing second
-        (then second.pending second.wrote second.says_so)
+        (then second.pending second.written second.says_so)
 
     pub run_passes : o ≡ Ok tt → Run old new (Passed V left left''' c' (n + m) (taken + count) s t') s t' held held'''
-    run_passes is = joined _ (λ p w x. passed_more (λ covers. Upholds covers (moment mid) (images_since mid) t.history held log log') V left left' c n taken s t run.pending run.wrote run.says_so left'' left''' piece count long few took stays cut up m c' t' p w
+    run_passes is = joined _ (λ p w x. passed_more (λ covers. Upholds covers (moment mid) (images_since mid) t.history held log log') V left left' c n taken s t run.pending run.written run.says_so left'' left''' piece count long few took stays cut up m c' t' p w
         (subst (λ q. IsPiece cut q m (run.says_so.rest ++ piece) c' t t' p w) is x))
 
     module _ (within : taken + count ≤ link_limit) (reads writes : Type 0) (then : cut → writes) where
+      -- no further request is answered
+      stops : (why : Stop) (end : LinkEnd) → o ≡ Err why
+          → ((p : List Accepted) (w : List ℕ) → IsCutOff (AreInFront (run.says_so.bytes ++ piece)) writes why (n + m) s t' p w → IsServed end reads writes (IsAtEnd left''') (run.says_so.bytes ++ piece) s t' p w)
+          → Run old new (Serves end reads writes V left left''' s t') s t' held held'''
+      stops why end is says = joined _ (λ p w x.
+          stopped_more (λ covers. Upholds covers (moment mid) (images_since mid) t.history held log log') V left left' c n taken s t run.pending run.written run.says_so left'' left''' piece count long few took stays writes up within reads end t' p
+          (run.written ++ w)
+          (says p (run.written ++ w)
+          (cut_off_more (λ covers. Upholds covers (moment mid) (images_since mid) t.history held log log') V left left' c n taken s t run.pending run.written run.says_so left'' left''' piece count long few took stays writes up why m t' p w
+          (cut_off_weaker (AreRead (run.says_so.rest ++ piece)) cut writes why m t t' p w then (subst (λ q. IsPiece cut q m (run.says_so.rest ++ piece) c' t t' p w) is x)))))
+
       pub run_broken : o ≡ Err stop.WriteFault → writes → Run old new (Serves (link_end.Broken (n + m)) reads writes V left left''' s t') s t' held held'''
-      run_broken is risen = joined _ (λ p w x. broken_more (λ covers. Upholds covers (moment mid) (images_since mid) t.history held log log') V left left' c n taken s t run.pending run.wrote run.says_so left'' left''' piece count long few took stays writes up within reads m c' t' p w risen
-          (piece_weaker cut writes (Err stop.WriteFault) m (run.says_so.rest ++ piece) c' t t' p w then (subst (λ q. IsPiece cut q m (run.says_so.rest ++ piece) c' t t' p w) is x)))
+      run_broken is risen = stops stop.WriteFault (link_end.Broken (n + m)) is (λ p w cut. inr (risen, cut))
 
       pub run_disk : o ≡ Err stop.DiskFault → Run old new (Serves (link_end.Disk (n + m)) reads writes V left left''' s t') s t' held held'''
-      run_disk is = joined _ (λ p w x. disk_more_end (λ covers. Upholds covers (moment mid) (images_since mid) t.history held log log') V left left' c n taken s t run.pending run.wrote run.says_so left'' left''' piece count long few took stays writes up within reads m c' t' p w
-          (piece_weaker cut writes (Err stop.DiskFault) m (run.says_so.rest ++ piece) c' t t' p w then (subst (λ q. IsPiece cut q m (run.says_so.rest ++ piece) c' t t' p w) is x)))
+      run_disk is = stops stop.DiskFault (link_end.Disk (n + m)) is (λ p w cut. cut)
 
       pub run_memory : o ≡ Err stop.OutOfMemory → Run old new (Serves (link_end.NoMemory (n + m)) reads writes V left left''' s t') s t' held held'''
-      run_memory is = joined _ (λ p w x. memory_more (λ covers. Upholds covers (moment mid) (images_since mid) t.history held log log') V left left' c n taken s t run.pending run.wrote run.says_so left'' left''' piece count long few took stays writes up within reads m c' t' p w
-          (piece_weaker cut writes (Err stop.OutOfMemory) m (run.says_so.rest ++ piece) c' t t' p w then (subst (λ q. IsPiece cut q m (run.says_so.rest ++ piece) c' t t' p w) is x)))
+      run_memory is = stops stop.OutOfMemory (link_end.NoMemory (n + m)) is (λ p w cut. cut)
 
   -- after a piece that was answered
   module _ (old new : D) (U : (ℕ → List Accepted → Type 0) → Type 0) (left left' held held' : Option (List ℕ)) (c : Conn) (n taken : ℕ) (s t : Stand) (run : Run old new (Passed U left left' c n taken s t) s t held held') where

@@ -1,10 +1,10 @@
 pub mod VerdictLemmas
+pub mod StoppedLemmas
 pub mod RoundLemmas
 pub mod AskLemmas
 pub mod OneLemmas
 pub mod AnsweredLemmas
 pub mod GatheredLemmas
-pub mod UpheldLemmas
 pub mod GoingLemmas
 pub mod LinkLemmas
 pub mod DoorsLemmas

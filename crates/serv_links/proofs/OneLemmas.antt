@@ -1,5 +1,5 @@
 -- Bytes have one answer.
-use Rattle.std.proofs.Common.{◌≡◌, ℕ, Bool, arith, append_assoc, length-append, List, [], ◌∷◌, ◌++◌, length, refl, sym, ap, subst, ◌∙◌}
+use Rattle.std.proofs.Common.{◌≡◌, ℕ, Bool, arith, append_assoc, append-nil, length-append, List, [], ◌∷◌, ◌++◌, length, refl, sym, ap, subst, ◌∙◌}
 use Rattle.std.specs.Prelude.{Option, Some}
 use Rattle.serde_json.specs.Data.{Data}
 use Rattle.svc_types.specs.Requests.{IsRequest}
@@ -15,17 +15,15 @@ use Rattle.serv_http.specs.Streams.{AsksTo}
 use Rattle.serv_http.proofs.StreamLemmas.{asks-unique, asks-first}
 use Rattle.serv_links.specs.declared.meaning.Meaning.{Meaning}
 use Rattle.serv_links.specs.declared.meaning.Meaning.TheVariants.{Asks, Faulty}
-use Rattle.serv_links.specs.Meanings.{Means, Mean}
-use Rattle.serv_machine.specs.Stands.{Stand}
-use Rattle.serv_machine.specs.Sayings.{reply_to, history_after, history_after_all, replies_to}
-use Rattle.serv_machine.proofs.SayingLemmas.{replies_to-append}
-use Rattle.serv_links.specs.Responses.{saying_of, sayings_of}
+use Rattle.serv_links.specs.Meanings.{Means, Says, means, saying_of}
+use Rattle.serv_machine.specs.History.{History, Stand}
+use Rattle.serv_machine.specs.Sayings.{Saying, Say, history_after_all, replies_to}
+use Rattle.serv_machine.proofs.SayingLemmas.{replies_to-append, say_one}
 use Rattle.serv_machine.specs.declared.faults.Stop.TheVariants.{WriteFault}
-use Rattle.serv_links.specs.Outcomes.{IsCutOff}
-use Rattle.serv_links.proofs.RoundLemmas.{sayings_append}
+use Rattle.serv_links.specs.Outcomes.{AreInFront, IsCutOff}
+use Rattle.serv_links.proofs.StoppedLemmas.{say_parted}
 use Rattle.svc_world.specs.World.{Accepted}
 use Rattle.serv_disk.specs.Faults.{HasRisen, IsProperPrefix}
-use Rattle.serv_links.specs.Answered.{AreFirst}
 use Rattle.serv_links.specs.Links.{IsAll}
 
 -- a body asks for one request
@@ -54,75 +52,67 @@ means_one (Fault status last allow) (Asks r x) k p s = absurd p
 means_one (Fault status last allow) (Faulty s1 x a) (Asks r y) p s = absurd s
 means_one (Fault status last allow) (Faulty s1 x a) (Faulty s2 y b) p s = faulty_same s1 s2 status x y last a b allow p.0 s.0 p.1 s.1 p.2 s.2
 
-mean_one : (asks : List Ask) (ms ks : List Meaning) → Mean asks ms → Mean asks ks → ms ≡ ks
-mean_one [] [] [] p q = refl
-mean_one [] [] (k ∷ ks) p q = absurd q
-mean_one [] (m ∷ ms) ks p q = absurd p
-mean_one (a ∷ asks) [] ks p q = absurd p
-mean_one (a ∷ asks) (m ∷ ms) [] p q = absurd q
-mean_one (a ∷ asks) (m ∷ ms) (k ∷ ks) p q =
-    let first : m ≡ k = means_one a m k p.0 q.0 in
-    let rest : ms ≡ ks = mean_one asks ms ks p.1 q.1 in
-    cc
+-- what a request says is said by a meaning of it
+said_by : (a : Ask) (m : Saying) → Says a m → (x : Meaning) × Means a x × (m ≡ saying_of x)
+said_by a _ (means x is) = (x, is, refl)
+
+says_one : (a : Ask) (m k : Saying) → Says a m → Says a k → m ≡ k
+says_one a m k p q =
+    let x = said_by a m p in
+    let y = said_by a k q in
+    x.2 ∙ (ap saying_of (means_one a x.0 y.0 x.1 y.1) ∙ sym y.2)
 
 pub all_one : (n m : ℕ) (taken added more : List ℕ) (s t u : Stand) (l k : Option (List ℕ)) → IsAll n taken added s t l → IsAll m taken more s u k
     → (n ≡ m) × (added ≡ more) × (t.history ≡ u.history) × (l ≡ k)
 all_one n m taken added more s t u l k p q =
     let one = asks-unique p.asks q.asks taken l k p.asked q.asked in
-    let same : p.answered.meant ≡ q.answered.meant =
-    mean_one q.asks p.answered.meant q.answered.meant (subst (λ (z : List Ask). Mean z p.answered.meant) one.0 p.answered.mean) q.answered.mean in (
+    let a = p.answered.answers in
+    let b = q.answered.answers in
+    let same : a.said ≡ b.said = say_one Says says_one q.asks a.said b.said (subst (λ (z : List Ask). Say Says z a.said) one.0 a.whole) b.whole in (
       p.answered.count ∙ (ap (λ (z : List Ask). length z) one.0 ∙ sym q.answered.count),
-      p.answered.wrote_is ∙ (ap (λ ms. replies_to s.history (sayings_of ms)) same ∙ sym q.answered.wrote_is),
-      p.answered.moved.0 ∙ (ap (λ ms. history_after_all s.history (sayings_of ms)) same ∙ sym q.answered.moved.0),
+      a.text ∙ (ap (replies_to s.history) same ∙ sym b.text),
+      a.moved.0 ∙ (ap (history_after_all s.history) same ∙ sym b.moved.0),
       one.1,
     )
 
-pub first_of_all : (taken : List ℕ) (done asks : List Ask) (l : Option (List ℕ)) → AreFirst taken done → AsksTo taken asks l → (more : List Ask) × (asks ≡ done ++ more)
+pub first_of_all : (taken : List ℕ) (done asks : List Ask) (l : Option (List ℕ)) → AreInFront taken done → AsksTo taken asks l → (more : List Ask) × (asks ≡ done ++ more)
 first_of_all taken done asks l first asked = asks-first done asks first.front first.more first.left l first.asked (subst (λ (s : List ℕ). AsksTo s asks l) first.parted asked)
 
 -- ---- what is cut off
 
--- the meanings of requests, parted at one of them
-record Parted (xs : List Ask) (a : Ask) (meant : List Meaning) : Type 0 where
-  ms : List Meaning
-  m : Meaning
-  ks : List Meaning
-  mean : Mean xs ms
-  means : Means a m
-  parted : meant ≡ ms ++ m ∷ ks
+-- a front part of some replies is one of all that follow
+prefix_grows : (h : History) (said more : List Saying) (part : List ℕ) → IsProperPrefix part (replies_to h said) → IsProperPrefix part (replies_to h (said ++ more))
+prefix_grows h said more part is =
+    let others = replies_to (history_after_all h said) more in
+    let some = is.some in
+    record {
+      rest = is.rest ++ others;
+      some = omega (arith, some, length-append is.rest others);
+      joined = replies_to-append h said more ∙ (ap (λ x. x ++ others) is.joined ∙ append_assoc part is.rest others);
+    }
 
-parted_at : (xs : List Ask) (a : Ask) (ys : List Ask) (meant : List Meaning) → Mean (xs ++ a ∷ ys) meant → Parted xs a meant
-parted_at [] a ys [] all = absurd all
-parted_at [] a ys (m ∷ ks) all = record { ms = []; m = m; ks = ks; mean = tt; means = all.0; parted = refl }
-parted_at (x ∷ xs) a ys [] all = absurd all
-parted_at (x ∷ xs) a ys (m ∷ meant) all =
-    let p = parted_at xs a ys meant all.1 in
-    record { ms = m ∷ p.ms; m = p.m; ks = p.ks; mean = (all.0, p.mean); means = p.means; parted = ap (λ l. m ∷ l) p.parted }
-
-joined : (w x y more b p r : List ℕ) → w ≡ x ++ (y ++ more) → b ≡ x → y ≡ p ++ r → w ≡ (b ++ p) ++ (r ++ more)
-joined w x y more b p r is before part =
-    is ∙ (ap (λ z. z ++ (y ++ more)) (sym before) ∙ (ap (λ z. b ++ (z ++ more)) part ∙ (ap (λ z. b ++ z) (append_assoc p r more) ∙ sym (append_assoc b p (r ++ more)))))
+-- nothing is written last
+no_part : (part rest : List ℕ) → [] ≡ part ++ rest → part ≡ []
+no_part [] rest is = refl
+no_part (x ∷ part) rest is = absurd (cc)
 
 -- what is written where a write failed is a proper prefix of all responses
-pub cut_of_all : (n m : ℕ) (taken added whole : List ℕ) (s t u : Stand) (pending : List Accepted) (l : Option (List ℕ)) (before after : ℕ) → IsCutOff (HasRisen before after) WriteFault n taken s t pending added → IsAll m taken whole s u l
-    → IsProperPrefix added whole
+pub cut_of_all : (n m : ℕ) (taken added whole : List ℕ) (s t u : Stand) (pending : List Accepted) (l : Option (List ℕ)) (before after : ℕ) → IsCutOff (AreInFront taken) (HasRisen before after) WriteFault n s t pending added
+    → IsAll m taken whole s u l → IsProperPrefix added whole
 cut_of_all n m taken added whole s t u pending l earlier later cut all =
-    let stopped = cut.stopped in
-    let same : cut.asks ≡ all.asks = (asks-unique cut.asks all.asks taken cut.left l cut.asked all.asked).0 in
-    let at = parted_at stopped.done stopped.ask stopped.rest all.answered.meant (subst (λ (z : List Ask). Mean z all.answered.meant) (sym same ∙ stopped.asked) all.answered.mean) in
-    let first : stopped.answered.meant ≡ at.ms = mean_one stopped.done stopped.answered.meant at.ms stopped.answered.mean at.mean in
-    let one = stopped.one.1 in
-    let next : one.meant ≡ at.m = means_one stopped.ask one.meant at.m one.means at.means in
-    let front = sayings_of at.ms in
-    let before : stopped.before ≡ replies_to s.history front = stopped.answered.wrote_is ∙ ap (λ ms. replies_to s.history (sayings_of ms)) first in
-    let mid : stopped.mid.history ≡ history_after_all s.history front = stopped.answered.moved.0 ∙ ap (λ ms. history_after_all s.history (sayings_of ms)) first in
-    let said : reply_to (history_after_all s.history front) (saying_of at.m) ≡ stopped.part ++ one.cut.rest =
-    sym (ap (λ h. reply_to h (saying_of one.meant)) mid ∙ ap (λ m. reply_to (history_after_all s.history front) (saying_of m)) next) ∙ one.cut.joined in
-    let more = replies_to (history_after (history_after_all s.history front) (saying_of at.m)) (sayings_of at.ks) in
-    let whole_is : whole ≡ replies_to s.history front ++ (reply_to (history_after_all s.history front) (saying_of at.m) ++ more) =
-    all.answered.wrote_is ∙ (ap (λ ms. replies_to s.history (sayings_of ms)) at.parted ∙ ap (replies_to s.history) (sayings_append at.ms (at.m ∷ at.ks)) ∙ replies_to-append s.history front (sayings_of (at.m ∷ at.ks))) in
-    record {
-      rest = one.cut.rest ++ more;
-      some = (let long = length-append one.cut.rest more in let some = one.cut.some in omega arith);
-      joined = joined whole _ _ more stopped.before stopped.part one.cut.rest whole_is before said ∙ ap (λ z. z ++ (one.cut.rest ++ more)) (sym stopped.wrote_is);
-    }
+    let e = cut.ended in
+    let stopped = e.stopped.1 in
+    let first = stopped.first.1 in
+    let acted = first.whole.acted in
+    let rest = first_of_all taken cut.asks all.asks l cut.known all.asked in
+    let said = all.answered.answers.said in
+    let asks_are : all.asks ≡ acted ++ (first.whole.others ++ rest.0) = rest.1 ∙ (ap (λ (z : List Ask). z ++ rest.0) first.whole.items_are ∙ append_assoc acted first.whole.others rest.0) in
+    let at = say_parted Says acted (first.whole.others ++ rest.0) said (subst (λ (z : List Ask). Say Says z said) asks_are all.answered.answers.whole) in
+    let same : at.0 ≡ first.saids = say_one Says says_one acted at.0 first.saids at.2 first.whole.say in
+    let done : List Saying = stopped.done ++ stopped.last ∷ [] in
+    let said_are : said ≡ done ++ (first.others ++ at.1) =
+    at.3 ∙ (ap (λ z. z ++ at.1) (same ∙ (first.saids_are ∙ sym (append_assoc stopped.done (stopped.last ∷ []) first.others))) ∙ append_assoc done first.others at.1) in
+    let added_is : added ≡ e.before = e.wrote_is ∙ (ap (λ z. e.before ++ z) (no_part e.part e.front.rest e.front.joined) ∙ append-nil e.before) in
+    subst (λ z. IsProperPrefix z whole) (sym added_is)
+    (subst (IsProperPrefix e.before) (sym (all.answered.answers.text ∙ ap (replies_to s.history) said_are))
+    (prefix_grows s.history done (first.others ++ at.1) e.before stopped.cut))

@@ -5,15 +5,14 @@ use Rattle.svc_world.specs.World.{Accepted}
 use Rattle.serv_disk.specs.Faults.{HasRisen}
 use Rattle.svc_base.specs.Text.{text_of_number}
 use Rattle.serv_line.specs.Replies.{ended, number_field}
-use Rattle.serv_machine.specs.OnDisk.{OnDisk}
-use Rattle.serv_machine.specs.Upheld.{Upholds}
+use Rattle.serv_machine.specs.OnDisk.{OnDisk, Upholds}
 use Rattle.serv_disk.specs.Stamps.{Stamp}
 use Rattle.serv_links.specs.declared.doors.DoorsEnd.{DoorsEnd}
 use Rattle.serv_links.specs.declared.doors.DoorsEnd.TheVariants.{Done, DiskFault, NetFault}
 use Rattle.serv_links.specs.declared.link_end.LinkEnd.{LinkEnd}
 use Rattle.serv_links.specs.declared.link_end.LinkEnd.TheVariants as link_end
 use Rattle.serv_links.specs.declared.summary.Summary.{Summary}
-use Rattle.serv_machine.specs.Stands.{Stand}
+use Rattle.serv_machine.specs.History.{Stand}
 use Rattle.serv_links.specs.Links.{IsDiskEnd, Serves, number_in}
 
 -- what is said of a link: its end, how it came and how it was handed back, where the books stood before and after it,

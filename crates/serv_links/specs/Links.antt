@@ -7,10 +7,8 @@ use Rattle.serv_http.specs.Streams.{AsksTo}
 use Rattle.serv_links.specs.declared.link_end.LinkEnd.{LinkEnd}
 use Rattle.serv_links.specs.declared.link_end.LinkEnd.TheVariants as link_end
 use Rattle.serv_machine.specs.declared.faults.Stop.TheVariants as stop
-use Rattle.serv_links.specs.Answered.{AreFirst, AreAnswersOf}
-use Rattle.serv_machine.specs.Stands.{Stand, Stays}
-use Rattle.serv_links.specs.Responses.{response_503}
-use Rattle.serv_links.specs.Outcomes.{IsAnswered, IsCutOff, IsFront}
+use Rattle.serv_links.specs.Outcomes.{AreInFront, AreAnswersOf, IsAnswered, IsCutOff}
+use Rattle.serv_machine.specs.History.{Stand}
 
 -- the most bytes that are taken from a link: 16,777,216
 abbrev pub link_limit : ℕ
@@ -39,18 +37,6 @@ pub record IsAll (n : ℕ) (taken added : List ℕ) (s s' : Stand) (left : Optio
   pub asked : AsksTo taken asks left
   pub answered : IsAnswered n asks s s' added
 
--- no memory was there to read on: the first requests of these bytes are answered, and no further one is acted on
-pub record IsStarved (cut : Type 0) (n : ℕ) (taken added : List ℕ) (s s' : Stand) : Type 0 where
-  pub asks : List Ask
-  pub first : AreFirst taken asks
-  pub mid : Stand
-  pub before : List ℕ
-  pub answered : IsAnswered n asks s mid before
-  pub part : List ℕ
-  pub added_is : added ≡ before ++ part
-  pub front : IsFront cut part response_503
-  pub stays : Stays mid s'
-
 -- the end of a link whose count of read faults, or of write faults, has risen, and of which nothing is left to read:
 -- at Ended and Cut, and where a read failed, all requests are answered. A read that fails comes of a connection that goes
 -- on: after a response that ends it nothing more is read
@@ -65,12 +51,11 @@ IsServed (link_end.Cut n) reads writes at_end taken s s' pending added =
 IsServed (link_end.Broken n) reads writes at_end taken s s' pending added =
     (reads × (pending ≡ []) × (length taken < link_limit)
     × ((going : List ℕ) × IsAll n taken added s s' (Some going)))
-    ⊎ (writes × IsCutOff writes stop.WriteFault n taken s s' pending added)
+    ⊎ (writes × IsCutOff (AreInFront taken) writes stop.WriteFault n s s' pending added)
 IsServed (link_end.Disk n) reads writes at_end taken s s' pending added =
-    IsCutOff writes stop.DiskFault n taken s s' pending added
+    IsCutOff (AreInFront taken) writes stop.DiskFault n s s' pending added
 IsServed (link_end.NoMemory n) reads writes at_end taken s s' pending added =
-    IsCutOff writes stop.OutOfMemory n taken s s' pending added
-    ⊎ ((pending ≡ []) × IsStarved writes n taken added s s')
+    IsCutOff (AreInFront taken) writes stop.OutOfMemory n s s' pending added
 
 -- nothing was read after a response that ends the connection: before the last read it went on
 pub record IsReadOn (taken : List ℕ) : Type 0 where
@@ -89,4 +74,4 @@ pub record Serves (end : LinkEnd) (reads writes : Type 0) (upheld : (ℕ → Lis
   pub within : length taken ≤ link_limit
   pub read_on : IsReadOn taken
   pub says : IsServed end reads writes (IsAtEnd left') taken s s' pending added
-  pub acknowledged : upheld (AreAnswersOf s.history taken)
+  pub acknowledged : upheld (AreAnswersOf (AreInFront taken) s.history)

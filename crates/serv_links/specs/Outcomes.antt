@@ -1,53 +1,18 @@
--- How one request went, and how requests in order did.
-use Rattle.std.specs.Prelude.{◌≡◌, ℕ, ◌⊎◌, List, [], ◌∷◌, ◌++◌, length, Option, Result, Ok, Err}
+-- How requests of a connection went, in order.
+use Rattle.std.specs.Prelude.{◌≡◌, ℕ, ◌+◌, ◌⊎◌, List, [], ◌++◌, length, Option, Result, Ok, Err}
 use Rattle.std.specs.Io.KnownBytes.{Appends}
 use Rattle.svc_world.specs.World.{Accepted}
-use Rattle.serv_disk.specs.Faults.{IsProperPrefix}
 use Rattle.serv_http.specs.declared.ask.Ask.{Ask}
 use Rattle.serv_http.specs.declared.conn.Conn.{Conn}
 use Rattle.serv_http.specs.Conns.{IsFed}
 use Rattle.serv_http.specs.Streams.{AsksTo}
-use Rattle.serv_machine.specs.History.{History}
-use Rattle.serv_machine.specs.OnDisk.{OnDisk}
 use Rattle.serv_machine.specs.declared.faults.Stop.{Stop}
-use Rattle.serv_machine.specs.declared.faults.Stop.TheVariants.{WriteFault, DiskFault, OutOfMemory}
-use Rattle.serv_links.specs.declared.meaning.Meaning.{Meaning}
-use Rattle.serv_links.specs.Meanings.{Means, Mean}
-use Rattle.serv_machine.specs.Stands.{Stand, Stays}
-use Rattle.serv_machine.specs.Sayings.{reply_to, replies_to, Moves, MovesAll, Starves, Sticks}
-use Rattle.serv_links.specs.Responses.{saying_of, sayings_of, response_500, response_503}
+use Rattle.serv_machine.specs.History.{History, Stand, Running}
+use Rattle.serv_machine.specs.Sayings.{Saying, Say, SaidFirst, AreFirst}
+use Rattle.serv_machine.specs.Answering.{Answers, AreReplies, Gathered, IsStopped}
+use Rattle.serv_links.specs.Meanings.{Says, last_text}
 
--- ---- one request
-
--- it was acted on, and this is the response
-pub record IsReplied (a : Ask) (s s' : Stand) (text : List ℕ) : Type 0 where
-  pub meant : Meaning
-  pub means : Means a meant
-  pub text_is : text ≡ reply_to s.history (saying_of meant)
-  pub moved : Moves (saying_of meant) s s'
-
--- it was acted on, and of the response a part is written that does not reach its end
-pub record IsCut (a : Ask) (s s' : Stand) (wrote : List ℕ) : Type 0 where
-  pub meant : Meaning
-  pub means : Means a meant
-  pub cut : IsProperPrefix wrote (reply_to s.history (saying_of meant))
-  pub moved : Moves (saying_of meant) s s'
-
--- the disk failed while its command was being appended
-pub record IsStuck (a : Ask) (s s' : Stand) (pending : List Accepted) : Type 0 where
-  pub meant : Meaning
-  pub means : Means a meant
-  pub sticks : Sticks (saying_of meant) s s' pending
-
--- no memory was there once it was known what it means: it was acted on or not
-pub record IsTriedAs (a : Ask) (s s' : Stand) : Type 0 where
-  pub meant : Meaning
-  pub means : Means a meant
-  pub starves : Starves (saying_of meant) s s'
-
--- no memory was there
-abbrev pub IsTried : Ask → Stand → Stand → Type 0
-IsTried a s s' = Stays s s' ⊎ IsTriedAs a s s'
+-- ---- what is written last
 
 -- a front part of a text, and all of it unless a write was cut
 pub record IsFront (cut : Type 0) (part whole : List ℕ) : Type 0 where
@@ -61,57 +26,57 @@ pub record AppendsFront (cut : Type 0) (held held' : Option (List ℕ)) (text : 
   pub appends : Appends held held' part
   pub front : IsFront cut part text
 
--- How it went where it is not answered, or not whole, what was written, and the command that was being appended; 500 and 503 are
--- written whole unless a write was cut. No request behind it is acted on
-abbrev pub IsOne : Type 0 → Stop → Ask → Stand → Stand → List Accepted → List ℕ → Type 0
-IsOne cut WriteFault a s s' pending wrote = (pending ≡ []) × IsCut a s s' wrote
-IsOne cut DiskFault a s s' pending wrote = IsStuck a s s' pending × IsFront cut wrote response_500
-IsOne cut OutOfMemory a s s' pending wrote = (pending ≡ []) × IsTried a s s' × IsFront cut wrote response_503
-
 -- ---- requests in order
 
 -- all of them are answered
 pub record IsAnswered (n : ℕ) (asks : List Ask) (s s' : Stand) (wrote : List ℕ) : Type 0 where
-  pub meant : List Meaning
-  pub mean : Mean asks meant
   pub count : n ≡ length asks
-  pub wrote_is : wrote ≡ replies_to s.history (sayings_of meant)
-  pub moved : MovesAll (sayings_of meant) s s'
+  pub answers : Answers (Say Says asks) s s' wrote
 
--- the first ones are answered, and the next one went so
-pub record IsStopped (cut : Type 0) (why : Stop) (n : ℕ) (asks : List Ask) (s s' : Stand) (pending : List Accepted) (wrote : List ℕ) : Type 0 where
-  pub done : List Ask
-  pub ask : Ask
-  pub rest : List Ask
-  pub asked : asks ≡ done ++ ask ∷ rest
-  pub mid : Stand
+-- so many of them come first
+abbrev pub ComeFirst : ℕ → List Ask → List Saying → List Saying → Type 0
+ComeFirst n asks done ahead = (n ≡ length done) × AreFirst (SaidFirst Says asks) done ahead
+
+-- the first ones are answered, and no further one; the last text is written, whole unless a write was cut
+pub record IsEnded (cut : Type 0) (why : Stop) (n : ℕ) (asks : List Ask) (s s' : Stand) (pending : List Accepted) (wrote : List ℕ) : Type 0 where
   pub before : List ℕ
-  pub answered : IsAnswered n done s mid before
+  pub stopped : IsStopped why (ComeFirst n asks) 0 s s' pending before
   pub part : List ℕ
   pub wrote_is : wrote ≡ before ++ part
-  pub one : IsOne cut why ask mid s' pending part
+  pub front : IsFront cut part (last_text why)
 
 abbrev pub IsRound : Type 0 → Result (Unit {0}) Stop → ℕ → List Ask → Stand → Stand → List Accepted → List ℕ → Type 0
 IsRound cut (Ok done) n asks s s' pending wrote = (pending ≡ []) × IsAnswered n asks s s' wrote
-IsRound cut (Err why) n asks s s' pending wrote = IsStopped cut why n asks s s' pending wrote
+IsRound cut (Err why) n asks s s' pending wrote = IsEnded cut why n asks s s' pending wrote
 
--- ---- the requests of the bytes since the last whole one
+-- they were acted on, and the response to the last one may wait until the disk has its command
+pub record AreGathered (n : ℕ) (asks : List Ask) (s : Stand) (t : Running) (held held' : Option (List ℕ)) (text : List ℕ) : Type 0 where
+  pub count : n ≡ length asks
+  pub saids : List Saying
+  pub say : Say Says asks saids
+  pub gathered : Gathered 0 saids s t held held' text
 
--- they are not all answered
-pub record IsCutOff (cut : Type 0) (why : Stop) (n : ℕ) (bytes : List ℕ) (s s' : Stand) (pending : List Accepted) (wrote : List ℕ) : Type 0 where
-  pub asks : List Ask
+-- ---- the requests of bytes
+
+-- all of them, or none where no memory was there to read them
+abbrev pub AreRead : List ℕ → List Ask → Type 0
+AreRead bytes asks = (asks ≡ []) ⊎ ((left : Option (List ℕ)) × AsksTo bytes asks left)
+
+-- those of a front part, which has no further one
+pub record AreInFront (bytes : List ℕ) (asks : List Ask) : Type 0 where
+  pub front : List ℕ
+  pub more : List ℕ
+  pub parted : bytes ≡ front ++ more
   pub left : Option (List ℕ)
-  pub asked : AsksTo bytes asks left
-  pub stopped : IsStopped cut why n asks s s' pending wrote
+  pub asked : AsksTo front asks left
 
--- no memory was there to read them
-pub record IsUnread (cut : Type 0) (n : ℕ) (s s' : Stand) (pending : List Accepted) (wrote : List ℕ) : Type 0 where
-  pub none : n ≡ 0
-  pub nothing : pending ≡ []
-  pub stays : Stays s s'
-  pub front : IsFront cut wrote response_503
+-- not all requests are answered, of which this is known
+pub record IsCutOff (Known : List Ask → Type 0) (cut : Type 0) (why : Stop) (n : ℕ) (s s' : Stand) (pending : List Accepted) (wrote : List ℕ) : Type 0 where
+  pub asks : List Ask
+  pub known : Known asks
+  pub ended : IsEnded cut why n asks s s' pending wrote
 
--- all of them are answered, and the connection goes on with what is left
+-- all of a piece are answered, and the connection goes on with what is left
 pub record IsFedAll (n : ℕ) (bytes : List ℕ) (c : Conn) (s s' : Stand) (pending : List Accepted) (wrote : List ℕ) : Type 0 where
   pub asks : List Ask
   pub fed : IsFed bytes asks c
@@ -120,17 +85,20 @@ pub record IsFedAll (n : ℕ) (bytes : List ℕ) (c : Conn) (s s' : Stand) (pend
 
 abbrev pub IsPiece : Type 0 → Result (Unit {0}) Stop → ℕ → List ℕ → Conn → Stand → Stand → List Accepted → List ℕ → Type 0
 IsPiece cut (Ok done) n bytes c s s' pending wrote = IsFedAll n bytes c s s' pending wrote
-IsPiece cut (Err OutOfMemory) n bytes c s s' pending wrote =
-    IsCutOff cut OutOfMemory n bytes s s' pending wrote ⊎ IsUnread cut n s s' pending wrote
-IsPiece cut (Err why) n bytes c s s' pending wrote = IsCutOff cut why n bytes s s' pending wrote
+IsPiece cut (Err why) n bytes c s s' pending wrote = IsCutOff (AreRead bytes) cut why n s s' pending wrote
 
--- ---- with what is left on a disk
+-- ---- what bytes answer
 
-module _ {D : Type 0} (images : D → List ℕ → Type 0) (moment : D → ℕ) (images_since : D → ℕ → List ℕ → Type 0) (old new : D) where
-  -- what is written to a link too; the command that was being appended is the one of the disk
-  pub record Writes (says : List Accepted → List ℕ → Type 0) (h h' : History) (held held' : Option (List ℕ)) : Type 0 where
-    pub pending : List Accepted
-    pub wrote : List ℕ
-    pub appends : Appends held held' wrote
-    pub says_so : says pending wrote
-    pub disk : OnDisk images moment images_since old new h h' pending
+-- so many bytes are the responses to some first ones of these requests, and what is written last; and these commands are accepted
+-- then
+pub record AreAnswers (asks : List Ask) (h : History) (bytes : ℕ) (commands : List Accepted) : Type 0 where
+  pub before : ℕ
+  pub replies : AreReplies (SaidFirst Says asks) h before commands
+  pub why : Stop
+  pub bytes_are : bytes ≡ before + length (last_text why)
+
+-- the same of requests of which this is known
+pub record AreAnswersOf (Known : List Ask → Type 0) (h : History) (bytes : ℕ) (commands : List Accepted) : Type 0 where
+  pub asks : List Ask
+  pub known : Known asks
+  pub answers : AreAnswers asks h bytes commands

@@ -3,23 +3,23 @@
 ghost use Rattle.std.specs.Prelude.{◌≡◌, ◌≢◌, ◌+◌, ◌≤◌, [], Err, IfOk, OnOk};
 ghost use Rattle.serv_disk.specs.Faults.{HasRisen};
 ghost use Rattle.serv_machine.specs.OnDisk.{OnDisk};
-ghost use Rattle.serv_machine.specs.Stages.{IsKeptBut, IsNear};
+ghost use Rattle.serv_machine.specs.History.{IsKeptBut, IsNear};
 ghost use Rattle.serv_machine.specs.Sayings.{reply_to, history_after, bound_of, commands_of, IsFresh};
-ghost use Rattle.serv_links.specs.Meanings.{IsFormed};
-ghost use Rattle.serv_links.specs.Responses.{saying_of};
+ghost use Rattle.serv_links.specs.Meanings.{IsFormed, saying_of};
 
 use crate::meaning::Meaning;
 use crate::verdict::respond_verdict;
 use serv_disk::Disk;
 use serv_http::respond;
-use serv_machine::{Halt, Machine, decide};
+use serv_machine::{Halt, Machine, Spoken, decide};
 use std::alloc::Global;
 use std::sync::ledger::Ledger;
 use svc_base::Steps;
+use svc_types::{Command, Key, Request};
 
 /// Acts on a request, and gives its response; a fresh command is begun. For want of memory a command may be begun, or
 /// accepted, and have no response.
-#[tactic(auto, unfolding(crate::specs::Responses::response_to))]
+#[tactic(auto, unfolding(crate::specs::Meanings::response_to))]
 pub(crate) fn respond_to<D: Disk, M: Machine<D>, L: Ledger>(
     alloc: Global,
     machine: &mut M,
@@ -53,5 +53,34 @@ pub(crate) fn respond_to<D: Disk, M: Machine<D>, L: Ledger>(
             Ok(respond_verdict(alloc, &verdict, *ends)?)
         }
         Meaning::Faulty(status, ends, allow) => Ok(respond(alloc, *status, b"", *ends, *allow)?),
+    }
+}
+
+impl Spoken for Meaning {
+    ghost use Rattle.serv_links.specs.Meanings.{IsFormed, saying_of};
+
+    ghost saying = { saying_of };
+
+    ghost formed = { IsFormed };
+
+    fn command(&self) -> Option<(&Key, &Command)> {
+        match self {
+            Meaning::Asks(Request::Do(key, command), _) => Some((key, command)),
+            _ => None,
+        }
+    }
+
+    fn answer<D: Disk, M: Machine<D>, L: Ledger>(
+        &self,
+        machine: &mut M,
+        disk: &mut D,
+        out: &mut Vec<u8>,
+        steps: &mut Steps<L>,
+    ) -> Result<(), Halt> {
+        let text = respond_to(*out.allocator(), machine, disk, self, steps)?;
+        match out.extend_from_slice(&text) {
+            Ok(()) => Ok(()),
+            Err(_) => Err(Halt::OutOfMemory),
+        }
     }
 }

@@ -3,8 +3,7 @@
 ghost use Rattle.std.specs.Prelude.{◌≡◌, ◌≢◌, ◌≤◌, false};
 ghost use Rattle.serv_disk.specs.Faults.{HasRisen};
 ghost use Rattle.serv_engine.specs.Engines.{IsDurable};
-ghost use Rattle.serv_machine.specs.Engines.{history_of, kept_history};
-ghost use Rattle.serv_machine.specs.Stands.{stand};
+ghost use Rattle.serv_machine.specs.History.{history_of, kept_history, stand};
 ghost use Rattle.serv_links.specs.Doors.{ServedLink, ServesDoors};
 
 use crate::link_end::LinkEnd;

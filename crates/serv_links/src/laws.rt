@@ -7,9 +7,8 @@ ghost use Rattle.svc_world.specs.World.{Accepted};
 ghost use Rattle.serv_disk.specs.Faults.{HasRisen, IsProperPrefix};
 ghost use Rattle.serv_links.specs.declared.meaning.Meaning.{Meaning};
 ghost use Rattle.serv_links.specs.Meanings.{Means};
-ghost use Rattle.serv_machine.specs.Stands.{Stand};
-ghost use Rattle.serv_links.specs.Outcomes.{IsCutOff};
-ghost use Rattle.serv_links.specs.Answered.{AreFirst};
+ghost use Rattle.serv_machine.specs.History.{Stand};
+ghost use Rattle.serv_links.specs.Outcomes.{AreInFront, IsCutOff};
 ghost use Rattle.serv_links.specs.Links.{IsAll};
 
 use serv_machine::Stop;
@@ -22,10 +21,10 @@ pub fn any_pieces()
         → IsAll n taken added s t l → IsAll m taken more s u k
         → (n ≡ m) × (added ≡ more) × (t.history ≡ u.history) × (l ≡ k) }
     ensures first { (taken : List ℕ) (done asks : List Ask) (l : Option (List ℕ))
-        → AreFirst taken done → AsksTo taken asks l → (more : List Ask) × (asks ≡ done ++ more) }
+        → AreInFront taken done → AsksTo taken asks l → (more : List Ask) × (asks ≡ done ++ more) }
     ensures cut { (n m : ℕ) (taken added whole : List ℕ) (s t u : Stand) (pending : List Accepted)
         (l : Option (List ℕ)) (before after : ℕ)
-        → IsCutOff (HasRisen before after) Stop.WriteFault n taken s t pending added
+        → IsCutOff (AreInFront taken) (HasRisen before after) Stop.WriteFault n s t pending added
         → IsAll m taken whole s u l → IsProperPrefix added whole }
     ensures means { (a : Ask) (m k : Meaning) → Means a m → Means a k → m ≡ k }
 {}

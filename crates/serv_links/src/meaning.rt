@@ -6,6 +6,7 @@ ghost use Rattle.serv_links.specs.Meanings.{IsAsk, IsFormed, Means};
 
 use serv_http::{Allow, Ask};
 use serv_json::{JsonFault, read_json};
+use serv_machine::Spoken;
 use std::alloc::Global;
 use svc_base::OutOfMemory;
 use svc_types::{Command, Key, Query, Request};
@@ -42,7 +43,7 @@ pub(crate) fn next_in(read: &Result<Meaning, OutOfMemory>) -> Option<(&Key, &Com
     ensures { IfSome result (λ c. IsCommand c.1.now) }
 {
     match read {
-        Ok(Meaning::Asks(Request::Do(key, command), _)) => Some((key, command)),
-        _ => None,
+        Ok(meaning) => meaning.command(),
+        Err(_) => None,
     }
 }

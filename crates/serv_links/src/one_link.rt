@@ -3,10 +3,9 @@
 ghost use Rattle.std.specs.Prelude.{◌≡◌, ◌≤◌, ◌<◌, ◌⊎◌, ◌↔◌, ℕ, List, Some, length, true, false};
 ghost use Rattle.serv_disk.specs.Faults.{HasRisen};
 ghost use Rattle.serv_engine.specs.Engines.{IsDurable};
-ghost use Rattle.serv_machine.specs.Engines.{history_of, kept_history};
-ghost use Rattle.serv_machine.specs.Stands.{stand};
-ghost use Rattle.serv_machine.specs.Upheld.{Upholds};
-ghost use Rattle.serv_links.specs.Outcomes.{Writes};
+ghost use Rattle.serv_machine.specs.History.{history_of, kept_history, stand};
+ghost use Rattle.serv_machine.specs.OnDisk.{Upholds};
+ghost use Rattle.serv_machine.specs.Answering.{Writes};
 ghost use Rattle.serv_links.specs.Links.{IsDiskEnd, Serves, link_limit, number_in};
 
 use crate::link_end::LinkEnd;

@@ -1,52 +1,43 @@
-//! Responses to requests, written in their order: one waits until the disk has the command behind it.
+//! Responses to requests, in their order: the last one waits until the disk has the command behind it.
 
-ghost use Rattle.std.specs.Prelude.{◌≡◌, ◌≢◌, ℕ, ◌+◌, ◌≤◌, ◌<◌, ◌^◌, ◌++◌, ◌∷◌, List, [], length, Option, Some, false, true, IfErr, IfOk, IfSome, OnErr, OnOk};
-ghost use Rattle.std.specs.Io.KnownBytes.{Appends};
+ghost use Rattle.std.specs.Prelude.{◌≡◌, ◌≢◌, ℕ, ◌+◌, ◌≤◌, ◌<◌, ◌^◌, ◌++◌, ◌∷◌, List, [], Option, Err, IfErr, IfSome, OnOk};
 ghost use Rattle.svc_types.specs.Requests.{IsCommand};
-ghost use Rattle.serv_disk.specs.Faults.{AppendsPart, HasCause, HasRisen};
-ghost use Rattle.serv_disk.specs.Stamps.{Notes};
+ghost use Rattle.serv_disk.specs.Faults.{HasRisen};
 ghost use Rattle.serv_http.specs.declared.ask.Ask as asks;
-ghost use Rattle.serv_machine.specs.OnDisk.{OnDisk};
-ghost use Rattle.serv_machine.specs.Stages.{IsKeptBut};
-ghost use Rattle.serv_machine.specs.Stands.{Stand, running, stand};
-ghost use Rattle.serv_machine.specs.Upheld.{Upholds};
-ghost use Rattle.serv_links.specs.Answered.{AreAnswers};
-ghost use Rattle.serv_links.specs.Gathered.{as_one, text_if, Gathered};
-ghost use Rattle.serv_machine.specs.Sayings.{reply_to, IsFresh, Moves};
-ghost use Rattle.serv_links.specs.Meanings.{IsAsk, IsFormed, Means};
-ghost use Rattle.serv_links.specs.Outcomes.{IsOne, IsStopped, Writes};
-ghost use Rattle.serv_links.specs.Responses.{saying_of};
+ghost use Rattle.serv_machine.specs.Answering.{AreReplies, IsStopped, Writes};
+ghost use Rattle.serv_machine.specs.History.{Stand, running, stand};
+ghost use Rattle.serv_machine.specs.OnDisk.{OnDisk, Upholds};
+ghost use Rattle.serv_machine.specs.Sayings.{SaidFirst};
+ghost use Rattle.serv_links.specs.Meanings.{IsAsk, Says};
+ghost use Rattle.serv_links.specs.Outcomes.{AreGathered, ComeFirst};
 
-use crate::closing::{write_failed, write_no_memory};
-use crate::deciding::respond_to;
-use crate::meaning::{Meaning, next_in, read_ask};
-use serv_disk::{Disk, Failed, Sink, write_beside};
+use crate::meaning::{next_in, read_ask};
+use serv_disk::{Disk, Sink};
 use serv_http::Ask;
-use serv_machine::{Halt, Machine, Stop};
+use serv_machine::{Machine, Replies, Stop};
 use std::alloc::Global;
 use std::sync::ledger::Ledger;
 use svc_base::Steps;
 use svc_types::{Command, Key};
 
-/// The responses to the requests of a piece: how many are written whole, and the text of one more, where one
-/// waits until the disk has its command.
+/// The responses to the requests of a piece: how many requests were acted on, and the response to the last one,
+/// where it waits. Where a call stops: how many responses are written whole.
 #[derive(Drop)]
 pub(crate) struct Responses {
     pub(crate) answered: u32,
-    pub(crate) waits: bool,
-    pub(crate) text: Vec<u8>,
+    pub(crate) replies: Replies,
 }
 
 impl Responses {
     /// None yet.
     pub(crate) fn new(alloc: Global) -> Responses
         ensures answered { result.answered ≡ 0 }
-        ensures waits { result.waits ≡ false }
+        ensures waiting { result.replies.waiting ≡ 0 }
+        ensures text { result.replies.text.items ≡ [] }
     {
         Responses {
             answered: 0,
-            waits: false,
-            text: Vec::new(alloc),
+            replies: Replies::new(alloc, 0),
         }
     }
 
@@ -63,27 +54,28 @@ impl Responses {
     ) -> Result<(), Stop>
         requires ask { IsAsk ask.now }
         requires running { M.running machine.old disk.old }
-        requires few { self.old.answered + as_one self.old.waits < 2 ^ 32 }
+        requires waiting { self.old.replies.waiting ≡ 0 }
+        requires few { self.old.answered + 1 < 2 ^ 32 }
         ensures gathered { (done : List asks.Ask) (s : Stand) (held : Option (List ℕ))
-            → Gathered self.old.answered self.old.waits self.old.text.items done s
-            (running (M.history machine.old) (M.kept machine.old) steps.old) held (K.held link.old)
-            → OnOk result (Gathered self.new.answered self.new.waits self.new.text.items (done ++ ask.now ∷ []) s
-            (running (M.history machine.new) (M.kept machine.new) steps.new) held (K.held link.new)) }
+            → AreGathered self.old.answered done s
+            (running (M.history machine.old) (M.kept machine.old) steps.old) held (K.held link.old) self.old.replies.text.items
+            → OnOk result (AreGathered self.new.answered (done ++ ask.now ∷ []) s
+            (running (M.history machine.new) (M.kept machine.new) steps.new) held (K.held link.new) self.new.replies.text.items) }
         ensures stopped { (done : List asks.Ask) (s : Stand) (held : Option (List ℕ))
-            → Gathered self.old.answered self.old.waits self.old.text.items done s
-            (running (M.history machine.old) (M.kept machine.old) steps.old) held (K.held link.old)
+            → AreGathered self.old.answered done s
+            (running (M.history machine.old) (M.kept machine.old) steps.old) held (K.held link.old) self.old.replies.text.items
             → IfErr result (λ why. Writes D.images D.moment D.images_since disk.old disk.new
-            (IsStopped (HasRisen (K.faults link.old) (K.faults link.new)) why self.new.answered
-            (done ++ ask.now ∷ []) s (stand (M.kept machine.new) steps.new))
+            (IsStopped why (ComeFirst self.new.answered (done ++ ask.now ∷ [])) 0 s
+            (stand (M.kept machine.new) steps.new))
             (M.kept machine.old) (M.kept machine.new) held (K.held link.new)) }
         ensures upheld { (done : List asks.Ask) (s : Stand) (held : Option (List ℕ))
-            → Gathered self.old.answered self.old.waits self.old.text.items done s
-            (running (M.history machine.old) (M.kept machine.old) steps.old) held (K.held link.old)
-            → Upholds (AreAnswers (done ++ ask.now ∷ []) s.history) (D.moment disk.new)
+            → AreGathered self.old.answered done s
+            (running (M.history machine.old) (M.kept machine.old) steps.old) held (K.held link.old) self.old.replies.text.items
+            → Upholds (AreReplies (SaidFirst Says (done ++ ask.now ∷ [])) s.history) (D.moment disk.new)
             (D.images_since disk.new) (M.kept machine.new) held (K.log link.old) (K.log link.new) }
-        ensures count { OnOk result (self.new.answered + as_one self.new.waits
-            ≡ self.old.answered + as_one self.old.waits + 1) }
-        ensures few { OnErr result (self.new.answered ≤ self.old.answered + as_one self.old.waits) }
+        ensures count { OnOk result (self.new.answered ≡ self.old.answered + 1) }
+        ensures few { self.new.answered ≤ self.old.answered + 1 }
+        ensures waiting { self.new.replies.waiting ≡ 0 }
         ensures disk { OnOk result (OnDisk D.images D.moment D.images_since disk.old disk.new
             (M.kept machine.old) (M.kept machine.new) []) }
         ensures running { OnOk result (M.running machine.new disk.new) }
@@ -100,76 +92,16 @@ impl Responses {
         let read = read_ask(alloc, ask);
         match self.settle(next_in(&read), machine, disk, link) {
             Ok(()) => match &read {
-                Ok(meaning) => self.act(alloc, meaning, machine, disk, link, steps),
-                Err(_) => {
-                    write_no_memory(link, disk);
-                    Err(Stop::OutOfMemory)
-                }
+                Ok(meaning) => match self.replies.answer(meaning, machine, disk, link, steps) {
+                    Ok(()) => {
+                        self.answered += 1;
+                        Ok(())
+                    }
+                    Err(why) => Err(why),
+                },
+                Err(_) => Err(Stop::OutOfMemory),
             },
             Err(why) => Err(why),
-        }
-    }
-
-    /// Acts on a request, where nothing waits. Its response waits then.
-    fn act<D: Disk, M: Machine<D>, K: Sink, L: Ledger>(
-        &mut self,
-        alloc: Global,
-        meaning: &Meaning,
-        machine: &mut M,
-        disk: &mut D,
-        link: &mut K,
-        steps: &mut Steps<L>,
-    ) -> Result<(), Stop>
-        requires formed { IsFormed meaning.now }
-        requires ready { M.ready machine.old disk.old }
-        ensures waits { OnOk result (self.new.waits ≡ true) }
-        ensures text { OnOk result (self.new.text.items ≡ reply_to (M.history machine.old) (saying_of meaning.now)) }
-        ensures moved { OnOk result (Moves (saying_of meaning.now) (stand (M.history machine.old) steps.old)
-            (stand (M.history machine.new) steps.new)) }
-        ensures kept { OnOk result (IsKeptBut (IsFresh (M.history machine.old) (saying_of meaning.now))
-            (M.history machine.old) (M.history machine.new) (M.kept machine.new)) }
-        ensures unwritten { OnOk result (K.held link.new ≡ K.held link.old) }
-        ensures one { (ask : asks.Ask) → Means ask meaning.now → IfErr result (λ why. Writes D.images D.moment
-            D.images_since disk.old disk.new (IsOne (HasRisen (K.faults link.old) (K.faults link.new)) why ask
-            (stand (M.history machine.old) steps.old) (stand (M.kept machine.new) steps.new))
-            (M.history machine.old) (M.kept machine.new) (K.held link.old) (K.held link.new)) }
-        ensures upheld { (more : List asks.Ask) → Upholds (AreAnswers more (M.history machine.old))
-            (D.moment disk.new) (D.images_since disk.new) (M.kept machine.new)
-            (K.held link.old) (K.log link.old) (K.log link.new) }
-        ensures count { self.new.answered ≡ self.old.answered }
-        ensures disk { OnOk result (OnDisk D.images D.moment D.images_since disk.old disk.new
-            (M.history machine.old) (M.kept machine.new) []) }
-        ensures running { OnOk result (M.running machine.new disk.new) }
-        ensures ready { IfErr result (λ why. why ≢ Stop.DiskFault → M.ready machine.new disk.new) }
-        ensures broken { IfErr result (λ why. why ≢ Stop.WriteFault) }
-        ensures failed { IfErr result (λ why. why ≡ Stop.DiskFault → M.failed machine.new) }
-        ensures cause { IfErr result (λ why. why ≡ Stop.DiskFault
-            → HasRisen (D.faults disk.old) (D.faults disk.new)) }
-        ensures later { K.faults link.old ≤ K.faults link.new }
-        ensures faults { D.faults disk.old ≤ D.faults disk.new }
-        ensures beside { K.beside link.new ≡ K.beside link.old }
-    {
-        match respond_to(alloc, machine, disk, meaning, steps) {
-            Ok(text) => {
-                self.text = text;
-                self.waits = true;
-                Ok(())
-            }
-            Err(Halt::DiskFault) => {
-                write_failed(link, disk);
-                Err(Stop::DiskFault)
-            }
-            // A command may be begun.
-            Err(Halt::OutOfMemory) => match machine.commit(disk, None) {
-                Ok(()) => {
-                    write_no_memory(link, disk);
-                    Err(Stop::OutOfMemory)
-                }
-                Err(_) => {
-                    write_failed(link, disk);
-                    Err(Stop::DiskFault)
-                }
-            },
         }
     }
 
@@ -183,28 +115,29 @@ impl Responses {
     ) -> Result<(), Stop>
         requires next { IfSome next (λ c. IsCommand c.1.now) }
         requires running { M.running machine.old disk.old }
-        requires few { self.old.answered + as_one self.old.waits < 2 ^ 32 }
+        requires waiting { self.old.replies.waiting ≡ 0 }
         ensures gathered { (done : List asks.Ask) (s : Stand) (steps : ℕ) (held : Option (List ℕ))
-            → Gathered self.old.answered self.old.waits self.old.text.items done s
-            (running (M.history machine.old) (M.kept machine.old) steps) held (K.held link.old)
-            → OnOk result (Gathered self.new.answered false self.new.text.items done s
-            (running (M.history machine.new) (M.kept machine.new) steps) held (K.held link.new)) }
+            → AreGathered self.old.answered done s
+            (running (M.history machine.old) (M.kept machine.old) steps) held (K.held link.old) self.old.replies.text.items
+            → OnOk result (AreGathered self.new.answered done s
+            (running (M.history machine.new) (M.kept machine.new) steps) held (K.held link.new) self.new.replies.text.items) }
         ensures stopped { (done : List asks.Ask) (s : Stand) (steps : ℕ) (held : Option (List ℕ))
-            → Gathered self.old.answered self.old.waits self.old.text.items done s
-            (running (M.history machine.old) (M.kept machine.old) steps) held (K.held link.old)
+            → AreGathered self.old.answered done s
+            (running (M.history machine.old) (M.kept machine.old) steps) held (K.held link.old) self.old.replies.text.items
             → IfErr result (λ why. Writes D.images D.moment D.images_since disk.old disk.new
-            (IsStopped (HasRisen (K.faults link.old) (K.faults link.new)) why self.new.answered done s
-            (stand (M.kept machine.new) steps))
+            (IsStopped why (ComeFirst self.new.answered done) 0 s (stand (M.kept machine.new) steps))
             (M.kept machine.old) (M.kept machine.new) held (K.held link.new)) }
         ensures upheld { (done : List asks.Ask) (s : Stand) (steps : ℕ) (held : Option (List ℕ))
-            → Gathered self.old.answered self.old.waits self.old.text.items done s
-            (running (M.history machine.old) (M.kept machine.old) steps) held (K.held link.old)
-            → Upholds (AreAnswers done s.history) (D.moment disk.new)
-            (D.images_since disk.new) (M.kept machine.new) held (K.log link.old) (K.log link.new) }
-        ensures count { OnOk result (self.new.answered ≡ self.old.answered + as_one self.old.waits) }
-        ensures same { OnErr result (self.new.answered ≡ self.old.answered) }
+            → AreGathered self.old.answered done s
+            (running (M.history machine.old) (M.kept machine.old) steps) held (K.held link.old) self.old.replies.text.items
+            → Upholds (AreReplies (SaidFirst Says done) s.history) (D.moment disk.new) (D.images_since disk.new)
+            (M.kept machine.new) held (K.log link.old) (K.log link.new) }
+        ensures empty { OnOk result (self.new.replies.text.items ≡ []) }
+        ensures count { OnOk result (self.new.answered ≡ self.old.answered) }
+        ensures few { self.new.answered ≤ self.old.answered }
+        ensures waiting { self.new.replies.waiting ≡ 0 }
         ensures disk { OnOk result (OnDisk D.images D.moment D.images_since disk.old disk.new
-            (M.kept machine.old) (M.history machine.new) []) }
+            (M.kept machine.old) (M.kept machine.new) []) }
         ensures ready { OnOk result (M.ready machine.new disk.new) }
         ensures ready_too { IfErr result (λ why. why ≢ Stop.DiskFault → M.ready machine.new disk.new) }
         ensures broken { IfErr result (λ why. why ≡ Stop.WriteFault
@@ -216,43 +149,13 @@ impl Responses {
         ensures faults { D.faults disk.old ≤ D.faults disk.new }
         ensures beside { K.beside link.new ≡ K.beside link.old }
     {
-        match machine.commit(disk, next) {
-            Ok(()) => match self.write_waiting(disk, link) {
-                Ok(()) => Ok(()),
-                Err(_) => Err(Stop::WriteFault),
-            },
-            Err(_) => {
-                write_failed(link, disk);
-                Err(Stop::DiskFault)
+        match self.replies.let_go(next, 0, machine, disk, link) {
+            Ok(()) => Ok(()),
+            Err(why) => {
+                // The last response is not written whole.
+                self.answered = self.answered.saturating_sub(1);
+                Err(why)
             }
-        }
-    }
-
-    /// Writes what waits. It counts from this moment of the disk on.
-    fn write_waiting<D: Disk, K: Sink>(&mut self, disk: &D, link: &mut K) -> Result<(), Failed>
-        requires few { self.old.answered + as_one self.old.waits < 2 ^ 32 }
-        ensures written { OnOk result (Appends (K.held link.old) (K.held link.new)
-            (text_if self.old.waits self.old.text.items)) }
-        ensures count { OnOk result (self.new.answered ≡ self.old.answered + as_one self.old.waits) }
-        ensures none { OnOk result (self.new.waits ≡ false) }
-        ensures part { OnErr result (AppendsPart (K.held link.old) (K.held link.new)
-            (text_if self.old.waits self.old.text.items)) }
-        ensures same { OnErr result (self.new.answered ≡ self.old.answered) }
-        ensures noted { (s : List ℕ) → K.held link.old ≡ Some s → Notes (D.moment disk.now)
-            (length s + length (text_if self.old.waits self.old.text.items)) (K.log link.old) (K.log link.new) }
-        ensures cause { HasCause (K.faults link.old) (K.faults link.new) result }
-        ensures beside { K.beside link.new ≡ K.beside link.old }
-    {
-        if !self.waits {
-            return Ok(());
-        }
-        match write_beside(link, disk, &self.text) {
-            Ok(()) => {
-                self.waits = false;
-                self.answered += 1;
-                Ok(())
-            }
-            Err(fault) => Err(fault),
         }
     }
 }

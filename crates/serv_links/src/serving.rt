@@ -2,13 +2,13 @@
 
 ghost use Rattle.std.specs.Prelude.{◌≡◌, ◌≢◌, ◌≤◌};
 ghost use Rattle.serv_disk.specs.Faults.{HasRisen};
-ghost use Rattle.serv_machine.specs.Upheld.{Upholds};
-ghost use Rattle.serv_machine.specs.Stands.{stand};
-ghost use Rattle.serv_links.specs.Outcomes.{Writes};
+ghost use Rattle.serv_machine.specs.OnDisk.{Upholds};
+ghost use Rattle.serv_machine.specs.History.{stand};
+ghost use Rattle.serv_machine.specs.Answering.{Writes};
 ghost use Rattle.serv_links.specs.Links.{IsDiskEnd, Serves, link_limit, number_in};
 
 use crate::answering::serve_piece;
-use crate::closing::write_no_memory;
+use crate::closing::write_last;
 use crate::link_end::LinkEnd;
 use serv_disk::{Disk, Link, read_some};
 use serv_http::Conn;
@@ -52,7 +52,7 @@ pub(crate) fn serve_link<D: Disk, M: Machine<D>, C: Link, L: Ledger>(
     ensures write_later { C.Sink.faults link.old ≤ C.Sink.faults link.new }
 {
     let Ok(mut conn) = Conn::new(alloc) else {
-        write_no_memory(link, disk);
+        write_last(link, disk, Stop::OutOfMemory);
         return LinkEnd::NoMemory(0);
     };
     let mut room = [0; ROOM];

@@ -7,7 +7,7 @@ ghost use Rattle.serv_json.specs.Replies.{reply_text};
 ghost use Rattle.serv_http.specs.Responses as responses;
 ghost use Rattle.serv_machine.specs.declared.verdict.Verdict.TheVariants as verdict;
 ghost use Rattle.serv_machine.specs.Verdicts.{IsFit};
-ghost use Rattle.serv_links.specs.Responses.{response_of, without_last};
+ghost use Rattle.serv_links.specs.Meanings.{response_of, without_last};
 
 use serv_ascii::{reach_answer, reach_refusal};
 use serv_http::respond;
@@ -38,7 +38,7 @@ pub(crate) fn respond_verdict(
 }
 
 /// The response with the reply to an accepted command.
-#[tactic(auto, using(serv_ascii::proofs::AsciiLemmas::reply_is_ascii), unfolding(crate::specs::Responses::response_of))]
+#[tactic(auto, using(serv_ascii::proofs::AsciiLemmas::reply_is_ascii), unfolding(crate::specs::Meanings::response_of))]
 fn respond_reply(alloc: Global, reply: &Reply, ends: bool) -> Result<Vec<u8>, OutOfMemory>
     ensures { IfOk result (λ bytes. bytes.items ≡ response_of (verdict.Reply reply.now) ends) }
 {
@@ -47,7 +47,7 @@ fn respond_reply(alloc: Global, reply: &Reply, ends: bool) -> Result<Vec<u8>, Ou
 }
 
 /// The response with the rule that refuses a request.
-#[tactic(auto, using(serv_ascii::proofs::AsciiLemmas::refusal_is_ascii), unfolding(crate::specs::Responses::response_of))]
+#[tactic(auto, using(serv_ascii::proofs::AsciiLemmas::refusal_is_ascii), unfolding(crate::specs::Meanings::response_of))]
 fn respond_refusal(alloc: Global, why: &Refusal, ends: bool) -> Result<Vec<u8>, OutOfMemory>
     ensures { IfOk result (λ bytes. bytes.items ≡ response_of (verdict.Refused why.now) ends) }
 {
@@ -57,7 +57,7 @@ fn respond_refusal(alloc: Global, why: &Refusal, ends: bool) -> Result<Vec<u8>, 
 }
 
 /// The response that the journal of so many bytes has no room.
-#[tactic(auto, using(serv_ascii::proofs::AsciiLemmas::full_is_ascii), unfolding(crate::specs::Responses::response_of))]
+#[tactic(auto, using(serv_ascii::proofs::AsciiLemmas::full_is_ascii), unfolding(crate::specs::Meanings::response_of))]
 fn respond_full(alloc: Global, bytes: u64, ends: bool) -> Result<Vec<u8>, OutOfMemory>
     ensures { IfOk result (λ out. out.items ≡ response_of (verdict.Full bytes) ends) }
 {
@@ -66,7 +66,7 @@ fn respond_full(alloc: Global, bytes: u64, ends: bool) -> Result<Vec<u8>, OutOfM
 }
 
 /// The response with the answer to a query.
-#[tactic(auto, using(serv_ascii::proofs::AnswerLemmas::answer_is_ascii), unfolding(crate::specs::Responses::response_of))]
+#[tactic(auto, using(serv_ascii::proofs::AnswerLemmas::answer_is_ascii), unfolding(crate::specs::Meanings::response_of))]
 fn respond_answer(alloc: Global, answer: &Answer, ends: bool) -> Result<Vec<u8>, OutOfMemory>
     requires { IsSpellable answer.now }
     ensures { IfOk result (λ bytes. bytes.items ≡ response_of (verdict.Answer answer.now) ends) }

@@ -13,25 +13,22 @@ use Rattle.serv_engine.specs.declared.fault.EngineFault.TheVariants as engine
 use Rattle.serv_engine.specs.Engines.{EngineState, IsRunningIn, IsRunning, WasTaken, kept_of, begun_of}
 use Rattle.serv_engine.specs.declared.taken.Taken.{Taken}
 use Rattle.serv_engine.specs.declared.taken.Taken.TheVariants as taken
-use Rattle.serv_machine.specs.Stages.{IsKeptBut}
-use Rattle.serv_engine.specs.Histories.{line_of_command, record_length, lengths_of, IsAroundFor}
+use Rattle.serv_machine.specs.History.{IsKeptBut, History, Journal, Decision, Full, Fresh, in_journal, by_room, by_judgement, decided, after_decision, history_of, kept_history, fault_of}
+use Rattle.serv_engine.specs.Histories.{line_of_command, record_length, lengths_of, IsAroundFor, IsGoodFor}
 use Rattle.serv_engine.proofs.LengthLemmas.{size_of}
 use Rattle.serv_engine.proofs.RunningLemmas.{running_stands, kept_and_begun}
 use Rattle.serv_journal.specs.declared.format.Version.TheVariants.{Two}
 use Rattle.serv_engine.specs.Submitting.{HasRoom, IsFull, IsSubmitFault}
 use Rattle.serv_machine.specs.declared.faults.ActFault.{ActFault}
 use Rattle.serv_machine.specs.declared.faults.ActFault.TheVariants as fault
-use Rattle.serv_machine.specs.History.{History, Journal, Decision, Full, Fresh, in_journal, by_room, by_judgement, decided, after_decision}
-use Rattle.serv_machine.specs.Replies.{IsReplyBy, IsUnsaid, IsFaultBy}
+use Rattle.serv_machine.specs.Verdicts.{IsReplyBy, IsUnsaid, IsFaultBy}
 use Rattle.std.specs.Prelude.{Result, Err, true, false, nat_lt, if◌then◌else◌}
 use Rattle.serv_disk.specs.Disks.{Each, LeavesOnly}
 use Rattle.serv_disk.proofs.Moments.{weaker}
 use Rattle.serv_journal.specs.Format.{Form, IsForm}
-use Rattle.serv_engine.specs.Histories.{IsGoodFor}
 use Rattle.serv_machine.specs.EngineLaws.{form_of, running_whole}
 use Rattle.serv_machine.specs.OnDisk.{IsFormOf, HasHistory, IsGoodWith, IsAlong, IsTorn, OnDisk}
 use Rattle.serv_machine.proofs.OnDiskLemmas.{disk_same, disk_kept, disk_stopped, disk_torn, good_for, history_before}
-use Rattle.serv_machine.specs.Engines.{history_of, kept_history, fault_of}
 
 with_room : (base limit : ℕ) (h : List Accepted) (a : Accepted) → base + lengths_of h + record_length a ≤ limit → by_room (Journal base limit) h a ≡ Fresh
 with_room base limit h a fits = grind (arith, nat_tests)

@@ -1,7 +1,8 @@
 pub mod OnDiskLemmas
 pub mod NextLemmas
-pub mod NearLemmas
 pub mod MemoryLemmas
 pub mod EngineLemmas
 pub mod UpheldLemmas
 pub mod SayingLemmas
+pub mod GatheredLemmas
+pub mod AnsweringLemmas

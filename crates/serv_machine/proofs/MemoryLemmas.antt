@@ -11,7 +11,7 @@ use Rattle.svc_world.specs.World.{Accepted, accepted}
 use Rattle.svc_world.specs.Judging as judging
 use Rattle.svc_world.specs.Judging.{Judgement, judged, IsHistory}
 use Rattle.serv_machine.specs.History.{History, Memory, Refused, by_judgement, decided, after_decision}
-use Rattle.serv_machine.specs.Replies.{IsReplyBy, IsUnsaid}
+use Rattle.serv_machine.specs.Verdicts.{IsReplyBy, IsUnsaid}
 use Rattle.serv_machine.specs.OnDisk.{OnDisk}
 use Rattle.serv_machine.proofs.OnDiskLemmas.{alone}
 

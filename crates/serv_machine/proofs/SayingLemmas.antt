@@ -1,13 +1,12 @@
 -- What is said in order, and a command that is fresh, which is one more and the next one of a history that goes on.
-use Rattle.std.proofs.Common.{◌≡◌, ◌+◌, ◌≤◌, List, [], ◌∷◌, ◌++◌, refl, sym, ap, ◌∙◌, arith, append-nil, append_assoc}
+use Rattle.std.proofs.Common.{◌≡◌, ◌+◌, ◌≤◌, List, [], ◌∷◌, ◌++◌, refl, sym, ap, ◌∙◌, ⊎_elim, arith, append-nil, append_assoc}
 use Rattle.std.specs.Prelude.{Option, Some, None}
 use Rattle.svc_types.specs.declared.requests.Request.{Request}
 use Rattle.svc_types.specs.declared.requests.Request.TheVariants as request
 use Rattle.svc_world.specs.World.{Accepted, accepted}
-use Rattle.serv_machine.specs.History.{History, Decision, Kept, Refused, Full, Fresh, after_decision, decided}
-use Rattle.serv_machine.specs.Replies.{history_after_request}
-use Rattle.serv_machine.specs.Stands.{Stand}
-use Rattle.serv_machine.specs.Sayings.{Saying, after_asked, commands_asked, IsAppended, reply_to, history_after, bound_of, commands_of, IsFresh, history_after_all, replies_to, bound_of_all, MovesAll}
+use Rattle.serv_machine.specs.History.{Store, History, Decision, Kept, Refused, Full, Fresh, after_decision, decided, Stand}
+use Rattle.serv_machine.specs.Verdicts.{history_after_request}
+use Rattle.serv_machine.specs.Sayings.{Saying, Say, SaidFirst, after_asked, commands_asked, IsAppended, reply_to, history_after, bound_of, commands_of, IsFresh, history_after_all, replies_to, bound_of_all, MovesAll, Starves}
 use Rattle.serv_machine.proofs.NextLemmas.{next_is as it_is_next}
 
 -- ---- one list after another
@@ -66,6 +65,15 @@ pub store_after_all : (h : History) (saids : List Saying) → (history_after_all
 store_after_all h [] = refl
 store_after_all h (said ∷ saids) = store_after_all (history_after h said) saids ∙ store_after h said
 
+abbrev store_of : History → Store
+store_of h = h.store
+
+pub store_moves : (saids : List Saying) (s s' : Stand) → MovesAll saids s s' → s'.history.store ≡ s.history.store
+store_moves saids s s' moved = ap store_of moved.0 ∙ store_after_all s.history saids
+
+pub store_starves : (said : Saying) (s s' : Stand) → Starves said s s' → s'.history.store ≡ s.history.store
+store_starves said s s' is = ⊎_elim (λ same. ap store_of same) (λ next. ap store_of next ∙ store_after s.history said) is.near
+
 -- ---- a command that is fresh
 
 appended_grows : (h : History) (asks : Option Request) → IsAppended h asks → (after_asked h asks).commands ≡ h.commands ++ commands_asked asks
@@ -99,3 +107,32 @@ next_is kept list more rest next only is =
 -- where nothing follows
 pub next_alone : (kept list rest : List Accepted) (next : Accepted) → IsSingle list → kept ++ list ≡ kept ++ next ∷ rest → next ∷ [] ≡ list
 next_alone kept list rest next only is = next_is kept list [] rest next only (append-nil (kept ++ list) ∙ is)
+
+-- ---- what things say
+
+pub say-append : {A : Type 0} (Says : A → Saying → Type 0) (items more : List A) (saids others : List Saying) → Say Says items saids → Say Says more others → Say Says (items ++ more) (saids ++ others)
+say-append Says [] more [] others say then = then
+say-append Says [] more (said ∷ saids) others say then = absurd say
+say-append Says (item ∷ items) more [] others say then = absurd say
+say-append Says (item ∷ items) more (said ∷ saids) others say then = (say.0, say-append Says items more saids others say.1 then)
+
+pub say-push : {A : Type 0} (Says : A → Saying → Type 0) (items : List A) (saids : List Saying) (item : A) (said : Saying) → Say Says items saids → Says item said → Say Says (items ++ item ∷ []) (saids ++ said ∷ [])
+say-push Says items saids item said say last = say-append Says items (item ∷ []) saids (said ∷ []) say (last, tt)
+
+-- where each says one thing
+pub say_one : {A : Type 0} (Says : A → Saying → Type 0) → ((item : A) (said other : Saying) → Says item said → Says item other → said ≡ other) → (items : List A) (saids others : List Saying) → Say Says items saids → Say Says items others → saids ≡ others
+say_one Says one [] [] [] p q = refl
+say_one Says one [] [] (x ∷ others) p q = absurd q
+say_one Says one [] (said ∷ saids) others p q = absurd p
+say_one Says one (item ∷ items) [] others p q = absurd p
+say_one Says one (item ∷ items) (said ∷ saids) [] p q = absurd q
+say_one Says one (item ∷ items) (said ∷ saids) (x ∷ others) p q =
+    let first : said ≡ x = one item said x p.0 q.0 in
+    let rest : saids ≡ others = say_one Says one items saids others p.1 q.1 in
+    cc
+
+pub said_more : {A : Type 0} (Says : A → Saying → Type 0) (items more : List A) (saids : List Saying) → SaidFirst Says items saids → SaidFirst Says (items ++ more) saids
+said_more Says items more saids is = record { acted = is.acted; others = is.others ++ more; items_are = ap (λ l. l ++ more) is.items_are ∙ append_assoc is.acted is.others more; say = is.say }
+
+pub said_all : {A : Type 0} (Says : A → Saying → Type 0) (items : List A) (saids : List Saying) → Say Says items saids → SaidFirst Says items saids
+said_all Says items saids say = record { acted = items; others = []; items_are = sym (append-nil items); say = say }

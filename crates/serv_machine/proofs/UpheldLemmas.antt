@@ -7,8 +7,7 @@ use Rattle.serv_disk.specs.Disks.{Each}
 use Rattle.serv_disk.specs.Stamps.{Stamp, AreAt, Notes}
 use Rattle.serv_disk.proofs.NotedLemmas.{adds_nil, adds_trans, held_after}
 use Rattle.serv_machine.specs.History.{Store, History, in_store, with_commands}
-use Rattle.serv_machine.specs.OnDisk.{HasHistory, IsAlong, IsLeft, OnDisk}
-use Rattle.serv_machine.specs.Upheld.{HasCommands, IsUpheld, AreUpheld, UpholdsFrom, Upholds}
+use Rattle.serv_machine.specs.OnDisk.{HasHistory, IsAlong, IsLeft, OnDisk, HasCommands, IsUpheld, AreUpheld, UpholdsFrom, Upholds}
 use Rattle.serv_machine.proofs.OnDiskLemmas.{along_after}
 
 -- ---- what a content has

@@ -8,8 +8,7 @@ use Rattle.serv_engine.specs.Engines.{EngineState, IsDurable, IsRunningIn, IsRun
 use Rattle.serv_engine.specs.Histories.{lines_of_history, lengths_of}
 use Rattle.serv_engine.proofs.LengthLemmas.{size_of}
 use Rattle.serv_engine.proofs.RunningLemmas as running
-use Rattle.serv_machine.specs.Engines.{history_of, kept_history}
-use Rattle.serv_machine.specs.History.{in_journal}
+use Rattle.serv_machine.specs.History.{history_of, kept_history, in_journal}
 use Rattle.serv_machine.specs.OnDisk.{IsFormOf, HasHistory}
 
 place_is : (size n place : ℕ) → size ≡ place + n → size - n ≡ place

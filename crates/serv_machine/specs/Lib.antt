@@ -1,10 +1,6 @@
 pub mod History
 pub mod Verdicts
-pub mod Replies
-pub mod Stages
-pub mod Stands
 pub mod Sayings
 pub mod OnDisk
-pub mod Engines
+pub mod Answering
 pub mod EngineLaws
-pub mod Upheld

@@ -3,14 +3,8 @@
 use Rattle.std.specs.Prelude.{◌≡◌, ℕ, ◌+◌, ◌≤◌, List, [], ◌∷◌, ◌++◌, Option, Some, None}
 use Rattle.svc_types.specs.declared.requests.Request.{Request}
 use Rattle.svc_world.specs.World.{Accepted}
-use Rattle.serv_machine.specs.declared.faults.Halt.{Halt}
-use Rattle.serv_machine.specs.declared.faults.Halt.TheVariants as halt
-use Rattle.serv_machine.specs.declared.faults.Stop.{Stop}
-use Rattle.serv_machine.specs.declared.faults.Stop.TheVariants as stop
-use Rattle.serv_machine.specs.History.{History}
-use Rattle.serv_machine.specs.Replies.{history_after_request, bound_of_request, commands_in, IsAppending}
-use Rattle.serv_machine.specs.Stages.{IsNear}
-use Rattle.serv_machine.specs.Stands.{Stand}
+use Rattle.serv_machine.specs.History.{History, IsNear, Stand}
+use Rattle.serv_machine.specs.Verdicts.{history_after_request, bound_of_request, commands_in, IsAppending}
 
 -- the request that it asks, if it asks one, and the text of the reply, over what is held
 pub record Saying : Type 0 where
@@ -89,11 +83,6 @@ MovesAll saids s s' =
 
 -- ---- where it has no reply
 
--- nothing further is answered
-abbrev pub stop_of : Halt → Stop
-stop_of halt.DiskFault = stop.DiskFault
-stop_of halt.OutOfMemory = stop.OutOfMemory
-
 -- it was acted on or not, within its bound: no memory was there for its reply
 pub record Starves (said : Saying) (s s' : Stand) : Type 0 where
   pub near : IsNear s.history (history_after s.history said) s'.history
@@ -105,3 +94,26 @@ pub record Sticks (said : Saying) (s s' : Stand) (pending : List Accepted) : Typ
   pub pending_is : pending ≡ commands_of said
   pub same : s'.history ≡ s.history
   pub cost : s'.steps ≤ s.steps + bound_of s.history said
+
+-- ---- what things say
+
+-- each says one of these in turn
+abbrev pub Say : {A : Type 0} → (A → Saying → Type 0) → List A → List Saying → Type 0
+Say Says [] [] = Unit {0}
+Say Says [] (said ∷ more) = ⊥
+Say Says (item ∷ items) [] = ⊥
+Say Says (item ∷ items) (said ∷ more) = Says item said × Say Says items more
+
+-- some first ones of these things say it
+pub record SaidFirst {A : Type 0} (Says : A → Saying → Type 0) (items : List A) (saids : List Saying) : Type 0 where
+  pub acted : List A
+  pub others : List A
+  pub items_are : items ≡ acted ++ others
+  pub say : Say Says acted saids
+
+-- of all that is said, which is so: what comes first, and what comes next
+pub record AreFirst (Whole : List Saying → Type 0) (done ahead : List Saying) : Type 0 where
+  pub saids : List Saying
+  pub whole : Whole saids
+  pub others : List Saying
+  pub saids_are : saids ≡ done ++ (ahead ++ others)

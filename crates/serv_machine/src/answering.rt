@@ -4,10 +4,9 @@ ghost use Rattle.std.specs.Prelude.{◌≡◌, ◌≢◌, ◌+◌, ◌≤◌, �
 ghost use Rattle.svc_types.specs.Requests.{IsCommand, IsQuery, IsRequest};
 ghost use Rattle.svc_types.specs.declared.requests.Request.TheVariants as request;
 ghost use Rattle.serv_disk.specs.Faults.{HasRisen};
-ghost use Rattle.serv_machine.specs.Replies.{bound_of_request, commands_in, history_after_request, reply_to_request, IsAppending};
-ghost use Rattle.serv_machine.specs.Stages.{IsKeptBut, IsNear};
+ghost use Rattle.serv_machine.specs.Verdicts.{bound_of_request, commands_in, history_after_request, reply_to_request, IsAppending, IsFit, verdict_to};
+ghost use Rattle.serv_machine.specs.History.{IsKeptBut, IsNear};
 ghost use Rattle.serv_machine.specs.OnDisk.{OnDisk};
-ghost use Rattle.serv_machine.specs.Verdicts.{IsFit, verdict_to};
 
 use crate::faults::{ActFault, Halt};
 use crate::machine::Machine;
@@ -32,13 +31,13 @@ pub fn answer_request<D: Disk, M: Machine<D>, L: Ledger>(
     requires ready { M.ready machine.old disk.old }
     ensures reply { OnOk result
         (out.new.items ≡ out.old.items ++ reply_to_request (M.history machine.old) request.now) }
-    ensures kept { OnErr result (out.new.items ≡ out.old.items) }
+    ensures same { OnErr result (out.new.items ≡ out.old.items) }
     ensures history { OnOk result (M.history machine.new
         ≡ history_after_request (M.history machine.old) request.now) }
-    ensures held { OnOk result (IsKeptBut (IsAppending (M.history machine.old) request.now)
-        (M.history machine.old) (M.history machine.new) (M.kept machine.new)) }
-    ensures near { result ≡ Err Halt.OutOfMemory → IsNear (M.history machine.old)
-        (history_after_request (M.history machine.old) request.now) (M.kept machine.new) }
+    ensures near { IsNear (M.history machine.old) (history_after_request (M.history machine.old) request.now)
+        (M.history machine.new) }
+    ensures kept { result ≢ Err Halt.DiskFault → IsKeptBut (IsAppending (M.history machine.old) request.now)
+        (M.history machine.old) (M.history machine.new) (M.kept machine.new) }
     ensures stopped { result ≡ Err Halt.DiskFault → (M.kept machine.new ≡ M.history machine.old)
         × HasRisen (D.faults disk.old) (D.faults disk.new) }
     ensures appending { result ≡ Err Halt.DiskFault → IsAppending (M.history machine.old) request.now }
@@ -62,7 +61,7 @@ pub fn answer_request<D: Disk, M: Machine<D>, L: Ledger>(
 
 /// Acts on a command, and appends its reply. It makes no verdict: one is as wide as an answer, and to copy it takes a line
 /// 350 instructions.
-#[tactic(auto, using(crate::proofs::NearLemmas::near_by), unfolding(crate::specs::Replies::reply_to_request, crate::specs::Verdicts::verdict_to, crate::specs::Replies::history_after_request, crate::specs::Replies::bound_of_request))]
+#[tactic(auto, unfolding(crate::specs::Verdicts::reply_to_request, crate::specs::Verdicts::verdict_to, crate::specs::Verdicts::history_after_request, crate::specs::Verdicts::bound_of_request))]
 fn answer_command<D: Disk, M: Machine<D>, L: Ledger>(
     machine: &mut M,
     disk: &mut D,
@@ -75,13 +74,14 @@ fn answer_command<D: Disk, M: Machine<D>, L: Ledger>(
     requires ready { M.ready machine.old disk.old }
     ensures reply { OnOk result (out.new.items
         ≡ out.old.items ++ reply_to_request (M.history machine.old) (request.Do key.now command.now)) }
-    ensures kept { OnErr result (out.new.items ≡ out.old.items) }
+    ensures same { OnErr result (out.new.items ≡ out.old.items) }
     ensures history { OnOk result (M.history machine.new
         ≡ history_after_request (M.history machine.old) (request.Do key.now command.now)) }
-    ensures held { OnOk result (IsKeptBut (IsAppending (M.history machine.old) (request.Do key.now command.now))
-        (M.history machine.old) (M.history machine.new) (M.kept machine.new)) }
-    ensures near { result ≡ Err Halt.OutOfMemory → IsNear (M.history machine.old)
-        (history_after_request (M.history machine.old) (request.Do key.now command.now)) (M.kept machine.new) }
+    ensures near { IsNear (M.history machine.old)
+        (history_after_request (M.history machine.old) (request.Do key.now command.now)) (M.history machine.new) }
+    ensures kept { result ≢ Err Halt.DiskFault
+        → IsKeptBut (IsAppending (M.history machine.old) (request.Do key.now command.now))
+        (M.history machine.old) (M.history machine.new) (M.kept machine.new) }
     ensures stopped { result ≡ Err Halt.DiskFault → (M.kept machine.new ≡ M.history machine.old)
         × HasRisen (D.faults disk.old) (D.faults disk.new) }
     ensures appending { result ≡ Err Halt.DiskFault → IsAppending (M.history machine.old) (request.Do key.now command.now) }
@@ -113,7 +113,7 @@ fn answer_command<D: Disk, M: Machine<D>, L: Ledger>(
 }
 
 /// Answers a query, and appends the answer.
-#[tactic(auto, unfolding(crate::specs::Replies::reply_to_request))]
+#[tactic(auto, unfolding(crate::specs::Verdicts::reply_to_request))]
 fn answer_query<D: Disk, M: Machine<D>, L: Ledger>(
     machine: &M,
     query: &Query,
@@ -170,7 +170,7 @@ pub fn decide<D: Disk, M: Machine<D>, L: Ledger>(
 }
 
 /// Decides about a command, and begins it where it is fresh.
-#[tactic(auto, unfolding(crate::specs::Verdicts::verdict_to, crate::specs::Replies::history_after_request, crate::specs::Replies::bound_of_request))]
+#[tactic(auto, unfolding(crate::specs::Verdicts::verdict_to, crate::specs::Verdicts::history_after_request, crate::specs::Verdicts::bound_of_request))]
 fn decide_command<D: Disk, M: Machine<D>, L: Ledger>(
     machine: &mut M,
     disk: &mut D,
@@ -214,7 +214,7 @@ fn decide_command<D: Disk, M: Machine<D>, L: Ledger>(
 }
 
 /// Decides about a query.
-#[tactic(auto, unfolding(crate::specs::Verdicts::verdict_to, crate::specs::Replies::history_after_request, crate::specs::Replies::bound_of_request))]
+#[tactic(auto, unfolding(crate::specs::Verdicts::verdict_to, crate::specs::Verdicts::history_after_request, crate::specs::Verdicts::bound_of_request))]
 pub fn decide_query<D: Disk, M: Machine<D>, L: Ledger>(
     machine: &M,
     query: &Query,

@@ -43,20 +43,6 @@ pub enum Stop {
     OutOfMemory,
 }
 
-impl From<Halt> for Stop {
-    ghost use Rattle.std.specs.Prelude.{◌≡◌};
-    ghost use Rattle.serv_machine.specs.Sayings.{stop_of};
-
-    ghost from_gives = { λ halt stop. stop ≡ stop_of halt };
-
-    fn from(halt: Halt) -> Stop {
-        match halt {
-            Halt::DiskFault => Stop::DiskFault,
-            Halt::OutOfMemory => Stop::OutOfMemory,
-        }
-    }
-}
-
 impl From<OutOfMemory> for Halt {
     ghost use Rattle.std.specs.Prelude.{◌≡◌};
     ghost use Rattle.serv_machine.specs.declared.faults.Halt.TheVariants as halt;

@@ -8,6 +8,8 @@ mod in_memory;
 mod machine;
 mod nowhere;
 mod over_journal;
+mod replies;
+mod spoken;
 mod verdict;
 
 pub use answering::{answer_request, decide, decide_query};
@@ -15,4 +17,6 @@ pub use faults::{ActFault, Halt, Stop};
 pub use frugal::Frugal;
 pub use machine::Machine;
 pub use nowhere::Nowhere;
+pub use replies::Replies;
+pub use spoken::Spoken;
 pub use verdict::{Verdict, push_verdict};

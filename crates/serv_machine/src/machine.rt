@@ -11,9 +11,8 @@ ghost use Rattle.svc_core.specs.Core.{IsQueryFault};
 ghost use Rattle.serv_disk.specs.Disks.{Each};
 ghost use Rattle.serv_disk.specs.Faults.{HasCause};
 ghost use Rattle.serv_report.specs.AnswerTexts.{IsSpellable};
-ghost use Rattle.serv_machine.specs.History.{History, Fresh, decided, after_decision};
-ghost use Rattle.serv_machine.specs.Replies.{IsReplyBy, IsFaultBy};
-ghost use Rattle.serv_machine.specs.Stages.{IsKeptBut};
+ghost use Rattle.serv_machine.specs.History.{History, Fresh, decided, after_decision, IsKeptBut};
+ghost use Rattle.serv_machine.specs.Verdicts.{IsReplyBy, IsFaultBy};
 ghost use Rattle.serv_machine.specs.OnDisk.{HasHistory, IsTorn, OnDisk};
 
 use crate::faults::ActFault;

@@ -1,7 +1,7 @@
 //! Books over a journal.
 
 ghost use Rattle.std.specs.Prelude.{◌≡◌};
-ghost use Rattle.serv_machine.specs.Engines.{fault_of};
+ghost use Rattle.serv_machine.specs.History.{fault_of};
 
 use crate::faults::ActFault;
 use crate::frugal::Frugal;
@@ -32,7 +32,7 @@ impl<D: Disk, B: Frugal> Machine<D> for Engine<B> {
     ghost use Rattle.std.specs.Prelude.{◌≡◌, false, true};
     ghost use Rattle.serv_journal.specs.declared.format.Version.TheVariants.{Two};
     ghost use Rattle.serv_engine.specs.Engines.{IsDurable, IsRunning};
-    ghost use Rattle.serv_machine.specs.Engines.{history_of, kept_history};
+    ghost use Rattle.serv_machine.specs.History.{history_of, kept_history};
     ghost use Rattle.serv_machine.specs.EngineLaws.{durable_kept, durable_runs, durable_whole, running_whole};
 
     ghost history = { history_of };

@@ -1,5 +1,5 @@
 -- A run over a journal: what stands where it was opened, and where it was not.
-use Rattle.std.proofs.Common.{◌≡◌, ◌⊎◌, ℕ, ◌+◌, ◌-◌, ◌<◌, ◌≤◌, List, [], ◌∷◌, ◌++◌, length, refl, ap, subst, ◌∙◌, inl, inr, ⊎_elim, arith}
+use Rattle.std.proofs.Common.{◌≡◌, ◌⊎◌, ℕ, ◌+◌, ◌-◌, ◌<◌, ◌≤◌, List, [], ◌∷◌, ◌++◌, length, refl, ap, subst, inl, inr, ⊎_elim, arith}
 use Rattle.std.specs.Prelude.{Option, Some}
 use Rattle.svc_world.specs.World.{Accepted}
 use Rattle.svc_world.specs.Judging.{IsHistory}
@@ -14,57 +14,38 @@ use Rattle.serv_engine.specs.Engines.{EngineState, IsDurable}
 use Rattle.serv_engine.specs.Opening.{IsFound, IsPassing, IsOpenFault, IsOpenCause, history_bound}
 use Rattle.serv_engine.proofs.GoodLemmas.{good_journal, good_undamaged}
 use Rattle.serv_engine.proofs.LengthLemmas.{journal_base}
-use Rattle.serv_machine.specs.History.{History, Store, in_journal}
-use Rattle.serv_machine.specs.Engines.{history_of}
+use Rattle.serv_machine.specs.History.{History, Store, in_journal, history_of, Stand, stand}
 use Rattle.serv_machine.specs.EngineLaws.{durable_whole}
 use Rattle.serv_machine.specs.OnDisk.{OnDisk}
 use Rattle.serv_machine.proofs.EngineLemmas.{long_enough}
 use Rattle.serv_links.proofs.LinkLemmas.{few_taken}
 use Rattle.serv_top.specs.declared.status.Status.{Status}
 use Rattle.serv_top.specs.declared.status.Status.TheVariants as status
-use Rattle.serv_machine.specs.Stands.{Stand, stand}
-use Rattle.serv_machine.specs.Sayings.{Saying, history_after_all, MovesAll}
-use Rattle.serv_machine.proofs.SayingLemmas.{store_after, store_after_all}
-use Rattle.serv_top.specs.Replies.{IsBegun, IsCutIn, IsHeldUp, IsMaybeNext}
-use Rattle.serv_top.specs.Outcome.{Ended, Ends, IsOutput, input_limit}
-use Rattle.serv_top.specs.Status.{status_of_fault}
+use Rattle.serv_machine.specs.declared.faults.Stop.{Stop}
+use Rattle.serv_machine.specs.declared.faults.Stop.TheVariants as stop
+use Rattle.serv_machine.specs.Sayings.{SaidFirst}
+use Rattle.serv_machine.specs.Answering.{Leaves}
+use Rattle.serv_machine.proofs.SayingLemmas.{store_moves}
+use Rattle.serv_machine.proofs.GatheredLemmas.{store_stopped}
+use Rattle.serv_top.specs.Outcome.{AreStopped, Ended, IsOutput, input_limit}
+use Rattle.serv_top.specs.Status.{status_of_fault, Completes}
 use Rattle.serv_top.specs.Journal.{KeepsGood, IsCause, IsOnly, IsUnopened, IsOpened, IsRunOver, IsApplied, journal_limit}
-use Rattle.serv_top.specs.Lines.{lines_of}
-use Rattle.serv_top.specs.Upheld.{AreSaidFirst, IsAcknowledged}
+use Rattle.serv_top.specs.Lines.{Says, lines_of, IsAcknowledged}
 use Rattle.serv_top.proofs.SoundLemmas.{stay_sound}
-use Rattle.serv_top.specs.Ends.{Completes}
 
 -- ---- where commands are kept stays the same
 
-abbrev pub store_of : History → Store
-store_of h = h.store
-
-pub store_moves : (saids : List Saying) (s s' : Stand) → MovesAll saids s s' → s'.history.store ≡ s.history.store
-store_moves saids s s' moved = ap store_of moved.0 ∙ store_after_all s.history saids
-
-store_maybe : (h h' : History) (ahead : List Saying) → IsMaybeNext h ahead h' → h'.store ≡ h.store
-store_maybe h h' [] is = ap store_of is
-store_maybe h h' (said ∷ ahead) is = ⊎_elim (λ same. ap store_of same) (λ next. ap store_of next ∙ store_after h said) is
-
-module _ (First : List Saying → Type 0) (waiting : ℕ) (s s' : Stand) (written : List ℕ) where
-  pub store_cut : IsCutIn First waiting s s' written → s'.history.store ≡ s.history.store
-  store_cut is = ap store_of is.after ∙ store_after_all s.history is.done
-
-  pub store_begun : IsBegun First waiting s s' written → s'.history.store ≡ s.history.store
-  store_begun is = store_maybe (history_after_all s.history is.done) s'.history is.ahead is.after ∙ store_after_all s.history is.done
-
-  pub store_held_up : (pending : List Accepted) → IsHeldUp First waiting s s' pending written → s'.history.store ≡ s.history.store
-  store_held_up pending is = ap store_of is.after ∙ store_after_all s.history is.done
+store_lines : (why : Stop) (waiting : ℕ) (s s' : Stand) (pending : List Accepted) (taken : List ℕ) (left : Option (List ℕ)) (written : List ℕ) → AreStopped why waiting s s' pending taken left written → s'.history.store ≡ s.history.store
+store_lines why waiting s s' pending taken left written is = ⊎_elim (λ ended. store_stopped why _ waiting s s' pending written ended) (λ all. store_stopped why _ waiting s s' pending written all.1) is.1
 
 store_ended : (waiting : ℕ) (st : Status) (s s' : Stand) (pending : List Accepted) (taken : List ℕ) (left : Option (List ℕ)) (written : List ℕ) → IsOutput waiting st s s' pending taken left written
     → s'.history.store ≡ s.history.store
 store_ended waiting status.Done s s' pending taken left written is = store_moves is.3.said s s' is.3.moved
 store_ended waiting status.ReadFault s s' pending taken left written is = store_moves is.2.said s s' is.2.moved
-store_ended waiting status.WriteFault s s' pending taken left written is = ⊎_elim (λ cut. store_cut _ waiting s s' written cut) (λ cut. store_cut _ waiting s s' written cut.1) is.2
-store_ended waiting status.DiskFault s s' pending taken left written is =
-    ⊎_elim (λ held. store_held_up _ waiting s s' written pending held) (λ held. store_held_up _ waiting s s' written pending held.1) is.1
+store_ended waiting status.WriteFault s s' pending taken left written is = store_lines stop.WriteFault waiting s s' pending taken left written is
+store_ended waiting status.DiskFault s s' pending taken left written is = store_lines stop.DiskFault waiting s s' pending taken left written is
 store_ended waiting (status.TooMuch n) s s' pending taken left written is = store_moves is.3.said s s' is.3.moved
-store_ended waiting status.OutOfMemory s s' pending taken left written is = ⊎_elim (λ begun. store_begun _ waiting s s' written begun) (λ begun. store_begun _ waiting s s' written begun.1) is.2
+store_ended waiting status.OutOfMemory s s' pending taken left written is = store_lines stop.OutOfMemory waiting s s' pending taken left written is
 store_ended waiting other s s' pending taken left written is = absurd is
 
 -- ---- a journal was opened
@@ -120,13 +101,13 @@ run_over {D} E seen images moment images_since old mid new e h steps begun steps
 pub applied : {D : Type 0} (seen : D → Option (List ℕ)) (images : D → List ℕ → Type 0) (moment : D → ℕ) (images_since : D → ℕ → List ℕ → Type 0) (old mid new : D) (st : Status) (e : EngineState) (h : History)
     (steps begun steps' : ℕ) (left left' held held' : Option (List ℕ)) (log log' : Option (List Stamp))
     → IsOpened seen images moment images_since old mid steps begun (e.journal.size - lengths_of e.history) e.history → e.journal.limit ≡ journal_limit
-    → Ends images moment images_since mid new 0 st (stand (history_of e) begun) (stand h steps') left left' held held'
-    → IsAcknowledged (λ taken. AreSaidFirst (lines_of taken)) (moment new) (images_since new) h (history_of e) left left' held log log'
+    → Leaves images moment images_since mid new (λ pending. Ended 0 st (stand (history_of e) begun) (stand h steps') pending left left' held held') (history_of e) h
+    → IsAcknowledged (λ taken. SaidFirst Says (lines_of taken)) (moment new) (images_since new) h (history_of e) left left' held log log'
     → IsApplied seen images moment images_since old new st steps steps' left left' held held' log log'
 applied {D} seen images moment images_since old mid new st e h steps begun steps' left left' held held' log log' opening limit ends acked =
     run_over (λ s s' pending. Ended 0 st s s' pending left left' held held'
-    × IsAcknowledged (λ taken. AreSaidFirst (lines_of taken)) (moment new) (images_since new) s'.history s.history left left' held log log') seen images moment images_since old mid new e h steps begun steps' ends.pending opening limit
-    (store_ended 0 st (stand (history_of e) begun) (stand h steps') ends.pending ends.ended.taken left' ends.ended.written ends.ended.says) (ends.ended, acked) ends.disk
+    × IsAcknowledged (λ taken. SaidFirst Says (lines_of taken)) (moment new) (images_since new) s'.history s.history left left' held log log') seen images moment images_since old mid new e h steps begun steps' ends.pending opening limit
+    (store_ended 0 st (stand (history_of e) begun) (stand h steps') ends.pending ends.says_so.taken left' ends.says_so.written ends.says_so.says) (ends.says_so, acked) ends.disk
 
 -- ---- none was opened
 

@@ -3,12 +3,10 @@ use Rattle.std.proofs.Common.{◌≡◌, ℕ, ◌<◌, List, [], ◌∷◌, ◌+
 use Rattle.std.proofs.lemmas.Bool.{cases_lt}
 use Rattle.std.proofs.lemmas.List.{length-drop, take_at, drop_at, take-append-le, drop-append-le}
 use Rattle.serv_disk.specs.Faults.{IsProperPrefix}
-use Rattle.serv_machine.specs.History.{History}
-use Rattle.serv_machine.specs.Stands.{Stand}
-use Rattle.serv_machine.specs.Sayings.{Saying, reply_to, history_after, history_after_all, replies_to}
-use Rattle.serv_top.specs.Replies.{IsCutIn, IsCutAt}
-use Rattle.serv_top.specs.Upheld.{AreSaidFirst}
-use Rattle.serv_top.proofs.AnsweredLemmas.{first_lines}
+use Rattle.serv_machine.specs.History.{History, Stand}
+use Rattle.serv_machine.specs.Sayings.{Saying, AreFirst, reply_to, history_after, history_after_all, replies_to}
+use Rattle.serv_machine.specs.Answering.{IsCutIn}
+use Rattle.serv_top.specs.Outcome.{IsCutAt}
 
 -- where a text ends in the replies to these
 record EndsIn (saids : List Saying) (h : History) (written : List ℕ) : Type 0 where
@@ -71,15 +69,18 @@ ends_in (s ∷ saids) h written rest some e =
           ends_later s saids h written front (ends_in saids (history_after h s) (drop m written) rest some behind)
     ]
 
-pub cut_in_one : (waiting : ℕ) (lines : List (List ℕ)) (s s' : Stand) (written : List ℕ) → IsCutIn (AreSaidFirst lines) waiting s s' written → IsCutAt (AreSaidFirst lines) s.history written
-cut_in_one waiting lines s s' written cut =
-    let at = ends_in cut.done s.history written cut.cut.rest cut.cut.some cut.cut.joined in
-    let front : List Saying = at.said ++ at.last ∷ [] in
+pub cut_in_one : (Whole : List Saying → Type 0) (waiting : ℕ) (s s' : Stand) (written : List ℕ) → IsCutIn (AreFirst Whole) waiting s s' written → IsCutAt (AreFirst Whole) s.history written
+cut_in_one Whole waiting s s' written cut =
+    let at = ends_in (cut.done ++ cut.last ∷ []) s.history written cut.cut.rest cut.cut.some cut.cut.joined in
     record {
       said = at.said;
       last = at.last;
-      first = first_lines lines cut.first.acted cut.first.others cut.done cut.first.lines_are cut.first.say front
-          (record { others = at.others; saids_are = at.saids_are ∙ sym (append_assoc at.said (at.last ∷ []) at.others) });
+      first = record {
+        saids = cut.first.saids;
+        whole = cut.first.whole;
+        others = at.others ++ cut.first.others;
+        saids_are = cut.first.saids_are ∙ sym (append_assoc cut.done (cut.last ∷ []) cut.first.others) ∙ ap (λ l. l ++ cut.first.others) at.saids_are ∙ append_assoc at.said (at.last ∷ at.others) cut.first.others;
+      };
       part = at.part;
       text = at.text;
       partial = at.partial;

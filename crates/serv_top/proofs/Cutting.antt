@@ -2,9 +2,6 @@
 use Rattle.std.proofs.Common.{◌≡◌, ℕ, List, [], ◌∷◌, ◌++◌, refl, sym, ap, ◌∙◌, append-nil, append_assoc}
 use Rattle.std.specs.Prelude.{◌==◌, if◌then◌else◌, true, false}
 use Rattle.serv_top.specs.Lines.{onto_first, onto_ended, lines_of, ended_lines, open_from, open_line}
-use Rattle.serv_machine.specs.Sayings.{Saying}
-use Rattle.serv_top.specs.Machine.{Says}
-use Rattle.serv_top.specs.Upheld.{Say}
 
 -- the lines that end, where the stream goes on from this piece of a line
 abbrev pub ended_from : List ℕ → List ℕ → List (List ℕ)
@@ -86,13 +83,6 @@ lines_of-from bytes = sym (over_first-nil (lines_of bytes)) ∙ sym (lines-over_
 pub ended_lines-push : (bytes : List ℕ) (b : ℕ) → ended_lines (bytes ++ b ∷ []) ≡ (if b == 10 then ended_lines bytes ++ open_from [] bytes ∷ [] else ended_lines bytes)
 ended_lines-push bytes b = sym (ended_from_nil (bytes ++ b ∷ [])) ∙ ended_from-push [] bytes b
     ∙ ap (λ lines. if b == 10 then lines ++ open_from [] bytes ∷ [] else lines) (ended_from_nil bytes)
-
--- one more line
-pub say-push : (lines : List (List ℕ)) (saids : List Saying) (line : List ℕ) (said : Saying) → Say lines saids → Says line said → Say (lines ++ line ∷ []) (saids ++ said ∷ [])
-say-push [] [] line said all says = (says, tt)
-say-push [] (s ∷ saids) line said all says = absurd all
-say-push (l ∷ lines) [] line said all says = absurd all
-say-push (l ∷ lines) (s ∷ saids) line said all says = (all.0, say-push lines saids line said all.1 says)
 
 ended_from-append : (line bytes more : List ℕ) → ended_from line (bytes ++ more) ≡ ended_from line bytes ++ ended_from (open_from line bytes) more
 ended_from-append line [] more = refl

@@ -5,9 +5,9 @@ use Rattle.svc_world.specs.World.{Accepted}
 use Rattle.serv_disk.specs.Faults.{HasRisen}
 use Rattle.serv_top.specs.declared.status.Status.{Status}
 use Rattle.serv_top.specs.declared.status.Status.TheVariants as status
-use Rattle.serv_top.specs.Ends.{Finishes}
+use Rattle.serv_top.specs.Status.{Finishes}
 use Rattle.serv_top.specs.Journal.{IsInit}
-use Rattle.serv_machine.specs.Stands.{Stand}
+use Rattle.serv_machine.specs.History.{Stand}
 use Rattle.serv_top.specs.Outcome.{Ended, input_limit}
 use Rattle.serv_links.proofs.LinkLemmas.{few_taken}
 

@@ -1,5 +1,5 @@
 -- The rows of a file, one after another.
-use Rattle.std.proofs.Common.{◌≡◌, ◌⊎◌, ℕ, ◌+◌, ◌-◌, ◌<◌, ◌≤◌, List, [], ◌∷◌, ◌++◌, length, take, drop, get_or, map, refl, sym, ap, subst, ◌∙◌, inl, inr, ⊎_elim, arith, append-nil, append_assoc, zero, suc, add-one}
+use Rattle.std.proofs.Common.{◌≡◌, ◌⊎◌, ℕ, ◌+◌, ◌-◌, ◌<◌, ◌≤◌, List, [], ◌∷◌, ◌++◌, length, take, drop, get_or, map, refl, sym, ap, subst, ◌∙◌, inl, inr, ⊎_elim, arith, append_assoc, zero, suc, add-one}
 use Rattle.std.specs.Prelude.{Option, Some}
 use Rattle.std.specs.Io.KnownBytes.{Consumes}
 use Rattle.std.proofs.KnownBytes.{Appends-nil}
@@ -9,33 +9,29 @@ use Rattle.serv_disk.specs.Faults.{HasRisen}
 use Rattle.serv_disk.specs.Stamps.{Stamp}
 use Rattle.serv_engine.specs.Histories.{IsGoodFound, lengths_of}
 use Rattle.serv_engine.specs.Engines.{EngineState}
-use Rattle.serv_machine.specs.Engines.{history_of}
+use Rattle.serv_machine.specs.History.{history_of, History, Stand, stand, Running}
 use Rattle.serv_import.specs.declared.row.RowRequest.{RowRequest}
 use Rattle.serv_import.specs.declared.row.RowRequest.TheVariants as row
-use Rattle.serv_import.specs.Batches.{AreAnswers, HasHeader, IsBatch}
+use Rattle.serv_import.specs.Batches.{AreAnswers, IsBatch}
 use Rattle.serv_import.proofs.UniqueLemmas.{one_batch}
-use Rattle.serv_machine.specs.History.{History}
 use Rattle.serv_machine.specs.OnDisk.{OnDisk}
 use Rattle.serv_machine.proofs.OnDiskLemmas.{disk_more}
 use Rattle.serv_machine.specs.declared.faults.Stop.{Stop}
 use Rattle.serv_machine.specs.declared.faults.Stop.TheVariants as stop
 use Rattle.serv_top.specs.declared.status.Status.{Status}
 use Rattle.serv_top.specs.declared.status.Status.TheVariants as status
-use Rattle.serv_machine.specs.Stands.{Stand, stand, Running}
-use Rattle.serv_machine.specs.Sayings.{Saying, telling}
-use Rattle.serv_rows.specs.Texts.{text_of_bad_row}
-use Rattle.serv_top.specs.Replies.{IsStopped}
-use Rattle.serv_top.specs.Serving.{Gathered, Stops}
+use Rattle.serv_machine.specs.Sayings.{Saying, AreFirst, MovesAll}
 use Rattle.serv_top.specs.Outcome.{input_limit}
-use Rattle.serv_top.specs.Status.{status_of}
-use Rattle.serv_top.specs.Upheld.{AreFirst, IsAcknowledged}
-use Rattle.serv_top.specs.Imported.{AreFirstIn, FileSays, said_of, IsRow, AreRows, IsRowsOutput, RowsEnd, IsUnread, rows, headless, FileEnds, Imports, ImportEnds, IsImported}
+use Rattle.serv_machine.specs.Answering.{Gathered, IsStopped, Leaves, Writes}
+use Rattle.serv_machine.proofs.GatheredLemmas.{all_gathered, stops_after, store_stopped, writes_as}
+use Rattle.serv_machine.proofs.SayingLemmas.{store_moves}
+use Rattle.serv_top.specs.Status.{status_of, Completes}
+use Rattle.serv_top.specs.Lines.{IsAcknowledged}
+use Rattle.serv_top.specs.Imported.{FileSays, said_of, IsRow, AreRows, IsRowsOutput, IsUnread, IsIdle, IsFileOutput, rows, headless, Imports, IsImported}
 use Rattle.serv_top.specs.Journal.{IsOpened, IsUnopened, journal_limit}
 use Rattle.serv_links.proofs.LinkLemmas.{few_taken}
-use Rattle.serv_top.proofs.Applied.{run_over, unopened_ends, store_of, store_moves, store_cut, store_begun, store_held_up}
-use Rattle.serv_top.proofs.GatheredLemmas.{stopped_wider}
+use Rattle.serv_top.proofs.Applied.{run_over, unopened_ends}
 use Rattle.serv_top.proofs.ServedLemmas.{none_more}
-use Rattle.serv_top.specs.Ends.{Completes}
 
 -- ---- rows that ask commands
 
@@ -56,50 +52,40 @@ row_at (r ∷ list) (suc i) d are small = row_at list i d are.1 (omega arith)
 
 -- ---- one row after another
 
+stopped_rows : (why : Stop) (all : List Saying) (s s' : Stand) (pending : List Accepted) (written : List ℕ) → IsStopped why (AreFirst (λ said. said ≡ all)) 0 s s' pending written → IsRowsOutput (status_of why) all s s' pending written
+stopped_rows stop.WriteFault all s s' pending written is = is
+stopped_rows stop.DiskFault all s s' pending written is = is
+stopped_rows stop.OutOfMemory all s s' pending written is = is
+
 module _ {D : Type 0} (images : D → List ℕ → Type 0) (moment : D → ℕ) (images_since : D → ℕ → List ℕ → Type 0) (old mid new : D) (all : List Saying) (s s' : Stand) (kept : History) (held held' : Option (List ℕ))
     (first : OnDisk images moment images_since old mid s.history kept []) where
-  stopped_rows : (why : Stop) (pending : List Accepted) (written : List ℕ) → IsStopped why (AreFirst all) 0 s s' pending written → IsRowsOutput (status_of why) all s s' pending written
-  stopped_rows stop.WriteFault pending written is = is
-  stopped_rows stop.DiskFault pending written is = is
-  stopped_rows stop.OutOfMemory pending written is = is
-
   -- it stops at one of them
-  pub rows_stopped : (why : Stop) (saids : List Saying) → ((said : List Saying) → AreFirst saids said → AreFirst all said) → Stops images moment images_since mid new why (AreFirst saids) 0 s kept s' held held'
-      → RowsEnd images moment images_since old new (status_of why) all s s' held held'
-  rows_stopped why saids then stops =
-      let stopped = stopped_wider (AreFirst saids) (AreFirst all) then 0 s s' why stops.pending held held' stops.stopped in
-      record {
-        pending = stops.pending;
-        written = stopped.written;
-        wrote = stopped.wrote;
-        says = stopped_rows why stops.pending stopped.written stopped.says;
-        disk = disk_more images moment images_since old mid new s.history kept s'.history stops.pending first stops.disk;
-      }
+  pub rows_stopped : (why : Stop) (First : List Saying → List Saying → Type 0) → ((done ahead : List Saying) → First done ahead → AreFirst (λ said. said ≡ all) done ahead) → Writes images moment images_since mid new (IsStopped why First 0 s s') kept s'.history held held'
+      → Writes images moment images_since old new (IsRowsOutput (status_of why) all s s') s.history s'.history held held'
+  rows_stopped why First then stops =
+      writes_as images moment images_since old new _ (IsRowsOutput (status_of why) all s s') s.history s'.history held held' (stopped_rows why all s s')
+      (stops_after First (AreFirst (λ said. said ≡ all)) then 0 s s' images moment images_since old mid new why s.history kept s'.history held held' first stops)
 
   -- all are answered
   pub rows_settled : (t : Running) (text : List ℕ) → s' ≡ stand t.kept t.steps → t.kept ≡ t.held → length text ≤ 0 → Gathered 0 all s t held held' text → OnDisk images moment images_since mid new kept s'.history []
-      → RowsEnd images moment images_since old new status.Done all s s' held held'
-  rows_settled t text is same few g second = record {
-    pending = [];
-    written = g.written;
-    wrote = g.wrote;
-    says = (
-      refl,
+      → Writes images moment images_since old new (IsRowsOutput status.Done all s s') s.history s'.history held held'
+  rows_settled t text is same few g second =
+      let gathered = all_gathered 0 all s g same (none_more text few) in
       record {
-        said = all;
-        whole = refl;
-        text = sym (append-nil g.written) ∙ ap (λ x. g.written ++ x) (sym (none_more text few)) ∙ g.gathered;
-        moved = (ap (λ (x : Stand). x.history) is ∙ same ∙ g.after, omega (arith, ap (λ (x : Stand). x.steps) is, g.cost));
-      },
-    );
-    disk = disk_more images moment images_since old mid new s.history kept s'.history [] first second;
-  }
+        pending = [];
+        written = g.written;
+        wrote = g.wrote;
+        says_so = (refl, record { said = all; whole = refl; text = gathered.0; moved = subst (MovesAll all s) (sym is) gathered.1 });
+        disk = disk_more images moment images_since old mid new s.history kept s'.history [] first second;
+      }
 
 -- the rows up to one are some first ones of all
-pub first_rows : (all done others : List Saying) (said : Saying) → all ≡ done ++ said ∷ others → (saids : List Saying) → AreFirst (done ++ said ∷ []) saids → AreFirst all saids
-first_rows all done others said is saids first = record {
-  others = first.others ++ others;
-  saids_are = is ∙ sym (append_assoc done (said ∷ []) others) ∙ ap (λ ss. ss ++ others) first.saids_are ∙ append_assoc saids first.others others;
+pub first_rows : (all done others : List Saying) (said : Saying) → all ≡ done ++ said ∷ others → (first ahead : List Saying) → AreFirst (λ saids. saids ≡ done ++ said ∷ []) first ahead → AreFirst (λ saids. saids ≡ all) first ahead
+first_rows all done others said is first ahead are = record {
+  saids = all;
+  whole = refl;
+  others = are.others ++ others;
+  saids_are = is ∙ sym (append_assoc done (said ∷ []) others) ∙ ap (λ ss. ss ++ others) (sym are.whole ∙ are.saids_are) ∙ append_assoc first (ahead ++ are.others) others ∙ ap (λ ss. first ++ ss) (append_assoc ahead are.others others);
 }
 
 -- rows up to a place, the row there, and the rows behind it
@@ -128,34 +114,22 @@ is_row list i item is are small = subst (λ (r : RowRequest). IsRow r) (sym is) 
 
 -- ---- the file
 
-pub file_rows : {D : Type 0} (images : D → List ℕ → Type 0) (moment : D → ℕ) (images_since : D → ℕ → List ℕ → Type 0) (old new : D) (st : Status) (bytes : List ℕ) (answers : List RowRequest) (s s' : Stand)
-    (held held' : Option (List ℕ)) → IsBatch bytes answers → RowsEnd images moment images_since old new st (map said_of answers) s s' held held' → FileEnds images moment images_since old new st bytes s s' held held'
-file_rows images moment images_since old new st bytes answers s s' held held' batch ends = record {
-  pending = ends.pending;
-  written = ends.written;
-  wrote = ends.wrote;
-  says = inr (record { saids = map said_of answers; file = rows answers batch; rows = ends.says });
-  disk = ends.disk;
-}
+module _ {D : Type 0} (images : D → List ℕ → Type 0) (moment : D → ℕ) (images_since : D → ℕ → List ℕ → Type 0) (old new : D) (st : Status) (bytes : List ℕ) (s s' : Stand) (held held' : Option (List ℕ)) where
+  -- its rows are answered, or there is no memory for what they say
+  abbrev pub FileOutput : List Accepted → List ℕ → Type 0
+  FileOutput pending written = ((st ≡ status.OutOfMemory) × IsIdle s s' pending written) ⊎ IsFileOutput st bytes s s' pending written
 
-pub file_headless : {D : Type 0} (images : D → List ℕ → Type 0) (moment : D → ℕ) (images_since : D → ℕ → List ℕ → Type 0) (old new : D) (st : Status) (bytes : List ℕ) (s s' : Stand)
-    (held held' : Option (List ℕ)) → (HasHeader bytes → ⊥) → RowsEnd images moment images_since old new st (telling (text_of_bad_row 1 1) ∷ []) s s' held held' → FileEnds images moment images_since old new st bytes s s' held held'
-file_headless images moment images_since old new st bytes s s' held held' none ends = record {
-  pending = ends.pending;
-  written = ends.written;
-  wrote = ends.wrote;
-  says = inr (record { saids = telling (text_of_bad_row 1 1) ∷ []; file = headless none; rows = ends.says });
-  disk = ends.disk;
-}
+  pub file_says : (saids : List Saying) → FileSays bytes saids → Writes images moment images_since old new (IsRowsOutput st saids s s') s.history s'.history held held' → Writes images moment images_since old new FileOutput s.history s'.history held held'
+  file_says saids file ends = writes_as images moment images_since old new (IsRowsOutput st saids s s') FileOutput s.history s'.history held held' (λ pending written is. inr (record { saids = saids; file = file; rows = is })) ends
 
 -- ---- the source and the file
 
 pub import_unread : {D : Type 0} (images : D → List ℕ → Type 0) (moment : D → ℕ) (images_since : D → ℕ → List ℕ → Type 0) (old new : D) (st : Status) (s s' : Stand)
     (left left' held : Option (List ℕ)) → (taken : List ℕ) × Consumes left left' taken × IsUnread st taken → s'.history ≡ s.history → s'.steps ≡ s.steps
-    → OnDisk images moment images_since old new s.history s'.history [] → ImportEnds images moment images_since old new st s s' left left' held held
+    → OnDisk images moment images_since old new s.history s'.history [] → Leaves images moment images_since old new (λ pending. Imports st s s' pending left left' held held) s.history s'.history
 import_unread images moment images_since old new st s s' left left' held unread same steps disk = record {
   pending = [];
-  imported = record {
+  says_so = record {
     taken = unread.0;
     written = [];
     took = unread.1;
@@ -173,25 +147,25 @@ quiet st taken is = (λ e. subst (λ (x : Status). IsUnread x taken) e is, λ e.
 
 store_rows : (st : Status) (saids : List Saying) (s s' : Stand) (pending : List Accepted) (written : List ℕ) → IsRowsOutput st saids s s' pending written → s'.history.store ≡ s.history.store
 store_rows status.Done saids s s' pending written is = store_moves is.1.said s s' is.1.moved
-store_rows status.WriteFault saids s s' pending written is = store_cut (AreFirst saids) 0 s s' written is.1
-store_rows status.DiskFault saids s s' pending written is = store_held_up (AreFirst saids) 0 s s' written pending is
-store_rows status.OutOfMemory saids s s' pending written is = store_begun (AreFirst saids) 0 s s' written is.1
+store_rows status.WriteFault saids s s' pending written is = store_stopped stop.WriteFault _ 0 s s' pending written is
+store_rows status.DiskFault saids s s' pending written is = store_stopped stop.DiskFault _ 0 s s' pending written is
+store_rows status.OutOfMemory saids s s' pending written is = store_stopped stop.OutOfMemory _ 0 s s' pending written is
 store_rows other saids s s' pending written is = absurd is
 
 pub store_import : (st : Status) (s s' : Stand) (pending : List Accepted) (left left' held held' : Option (List ℕ)) → Imports st s s' pending left left' held held' → s'.history.store ≡ s.history.store
 store_import st s s' pending left left' held held' is =
-    ⊎_elim (λ unread. ap store_of unread.1.stays.0) (λ file. store_rows st file.2.saids s s' pending is.written file.2.rows) is.says
+    ⊎_elim (λ unread. ap (λ (h : History). h.store) unread.1.stays.0) (λ file. store_rows st file.2.saids s s' pending is.written file.2.rows) is.says
 
 pub imported : {D : Type 0} (seen : D → Option (List ℕ)) (images : D → List ℕ → Type 0) (moment : D → ℕ) (images_since : D → ℕ → List ℕ → Type 0) (old mid new : D) (st : Status) (e : EngineState) (h : History)
     (steps begun steps' : ℕ) (left left' held held' : Option (List ℕ)) (log log' : Option (List Stamp))
     → IsOpened seen images moment images_since old mid steps begun (e.journal.size - lengths_of e.history) e.history → e.journal.limit ≡ journal_limit
-    → ImportEnds images moment images_since mid new st (stand (history_of e) begun) (stand h steps') left left' held held'
-    → IsAcknowledged AreFirstIn (moment new) (images_since new) h (history_of e) left left' held log log'
+    → Leaves images moment images_since mid new (λ pending. Imports st (stand (history_of e) begun) (stand h steps') pending left left' held held') (history_of e) h
+    → IsAcknowledged FileSays (moment new) (images_since new) h (history_of e) left left' held log log'
     → IsImported seen images moment images_since old new st steps steps' left left' held held' log log'
 imported {D} seen images moment images_since old mid new st e h steps begun steps' left left' held held' log log' opening limit ends acked =
     run_over (λ s s' pending. Imports st s s' pending left left' held held'
-    × IsAcknowledged AreFirstIn (moment new) (images_since new) s'.history s.history left left' held log log') seen images moment images_since old mid new e h steps begun steps' ends.pending opening limit
-    (store_import st (stand (history_of e) begun) (stand h steps') ends.pending left left' held held' ends.imported) (ends.imported, acked) ends.disk
+    × IsAcknowledged FileSays (moment new) (images_since new) s'.history s.history left left' held log log') seen images moment images_since old mid new e h steps begun steps' ends.pending opening limit
+    (store_import st (stand (history_of e) begun) (stand h steps') ends.pending left left' held held' ends.says_so) (ends.says_so, acked) ends.disk
 
 -- ---- completeness
 

@@ -3,8 +3,6 @@ pub mod Pieces
 pub mod Cutting
 pub mod PlainLemmas
 pub mod LineLemmas
-pub mod GatheredLemmas
-pub mod RequestLemmas
 pub mod CutLemmas
 pub mod WholeLemmas
 pub mod ServedLemmas
@@ -13,13 +11,11 @@ pub mod RoomLemmas
 pub mod Running
 pub mod Applied
 pub mod WrittenLemmas
-pub mod WordLemmas
 pub mod ImportLemmas
 pub mod TextLemmas
 pub mod LinksLemmas
 pub mod FeedLemmas
 pub mod TakenOnLemmas
-pub mod AskLemmas
 pub mod AnsweredLemmas
 pub mod GoingLemmas
 pub mod OrderLemmas

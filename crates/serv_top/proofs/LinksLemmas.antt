@@ -1,6 +1,6 @@
 -- Links that are served over a journal.
 use Rattle.std.proofs.Common.{◌≡◌, ◌⊎◌, ℕ, ◌-◌, List, [], ◌∷◌, ◌++◌, refl, ap, subst, ◌∙◌, inl, inr, ⊎_elim}
-use Rattle.std.specs.Prelude.{Option, Some, map}
+use Rattle.std.specs.Prelude.{Option, Some}
 use Rattle.std.specs.Io.KnownBytes.{Appends}
 use Rattle.svc_world.specs.World.{Accepted}
 use Rattle.svc_world.specs.Judging.{IsHistory}
@@ -9,8 +9,7 @@ use Rattle.serv_disk.specs.Stamps.{Stamp}
 use Rattle.serv_http.specs.declared.ask.Ask.{Ask}
 use Rattle.serv_engine.specs.Histories.{lengths_of, IsGoodFound}
 use Rattle.serv_engine.specs.Engines.{EngineState}
-use Rattle.serv_machine.specs.History.{History}
-use Rattle.serv_machine.specs.Engines.{history_of}
+use Rattle.serv_machine.specs.History.{History, history_of, Stand, stand}
 use Rattle.serv_links.specs.declared.doors.DoorsEnd.{DoorsEnd}
 use Rattle.serv_links.specs.declared.doors.DoorsEnd.TheVariants as doors_end
 use Rattle.serv_links.specs.declared.link_end.LinkEnd.{LinkEnd}
@@ -18,50 +17,28 @@ use Rattle.serv_links.specs.declared.link_end.LinkEnd.TheVariants as link_end
 use Rattle.serv_machine.specs.declared.faults.Stop.{Stop}
 use Rattle.serv_machine.specs.declared.faults.Stop.TheVariants as stop
 use Rattle.serv_links.specs.declared.summary.Summary.{Summary}
-use Rattle.serv_links.specs.Responses.{saying_of}
-use Rattle.serv_machine.proofs.SayingLemmas.{store_after, store_after_all}
-use Rattle.serv_links.specs.Outcomes.{IsAnswered, IsCut, IsCutOff, IsOne, IsStopped, IsTriedAs}
-use Rattle.serv_links.specs.Links.{IsServed, IsStarved}
+use Rattle.serv_machine.proofs.SayingLemmas.{store_moves}
+use Rattle.serv_machine.proofs.GatheredLemmas.{store_stopped}
+use Rattle.serv_links.specs.Outcomes.{IsAnswered, IsCutOff}
+use Rattle.serv_links.specs.Links.{IsServed}
 use Rattle.serv_links.specs.Doors.{AreServed, IsDoorsEnd, IsSummary, OneServed, ServedLink, ServesDoors, text_of_summary}
 use Rattle.serv_top.specs.declared.status.Status.{Status}
 use Rattle.serv_top.specs.declared.status.Status.TheVariants as status
-use Rattle.serv_machine.specs.Stands.{Stand, stand, Stays}
 use Rattle.serv_top.specs.Journal.{IsUnopened, IsOpened, journal_limit}
-use Rattle.serv_top.specs.Served.{IsCountOf, IsServedAs, IsServedOver, LinksEnd, ServesLinks}
-use Rattle.serv_top.specs.Written.{IsWrittenAs, Writes}
-use Rattle.serv_top.proofs.Applied.{run_over, store_of, unopened_ends}
+use Rattle.serv_machine.specs.Answering.{Leaves}
+use Rattle.serv_top.specs.Served.{IsCountOf, IsServedAs, IsServedOver, ServesLinks}
+use Rattle.serv_top.specs.Texts.{IsWrittenAs, Writes}
+use Rattle.serv_top.proofs.Applied.{run_over, unopened_ends}
 use Rattle.serv_top.proofs.WrittenLemmas.{written_of}
-use Rattle.serv_top.specs.Ends.{Completes}
+use Rattle.serv_top.specs.Status.{Completes}
 
 -- ---- where commands are kept stays the same
 
 store_answered : (n : ℕ) (asks : List Ask) (s s' : Stand) (wrote : List ℕ) → IsAnswered n asks s s' wrote → s'.history.store ≡ s.history.store
-store_answered n asks s s' wrote is = ap store_of is.moved.0 ∙ store_after_all s.history (map saying_of is.meant)
+store_answered n asks s s' wrote is = store_moves is.answers.said s s' is.answers.moved
 
-store_tried : (a : Ask) (s s' : Stand) → Stays s s' ⊎ IsTriedAs a s s' → s'.history.store ≡ s.history.store
-store_tried a s s' is =
-    ⊎_elim (λ same. ap store_of same.0)
-    (λ tried. ⊎_elim (λ same. ap store_of same) (λ moved. ap store_of moved ∙ store_after s.history (saying_of tried.meant)) tried.starves.near) is
-
-store_cut : (a : Ask) (s s' : Stand) (wrote : List ℕ) → IsCut a s s' wrote → s'.history.store ≡ s.history.store
-store_cut a s s' wrote is = ap store_of is.moved.0 ∙ store_after s.history (saying_of is.meant)
-
-store_one : (cut : Type 0) (o : Stop) (a : Ask) (s s' : Stand) (pending : List Accepted) (wrote : List ℕ) → IsOne cut o a s s' pending wrote → s'.history.store ≡ s.history.store
-store_one cut stop.WriteFault a s s' pending wrote (none, is) = store_cut a s s' wrote is
-store_one cut stop.DiskFault a s s' pending wrote (is, front) = ap store_of is.sticks.same
-store_one cut stop.OutOfMemory a s s' pending wrote is = store_tried a s s' is.1
-
-store_stopped : (cut : Type 0) (o : Stop) (n : ℕ) (asks : List Ask) (s s' : Stand) (pending : List Accepted) (wrote : List ℕ) → IsStopped cut o n asks s s' pending wrote
-    → s'.history.store ≡ s.history.store
-store_stopped cut o n asks s s' pending wrote is =
-    store_one cut o is.ask is.mid s' pending is.part is.one ∙ store_answered n is.done s is.mid is.before is.answered
-
-store_cut_off : (cut : Type 0) (o : Stop) (n : ℕ) (bytes : List ℕ) (s s' : Stand) (pending : List Accepted) (wrote : List ℕ) → IsCutOff cut o n bytes s s' pending wrote
-    → s'.history.store ≡ s.history.store
-store_cut_off cut o n bytes s s' pending wrote is = store_stopped cut o n is.asks s s' pending wrote is.stopped
-
-store_starved : (cut : Type 0) (n : ℕ) (taken added : List ℕ) (s s' : Stand) → IsStarved cut n taken added s s' → s'.history.store ≡ s.history.store
-store_starved cut n taken added s s' is = ap store_of is.stays.0 ∙ store_answered n is.asks s is.mid is.before is.answered
+store_cut_off : (Known : List Ask → Type 0) (cut : Type 0) (why : Stop) (n : ℕ) (s s' : Stand) (pending : List Accepted) (wrote : List ℕ) → IsCutOff Known cut why n s s' pending wrote → s'.history.store ≡ s.history.store
+store_cut_off Known cut why n s s' pending wrote is = store_stopped why _ 0 s s' pending is.ended.before is.ended.stopped
 
 store_served : (end : LinkEnd) (reads writes at_end : Type 0) (taken : List ℕ) (s s' : Stand) (pending : List Accepted) (added : List ℕ)
     → IsServed end reads writes at_end taken s s' pending added → s'.history.store ≡ s.history.store
@@ -72,10 +49,9 @@ store_served (link_end.Cut n) reads writes at_end taken s s' pending added (none
 store_served (link_end.Broken n) reads writes at_end taken s s' pending added (inl (risen, none, below, (left, all))) =
     store_answered n all.asks s s' added all.answered
 store_served (link_end.Broken n) reads writes at_end taken s s' pending added (inr (risen, cut)) =
-    store_cut_off writes stop.WriteFault n taken s s' pending added cut
-store_served (link_end.Disk n) reads writes at_end taken s s' pending added is = store_cut_off writes stop.DiskFault n taken s s' pending added is
-store_served (link_end.NoMemory n) reads writes at_end taken s s' pending added (inl cut) = store_cut_off writes stop.OutOfMemory n taken s s' pending added cut
-store_served (link_end.NoMemory n) reads writes at_end taken s s' pending added (inr (none, starved)) = store_starved writes n taken added s s' starved
+    store_cut_off _ writes stop.WriteFault n s s' pending added cut
+store_served (link_end.Disk n) reads writes at_end taken s s' pending added cut = store_cut_off _ writes stop.DiskFault n s s' pending added cut
+store_served (link_end.NoMemory n) reads writes at_end taken s s' pending added cut = store_cut_off _ writes stop.OutOfMemory n s s' pending added cut
 
 -- links came, and were served in their turn
 module _ {C : Type 0} (left held : C → Option (List ℕ)) (log : C → Option (List Stamp)) (reads writes : C → ℕ) (at : ℕ) (since : ℕ → List ℕ → Type 0) where
@@ -101,26 +77,25 @@ module _ {C : Type 0} (left held : C → Option (List ℕ)) (log : C → Option 
     pub ended : {D : Type 0} (images : D → List ℕ → Type 0) (moment : D → ℕ) (images_since : D → ℕ → List ℕ → Type 0) (old new : D) (end : DoorsEnd) (summary : Summary)
         → ServesDoors images moment images_since old new P end summary most coming coming' backed backed' s s'
         → ((ends : List LinkEnd) → IsDoorsEnd end most coming' ends → IsSummary ends summary → (written : List ℕ) × Appends held0 held' written × IsServedAs status_ most coming' ends written)
-        → LinksEnd images moment images_since old new P status_ most coming coming' backed backed' held0 held' s s'
+        → Leaves images moment images_since old new (λ pending. ServesLinks P status_ most coming coming' backed backed' held0 held' s s' pending) s.history s'.history
     ended images moment images_since old new end summary all says =
         let wrote = says all.ends all.ended all.counted in
         record {
           pending = all.pending;
-          served = record { ends = all.ends; served = all.has; written = wrote.0; wrote = wrote.1; says = wrote.2 };
+          says_so = record { ends = all.ends; served = all.has; written = wrote.0; wrote = wrote.1; says = wrote.2 };
           disk = all.disk;
         }
 
     pub over_engine : {D : Type 0} (seen : D → Option (List ℕ)) (images : D → List ℕ → Type 0) (moment : D → ℕ) (images_since : D → ℕ → List ℕ → Type 0) (old mid new : D) (e : EngineState) (h : History) (steps begun steps' : ℕ)
         → s ≡ stand (history_of e) begun → s' ≡ stand h steps'
         → IsOpened seen images moment images_since old mid steps begun (e.journal.size - lengths_of e.history) e.history → e.journal.limit ≡ journal_limit
-        → LinksEnd images moment images_since mid new P status_ most coming coming' backed backed' held0 held' s s'
+        → Leaves images moment images_since mid new (λ pending. ServesLinks P status_ most coming coming' backed backed' held0 held' s s' pending) s.history s'.history
         → IsServedOver seen images moment images_since old new P status_ most steps steps' coming coming' backed backed' held0 held'
     over_engine {D} seen images moment images_since old mid new e h steps begun steps' is is' opening limit end =
-        let all : LinksEnd images moment images_since mid new P status_ most coming coming' backed backed' held0 held' (stand (history_of e) begun) (stand h steps') =
-        subst (λ z. LinksEnd images moment images_since mid new P status_ most coming coming' backed backed' held0 held' (stand (history_of e) begun) z) is'
-        (subst (λ z. LinksEnd images moment images_since mid new P status_ most coming coming' backed backed' held0 held' z s') is end) in
+        let Ends : Stand → Stand → Type 0 = λ x y. Leaves images moment images_since mid new (λ pending. ServesLinks P status_ most coming coming' backed backed' held0 held' x y pending) x.history y.history in
+        let all : Ends (stand (history_of e) begun) (stand h steps') = subst (λ y. Ends (stand (history_of e) begun) y) is' (subst (λ x. Ends x s') is end) in
         run_over (λ s s' pending. ServesLinks P status_ most coming coming' backed backed' held0 held' s s' pending) seen images moment images_since old mid new e h steps begun steps' all.pending opening limit
-        (store_links (stand h steps') all.served.ends all.served.served.came all.served.served.back (stand (history_of e) begun) (stand h steps') all.pending all.served.served.served) all.served all.disk
+        (store_links (stand h steps') all.says_so.ends all.says_so.served.came all.says_so.served.back (stand (history_of e) begun) (stand h steps') all.pending all.says_so.served.served) all.says_so all.disk
 
 -- the summary was written, or a part of it, or no memory was there for it
 served_as : {C : Type 0} (st : Status) (most : ℕ) (coming : Option (List C)) (ends : List LinkEnd) (written : List ℕ)

@@ -2,13 +2,12 @@
 use Rattle.std.proofs.Common.{◌≡◌, ℕ, List, sym, subst, ◌∙◌}
 use Rattle.std.specs.Prelude.{Some, None, ⊤}
 use Rattle.svc_types.specs.declared.requests.Query.{Query}
-use Rattle.serv_top.specs.declared.texts.Text.{Text}
-use Rattle.serv_top.specs.declared.texts.Text.TheVariants.{Ask}
-use Rattle.serv_top.specs.declared.words.Task.{Task}
-use Rattle.serv_top.specs.declared.words.Task.TheVariants.{Write}
-use Rattle.serv_top.specs.Words.{task_in, IsAsking}
-use Rattle.serv_top.specs.Ends.{IsGiven}
-use Rattle.serv_top.proofs.AskLemmas.{one_asked}
+use Rattle.serv_words.specs.declared.texts.Text.{Text}
+use Rattle.serv_words.specs.declared.texts.Text.TheVariants.{Ask}
+use Rattle.serv_words.specs.declared.words.Task.{Task}
+use Rattle.serv_words.specs.declared.words.Task.TheVariants.{Write}
+use Rattle.serv_words.specs.Words.{task_in, IsAsking, IsGiven}
+use Rattle.serv_words.proofs.AskLemmas.{one_asked}
 
 one_task : (t u : Task) → Some t ≡ Some u → t ≡ u
 one_task t u e = cc

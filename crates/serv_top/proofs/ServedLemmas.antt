@@ -3,17 +3,17 @@ use Rattle.std.proofs.Common.{◌≡◌, ℕ, ◌≤◌, ◌⊎◌, List, [], �
 use Rattle.std.specs.Prelude.{Option}
 use Rattle.std.proofs.lemmas.List.{length-take-le, take_at, take_all, take-append-le}
 use Rattle.std.proofs.lemmas.Bool.{cases_lt}
-use Rattle.serv_top.specs.Lines.{IsPlain, lines_of, ended_lines, open_line}
-use Rattle.serv_machine.specs.Stands.{Stand, stand, Running}
-use Rattle.serv_machine.specs.Sayings.{Saying}
-use Rattle.serv_top.specs.Machine.{Says}
-use Rattle.serv_top.specs.Serving.{AllServed, Gathered, Served}
-use Rattle.serv_top.specs.Upheld.{Say, AreFirst, AreSaidFirst}
-use Rattle.serv_top.proofs.AnsweredLemmas.{first_lines, first_of_more}
-use Rattle.serv_top.proofs.GatheredLemmas.{gathered_none}
+use Rattle.serv_top.specs.Lines.{IsPlain, Says, lines_of, ended_lines, open_line}
+use Rattle.serv_machine.specs.History.{Stand, stand, Running}
+use Rattle.serv_machine.specs.Sayings.{Saying, Say, SaidFirst, AreFirst}
+use Rattle.serv_machine.specs.Answering.{Gathered}
+use Rattle.serv_machine.proofs.SayingLemmas.{say-push}
+use Rattle.serv_machine.proofs.AnsweringLemmas.{first_all, first_more, first_said}
+use Rattle.serv_machine.proofs.GatheredLemmas.{all_gathered, gathered_none}
+use Rattle.serv_top.specs.Outcome.{AllServed, Served}
 use Rattle.serv_top.proofs.LineLemmas.{says_whole}
 use Rattle.serv_top.proofs.PlainLemmas.{ended_plain, open_plain}
-use Rattle.serv_top.proofs.Cutting.{unended, ended_from, open_from-push, ended_lines-push, ended_lines-append, lines_of-from, say-push}
+use Rattle.serv_top.proofs.Cutting.{unended, ended_from, open_from-push, ended_lines-push, ended_lines-append, lines_of-from}
 
 pub served_none : (waiting : ℕ) (s : Stand) (t : Running) (held : Option (List ℕ)) (line text : List ℕ) → line ≡ [] → text ≡ [] → t.held ≡ s.history → t.kept ≡ t.held → t.steps ≤ s.steps
     → Served waiting [] s t held held line text
@@ -40,9 +40,9 @@ open_cases [] = inl refl
 open_cases (b ∷ piece) = inr (refl, λ none. cc)
 
 -- where bytes come later, further lines end
-pub first_further : (bytes more : List ℕ) (said : List Saying) → AreSaidFirst (ended_lines bytes) said → AreSaidFirst (ended_lines (bytes ++ more)) said
-first_further bytes more said is =
-    subst (λ ls. AreSaidFirst ls said) (sym (ended_lines-append bytes more)) (first_of_more (ended_lines bytes) (ended_from (open_line bytes) more) said is)
+pub first_further : (bytes more : List ℕ) (done ahead : List Saying) → AreFirst (SaidFirst Says (ended_lines bytes)) done ahead → AreFirst (SaidFirst Says (ended_lines (bytes ++ more))) done ahead
+first_further bytes more done ahead is =
+    subst (λ ls. AreFirst (SaidFirst Says ls) done ahead) (sym (ended_lines-append bytes more)) (first_more Says (ended_lines bytes) (ended_from (open_line bytes) more) done ahead is)
 
 module _ (waiting : ℕ) (bytes : List ℕ) {s : Stand} {t : Running} {held held' : Option (List ℕ)} {line text : List ℕ} (run : Served waiting bytes s t held held' line text) where
   abbrev ended : List (List ℕ)
@@ -55,18 +55,17 @@ module _ (waiting : ℕ) (bytes : List ℕ) {s : Stand} {t : Running} {held held
   pub served_plain : (p line' : List ℕ) → IsPlain p → line' ≡ take 513 (line ++ p) → Served waiting (bytes ++ p) s t held held' line' text
   served_plain p line' plain kept = record {
     said = run.said;
-    say = subst (λ ls. Say ls run.said) (sym (ended_plain bytes p plain)) run.say;
+    say = subst (λ ls. Say Says ls run.said) (sym (ended_plain bytes p plain)) run.say;
     gathers = run.gathers;
     line_is = kept ∙ ap (λ l. take 513 (l ++ p)) run.line_is ∙ take_cut 513 piece p ∙ sym (ap (take 513) (open_plain bytes p plain));
   }
 
   -- what was said so far is what some first lines say
-  pub first_here : (lines others : List (List ℕ)) → lines ≡ ended ++ others → (said : List Saying) → AreFirst run.said said → AreSaidFirst lines said
-  first_here lines others is = first_lines lines ended others run.said is run.say
+  pub first_here : (lines others : List (List ℕ)) → lines ≡ ended ++ others → (done ahead : List Saying) → AreFirst (λ all. all ≡ run.said) done ahead → AreFirst (SaidFirst Says lines) done ahead
+  first_here lines others is = first_said Says lines ended others run.said is run.say
 
-  pub first_plain : (p : List ℕ) → IsPlain p → AreSaidFirst (ended_lines (bytes ++ p)) run.said
-  first_plain p plain =
-      record { acted = ended; others = []; lines_are = ended_plain bytes p plain ∙ sym (append-nil ended); say = run.say }
+  pub first_plain : (p : List ℕ) → IsPlain p → AreFirst (SaidFirst Says (ended_lines (bytes ++ p))) run.said []
+  first_plain p plain = first_all (SaidFirst Says (ended_lines (bytes ++ p))) run.said (record { acted = ended; others = []; items_are = ended_plain bytes p plain ∙ sym (append-nil ended); say = run.say })
 
   -- the line ends
   ended_more : ended_lines (bytes ++ 10 ∷ []) ≡ ended ++ piece ∷ []
@@ -76,9 +75,9 @@ module _ (waiting : ℕ) (bytes : List ℕ) {s : Stand} {t : Running} {held held
   opened_more = open_from-push [] bytes 10
 
   -- what the kept line says, the whole line says
-  say_more : (last : Saying) → Says line last → Say (ended_lines (bytes ++ 10 ∷ [])) (run.said ++ last ∷ [])
+  say_more : (last : Saying) → Says line last → Say Says (ended_lines (bytes ++ 10 ∷ [])) (run.said ++ last ∷ [])
   say_more last says =
-      subst (λ ls. Say ls (run.said ++ last ∷ [])) (sym ended_more) (say-push ended run.said piece last run.say (says_whole piece last (subst (λ l. Says l last) run.line_is says)))
+      subst (λ ls. Say Says ls (run.said ++ last ∷ [])) (sym ended_more) (say-push Says ended run.said piece last run.say (says_whole piece last (subst (λ l. Says l last) run.line_is says)))
 
   pub served_line : (last : Saying) → Says line last → (t' : Running) (held'' : Option (List ℕ)) (line' text' : List ℕ) → line' ≡ []
       → Gathered waiting (run.said ++ last ∷ []) s t' held held'' text' → Served waiting (bytes ++ 10 ∷ []) s t' held held'' line' text'
@@ -89,8 +88,8 @@ module _ (waiting : ℕ) (bytes : List ℕ) {s : Stand} {t : Running} {held held
     line_is = none ∙ sym (ap (take 513) opened_more);
   }
 
-  pub first_line : (last : Saying) → Says line last → (lines others : List (List ℕ)) → lines ≡ ended_lines (bytes ++ 10 ∷ []) ++ others → (said : List Saying) → AreFirst (run.said ++ last ∷ []) said → AreSaidFirst lines said
-  first_line last says lines others is = first_lines lines (ended_lines (bytes ++ 10 ∷ [])) others (run.said ++ last ∷ []) is (say_more last says)
+  pub first_line : (last : Saying) → Says line last → (lines others : List (List ℕ)) → lines ≡ ended_lines (bytes ++ 10 ∷ []) ++ others → (done ahead : List Saying) → AreFirst (λ all. all ≡ run.said ++ last ∷ []) done ahead → AreFirst (SaidFirst Says lines) done ahead
+  first_line last says lines others is = first_said Says lines (ended_lines (bytes ++ 10 ∷ [])) others (run.said ++ last ∷ []) is (say_more last says)
 
   -- replies are written
   pub served_gone : (t' : Running) (held'' : Option (List ℕ)) (text' : List ℕ) → Gathered waiting run.said s t' held held'' text' → Served waiting bytes s t' held held'' line text'
@@ -116,16 +115,9 @@ module _ (waiting : ℕ) (bytes : List ℕ) {s : Stand} {t : Running} {held held
 -- all lines are answered
 pub all_served : (waiting : ℕ) (bytes : List ℕ) (s : Stand) (t : Running) (held held' : Option (List ℕ)) (line text : List ℕ) (lines : List (List ℕ)) → lines ≡ ended_lines bytes → t.kept ≡ t.held → text ≡ []
     → Served waiting bytes s t held held' line text → AllServed lines s (stand t.kept t.steps) held held'
-all_served waiting bytes s t held held' line text lines is all none run = record {
-  written = run.gathers.written;
-  wrote = run.gathers.wrote;
-  answers = record {
-    said = run.said;
-    whole = subst (λ ls. Say ls run.said) (sym is) run.say;
-    text = sym (append-nil run.gathers.written) ∙ ap (λ x. run.gathers.written ++ x) (sym none) ∙ run.gathers.gathered;
-    moved = (all ∙ run.gathers.after, run.gathers.cost);
-  };
-}
+all_served waiting bytes s t held held' line text lines is all none run =
+    let gathered = all_gathered waiting run.said s run.gathers all none in
+    record { written = run.gathers.written; wrote = run.gathers.wrote; answers = record { said = run.said; whole = subst (λ ls. Say Says ls run.said) (sym is) run.say; text = gathered.0; moved = gathered.1 } }
 
 -- nothing is left where no more than nothing is
 pub none_more : (text : List ℕ) → length text ≤ 0 → text ≡ []

@@ -7,7 +7,7 @@ use Rattle.svc_world.proofs.LawLemmas.{are_lawful}
 use Rattle.svc_world.proofs.StayLemmas.{reports_grow}
 use Rattle.svc_core.proofs.CoreLemmas.{empty_history}
 use Rattle.serv_machine.proofs.OnDiskLemmas.{alone}
-use Rattle.serv_top.specs.Sound.{StaySound}
+use Rattle.serv_top.specs.Outcome.{StaySound}
 
 pub stay_sound : (h h' list pending : List Accepted) → h' ≡ h ++ list → IsHistory h' × IsHistory (h' ++ pending) → StaySound h h' pending
 stay_sound h h' list pending same is = record {

@@ -13,17 +13,13 @@ use Rattle.svc_world.specs.Judging as judging
 use Rattle.serv_line.specs.Replies.{text_of_reply}
 use Rattle.serv_line.proofs.LineLemmas.{line_printed}
 use Rattle.serv_engine.specs.Histories.{line_of_command, lines_of_history, record_length, lengths_of}
-use Rattle.serv_machine.specs.History.{Store, Memory, Journal, History, Full, Fresh, by_judgement, decided, after_decision}
-use Rattle.serv_machine.specs.Replies.{reply_to_request, history_after_request}
-use Rattle.serv_machine.specs.Verdicts.{text_of_verdict, verdict_by, verdict_to}
-use Rattle.serv_top.specs.Lines.{IsPlain, onto_first, onto_ended, lines_of, ended_lines}
-use Rattle.serv_machine.specs.Stands.{Stand}
-use Rattle.serv_machine.specs.Sayings.{Saying, history_after_all, replies_to}
-use Rattle.serv_top.specs.Machine.{in_words, asks}
-use Rattle.serv_top.specs.Replies.{Answers}
-use Rattle.serv_top.specs.Upheld.{Say}
-use Rattle.serv_top.specs.TakenOn.{lines_of_commands, HasRoomFor, replies_after, AreTakenOn}
-use Rattle.serv_top.proofs.LineLemmas.{say_one}
+use Rattle.serv_machine.specs.History.{Store, Memory, Journal, History, Full, Fresh, by_judgement, decided, after_decision, Stand}
+use Rattle.serv_machine.specs.Verdicts.{reply_to_request, history_after_request, text_of_verdict, verdict_by, verdict_to}
+use Rattle.serv_top.specs.Lines.{IsPlain, onto_first, onto_ended, lines_of, ended_lines, Says, in_words, asks}
+use Rattle.serv_machine.specs.Sayings.{Saying, Say, history_after_all, replies_to}
+use Rattle.serv_machine.specs.Answering.{Answers}
+use Rattle.serv_top.specs.Extracts.{lines_of_commands, HasRoomFor, replies_after, AreTakenOn}
+use Rattle.serv_top.proofs.LineLemmas.{lines_one}
 
 -- ---- the lines of a stream of them
 
@@ -76,7 +72,7 @@ lines_history h is = lines_formed h is.formed
 asked : List Accepted → List Saying
 asked h = map (λ (a : Accepted). in_words (request.Do a.key a.command)) h
 
-say_asked : (h : List Accepted) → AreWellFormed h → Say (lines_of_history h) (asked h)
+say_asked : (h : List Accepted) → AreWellFormed h → Say Says (lines_of_history h) (asked h)
 unfolding asked
 say_asked [] formed = tt
 say_asked (a ∷ h) formed = (
@@ -125,10 +121,10 @@ replies_asked (a ∷ more) before store h room =
     ∙ ap (λ rest. text_of_reply (next_reply before a.command) ++ rest) (replies_asked more (before ++ a ∷ []) store h.1 more_room)
 
 pub taken_on : (h : List Accepted) (s t : Stand) (written : List ℕ) → IsHistory h → s.history.commands ≡ [] → HasRoomFor s.history.store h
-    → Answers (Say (lines_of_history h)) s t written → AreTakenOn h t written
+    → Answers (Say Says (lines_of_history h)) s t written → AreTakenOn h t written
 unfolding held
 taken_on h s t written is empty room answers =
-    let same : answers.said ≡ asked h = say_one (lines_of_history h) answers.said (asked h) answers.whole (say_asked h is.formed) in
+    let same : answers.said ≡ asked h = lines_one (lines_of_history h) answers.said (asked h) answers.whole (say_asked h is.formed) in
     let from : s.history ≡ held [] s.history.store = ap (λ cs. held cs s.history.store) empty in
     record {
       commands_are =

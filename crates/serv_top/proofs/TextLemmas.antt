@@ -20,15 +20,14 @@ use Rattle.serv_engine.specs.Histories.{IsGoodFound}
 use Rattle.serv_links.proofs.LinkLemmas.{few_taken}
 use Rattle.serv_top.specs.declared.status.Status.{Status}
 use Rattle.serv_top.specs.declared.status.Status.TheVariants as status
-use Rattle.serv_top.specs.declared.texts.Text.{Text}
-use Rattle.serv_top.specs.declared.texts.Text.TheVariants.{Show, Ask, Make}
-use Rattle.serv_top.specs.declared.words.Task.TheVariants.{Write}
-use Rattle.serv_top.specs.Status.{status_of_asking, status_of_refusal}
+use Rattle.serv_words.specs.declared.texts.Text.{Text}
+use Rattle.serv_words.specs.declared.texts.Text.TheVariants.{Show, Ask, Make}
+use Rattle.serv_words.specs.declared.words.Task.TheVariants.{Write}
+use Rattle.serv_words.specs.Asked.{IsShowing, reads_input}
+use Rattle.serv_top.specs.Status.{status_of_asking, status_of_refusal, Completes, IsShort, MayEnd}
 use Rattle.serv_top.specs.Imported.{IsUnread}
 use Rattle.serv_top.specs.Journal.{IsUnopened}
-use Rattle.serv_top.specs.Written.{IsWrittenAs, Writes}
-use Rattle.serv_top.specs.Texts.{HasNoReport, IsInput, IsLacking, IsSaidAs, IsShowing, IsTextOf, IsTextOver, WritesText, reads_input, text_bound}
-use Rattle.serv_top.specs.Ends.{Completes, IsShort, MayEnd}
+use Rattle.serv_top.specs.Texts.{IsWrittenAs, Writes, HasNoReport, IsInput, IsLacking, IsSaidAs, IsTextOf, IsTextOver, WritesText, text_bound}
 use Rattle.serv_top.proofs.Applied.{unopened_ends}
 use Rattle.serv_top.proofs.ImportLemmas.{unread_ends}
 use Rattle.serv_top.proofs.WrittenLemmas.{written_ends, written_of}
@@ -82,13 +81,13 @@ said_none other text h input is = absurd is
 module _ (st : Status) (text : Text) (h : List Accepted) (taken : List ℕ) (steps steps' : ℕ) (left left' : Option (List ℕ)) (took : Consumes left left' taken) where
   pub writes_whole : (whole : List ℕ) (held held' : Option (List ℕ)) → IsInput (reads_input text) taken left' → IsTextOf text h taken whole → Writes st (λ t. t ≡ whole) held held' → steps' ≤ steps + text_bound text h taken
       → WritesText st text h steps steps' left left' held held'
-  writes_whole whole held held' read is w cost = record { taken = taken; took = took; written = w.written; wrote = w.wrote; says = inr (read, said_whole st text h taken whole w.written is w.says); cost = cost }
+  writes_whole whole held held' read is w cost = record { taken = taken; took = took; written = w.written; wrote = w.wrote; says = (inr (read, said_whole st text h taken whole w.written is w.says), cost) }
 
   pub writes_none : (held : Option (List ℕ)) → IsInput (reads_input text) taken left' → IsLacking text h st → steps' ≤ steps + text_bound text h taken → WritesText st text h steps steps' left left' held held
-  writes_none held read is cost = record { taken = taken; took = took; written = []; wrote = Appends-nil held; says = inr (read, said_none st text h taken is); cost = cost }
+  writes_none held read is cost = record { taken = taken; took = took; written = []; wrote = Appends-nil held; says = (inr (read, said_none st text h taken is), cost) }
 
   pub writes_unread : (held : Option (List ℕ)) → reads_input text ≡ true → IsUnread st taken → steps' ≤ steps + text_bound text h taken → WritesText st text h steps steps' left left' held held
-  writes_unread held reads is cost = record { taken = taken; took = took; written = []; wrote = Appends-nil held; says = inl (reads, is, refl); cost = cost }
+  writes_unread held reads is cost = record { taken = taken; took = took; written = []; wrote = Appends-nil held; says = (inl (reads, is, refl), cost) }
 
 -- ---- completeness
 
@@ -118,5 +117,5 @@ complete_text {D} seen images moment images_since faults old new st text steps s
     (λ unread. let short = reads unread.0 in
     may_end text st (unread_ends st w.taken short.0.input (few_taken left left' short.0.input w.taken short.0.told w.took) short.0.short short.1 unread.1))
     (λ read. said_ends st text over.commands w.taken w.written writes read.1)
-    w.says)
+    w.says.0)
     which

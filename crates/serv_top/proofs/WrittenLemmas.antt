@@ -13,9 +13,9 @@ use Rattle.serv_line.specs.Replies.{ended}
 use Rattle.serv_engine.specs.Histories.{line_of_command}
 use Rattle.serv_top.specs.declared.status.Status.{Status}
 use Rattle.serv_top.specs.declared.status.Status.TheVariants as status
-use Rattle.serv_top.specs.Written.{IsWrittenAs, Writes}
-use Rattle.serv_top.specs.TakenOn.{lines_of_commands}
-use Rattle.serv_top.specs.Ends.{Completes, Finishes}
+use Rattle.serv_top.specs.Texts.{IsWrittenAs, Writes}
+use Rattle.serv_top.specs.Extracts.{lines_of_commands}
+use Rattle.serv_top.specs.Status.{Completes, Finishes}
 
 -- all lines of a list of commands
 pub all_lines_of : (i : ℕ) (ps : List (List ℕ × Command)) → length ps ≤ i → flat_map (λ (p : List ℕ × Command). ended (line_of_command (accepted p.0 p.1))) (take i ps) ≡ lines_of_commands (history_of ps)

@@ -1,17 +1,44 @@
 -- Texts that are made of a journal's commands, and of the input where they are about it.
-use Rattle.std.specs.Prelude.{◌≡◌, ℕ, ◌≤◌, Bool, true, false, List}
+use Rattle.std.specs.Prelude.{◌≡◌, ℕ, ◌≤◌, List, ◌+◌, [], ◌∷◌, ◌++◌}
 use Rattle.svc_spec.specs.Months.{cost_of_month}
 use Rattle.svc_world.specs.World.{World, Accepted, world}
-use Rattle.serv_line.specs.Replies.{text_of_bad}
+use Rattle.serv_line.specs.Replies.{text_of_bad, ended, text_of_reply}
 use Rattle.servicing_transfer.specs.Confirmations.{IsConfirmation}
 use Rattle.servicing_transfer.specs.Parts.{in_range, out_of_range, part_of}
 use Rattle.servicing_transfer.specs.Stated.{IsBadLine}
 use Rattle.servicing_transfer.specs.StatementTexts.{text_of_statement}
 use Rattle.pmi_track.specs.Texts.{insurance_text, insurance_cost, drop_text}
 use Rattle.bank_recon.specs.Texts.{IsReconText}
-use Rattle.serv_top.specs.declared.extracts.Extract.{Extract}
-use Rattle.serv_top.specs.declared.extracts.Extract.TheVariants.{Transfer, Remain, Statement, Confirm, Pmi, PmiDrops, Reconcile}
-use Rattle.serv_top.specs.TakenOn.{lines_of_commands}
+use Rattle.serv_words.specs.declared.extracts.Extract.{Extract}
+use Rattle.serv_words.specs.declared.extracts.Extract.TheVariants.{Transfer, Remain, Statement, Confirm, Pmi, PmiDrops, Reconcile}
+use Rattle.std.specs.List.{flat_map}
+use Rattle.svc_world.specs.Judging.{next_reply}
+use Rattle.serv_engine.specs.Histories.{line_of_command, lengths_of}
+use Rattle.serv_machine.specs.History.{Store, Memory, Journal, Stand}
+
+-- ---- lines of commands, which `apply` takes on
+
+-- the lines of commands, each with a line feed: what `apply` is given to accept them again
+abbrev pub lines_of_commands : List Accepted → List ℕ
+lines_of_commands commands = flat_map (λ a. ended (line_of_command a)) commands
+
+-- a store has room for these commands and no others
+abbrev pub HasRoomFor : Store → List Accepted → Type 0
+HasRoomFor Memory commands = Unit {0}
+HasRoomFor (Journal base limit) commands = base + lengths_of commands ≤ limit
+
+-- the replies to commands that come after others, each to the next one, joined
+abbrev pub replies_after : List Accepted → List Accepted → List ℕ
+replies_after before [] = []
+replies_after before (a ∷ more) = text_of_reply (next_reply before a.command) ++ replies_after (before ++ a ∷ []) more
+
+-- lines were acted on as the commands of a history: these are what is held after them, and each has the reply to the
+-- next command
+pub record AreTakenOn (commands : List Accepted) (after : Stand) (written : List ℕ) : Type 0 where
+  pub commands_are : after.history.commands ≡ commands
+  pub replies : written ≡ replies_after [] commands
+
+-- ---- the texts
 
 -- how a statement differs from the books; of an input that is no statement, its first line that does not fit
 pub data IsConfirmed (w : World) (input text : List ℕ) : Type 0 where
@@ -35,17 +62,3 @@ abbrev pub extract_bound : Extract → List Accepted → List ℕ → ℕ
 extract_bound Pmi commands input = insurance_cost cost_of_month commands input
 extract_bound PmiDrops commands input = insurance_cost cost_of_month commands input
 extract_bound other commands input = 0
-
--- whether it is about the input
-abbrev pub is_about_input : Extract → Bool
-is_about_input (Transfer from to) = false
-is_about_input (Remain from to) = false
-is_about_input Statement = false
-is_about_input other = true
-
--- a range and a span go up, and commands are numbered from 1
-abbrev pub IsAskedExtract : Extract → Type 0
-IsAskedExtract (Transfer from to) = from ≤ to
-IsAskedExtract (Remain from to) = from ≤ to
-IsAskedExtract (Reconcile first last) = (1 ≤ first) × (first ≤ last)
-IsAskedExtract other = Unit {0}

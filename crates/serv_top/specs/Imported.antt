@@ -1,6 +1,6 @@
 -- What a run that imports a file has taken, accepted and written.
 use Rattle.std.specs.Prelude.{◌≡◌, ℕ, ◌<◌, ◌≤◌, ◌⊎◌, List, [], ◌∷◌, length, map, Option}
-use Rattle.std.specs.Io.KnownBytes.{Appends, Consumes, IsAtEnd}
+use Rattle.std.specs.Io.KnownBytes.{IsAtEnd}
 use Rattle.svc_types.specs.Keys.{IsKey}
 use Rattle.svc_types.specs.Requests.{IsCommand}
 use Rattle.svc_types.specs.declared.requests.Request.TheVariants as request
@@ -8,17 +8,16 @@ use Rattle.svc_world.specs.World.{Accepted}
 use Rattle.serv_import.specs.declared.row.RowRequest.{RowRequest}
 use Rattle.serv_import.specs.declared.row.RowRequest.TheVariants as row
 use Rattle.serv_import.specs.Batches.{HasHeader, IsBatch}
-use Rattle.serv_machine.specs.OnDisk.{OnDisk}
 use Rattle.serv_top.specs.declared.status.Status.{Status}
 use Rattle.serv_top.specs.declared.status.Status.TheVariants.{Done, ReadFault, WriteFault, DiskFault, TooMuch, OutOfMemory}
-use Rattle.serv_machine.specs.Stands.{Stand, Stays}
-use Rattle.serv_machine.specs.Sayings.{Saying, telling}
+use Rattle.serv_machine.specs.History.{Stand, Stays}
+use Rattle.serv_machine.specs.Sayings.{Saying, AreFirst, telling}
+use Rattle.serv_machine.specs.Answering.{Answers, IsStopped}
+use Rattle.serv_machine.specs.declared.faults.Stop.TheVariants as stop
 use Rattle.serv_rows.specs.Texts.{text_of_bad_row}
-use Rattle.serv_top.specs.Machine.{in_words}
-use Rattle.serv_top.specs.Replies.{Answers, IsBegun, IsCutIn, IsHeldUp}
-use Rattle.serv_top.specs.Outcome.{input_limit}
+use Rattle.serv_top.specs.Lines.{in_words, IsAcknowledged}
+use Rattle.serv_top.specs.Outcome.{Exchanges, input_limit}
 use Rattle.serv_top.specs.Journal.{IsRunOver}
-use Rattle.serv_top.specs.Upheld.{AreFirst, IsAcknowledged}
 use Rattle.serv_disk.specs.Stamps.{Stamp}
 
 -- ---- what a file says
@@ -47,9 +46,9 @@ AreRows (r ∷ more) = IsRow r × AreRows more
 -- what is accepted and written by the status. Other statuses do not come where rows are answered
 abbrev pub IsRowsOutput : Status → List Saying → Stand → Stand → List Accepted → List ℕ → Type 0
 IsRowsOutput Done saids s s' pending written = (pending ≡ []) × Answers (λ said. said ≡ saids) s s' written
-IsRowsOutput WriteFault saids s s' pending written = (pending ≡ []) × IsCutIn (AreFirst saids) 0 s s' written
-IsRowsOutput DiskFault saids s s' pending written = IsHeldUp (AreFirst saids) 0 s s' pending written
-IsRowsOutput OutOfMemory saids s s' pending written = (pending ≡ []) × IsBegun (AreFirst saids) 0 s s' written
+IsRowsOutput WriteFault saids s s' pending written = IsStopped stop.WriteFault (AreFirst (λ said. said ≡ saids)) 0 s s' pending written
+IsRowsOutput DiskFault saids s s' pending written = IsStopped stop.DiskFault (AreFirst (λ said. said ≡ saids)) 0 s s' pending written
+IsRowsOutput OutOfMemory saids s s' pending written = IsStopped stop.OutOfMemory (AreFirst (λ said. said ≡ saids)) 0 s s' pending written
 IsRowsOutput other saids s s' pending written = ⊥
 
 -- ---- the file
@@ -73,43 +72,11 @@ pub record IsFileOutput (status : Status) (bytes : List ℕ) (s s' : Stand) (pen
   pub file : FileSays bytes saids
   pub rows : IsRowsOutput status saids s s' pending written
 
--- a whole file: its rows are answered, or there is no memory for what they say
-pub record FileEnds {D : Type 0} (images : D → List ℕ → Type 0) (moment : D → ℕ) (images_since : D → ℕ → List ℕ → Type 0) (old new : D)
-    (status : Status) (bytes : List ℕ) (s s' : Stand) (held held' : Option (List ℕ)) : Type 0 where
-  pub pending : List Accepted
-  pub written : List ℕ
-  pub wrote : Appends held held' written
-  pub says : ((status ≡ OutOfMemory) × IsIdle s s' pending written) ⊎ IsFileOutput status bytes s s' pending written
-  pub disk : OnDisk images moment images_since old new s.history s'.history pending
-
-pub record RowsEnd {D : Type 0} (images : D → List ℕ → Type 0) (moment : D → ℕ) (images_since : D → ℕ → List ℕ → Type 0) (old new : D)
-    (status : Status) (saids : List Saying) (s s' : Stand) (held held' : Option (List ℕ)) : Type 0 where
-  pub pending : List Accepted
-  pub written : List ℕ
-  pub wrote : Appends held held' written
-  pub says : IsRowsOutput status saids s s' pending written
-  pub disk : OnDisk images moment images_since old new s.history s'.history pending
-
 -- the whole source is read first: then its rows are answered, or no row is acted on
-pub record Imports (status : Status) (s s' : Stand) (pending : List Accepted) (left left' held held' : Option (List ℕ)) : Type 0 where
-  pub taken : List ℕ
-  pub written : List ℕ
-  pub took : Consumes left left' taken
-  pub wrote : Appends held held' written
-  pub says : (IsUnread status taken × IsIdle s s' pending written)
-      ⊎ (IsAtEnd left' × (length taken < input_limit) × IsFileOutput status taken s s' pending written)
-
-pub record ImportEnds {D : Type 0} (images : D → List ℕ → Type 0) (moment : D → ℕ) (images_since : D → ℕ → List ℕ → Type 0) (old new : D)
-    (status : Status) (s s' : Stand) (left left' held held' : Option (List ℕ)) : Type 0 where
-  pub pending : List Accepted
-  pub imported : Imports status s s' pending left left' held held'
-  pub disk : OnDisk images moment images_since old new s.history s'.history pending
-
--- what some first rows of a file say
-pub record AreFirstIn (bytes : List ℕ) (said : List Saying) : Type 0 where
-  pub saids : List Saying
-  pub file : FileSays bytes saids
-  pub first : AreFirst saids said
+abbrev pub Imports : Status → Stand → Stand → List Accepted → Option (List ℕ) → Option (List ℕ) → Option (List ℕ) → Option (List ℕ) → Type 0
+Imports status s s' pending left left' held held' =
+    Exchanges (λ taken written. (IsUnread status taken × IsIdle s s' pending written)
+    ⊎ (IsAtEnd left' × (length taken < input_limit) × IsFileOutput status taken s s' pending written)) left left' held held'
 
 -- a journal was opened, and then a file was imported over it; from the moment of each write on, and at exit, each image has
 -- every command that is answered by what was written by then
@@ -117,4 +84,4 @@ abbrev pub IsImported : {D : Type 0} → (D → Option (List ℕ)) → (D → Li
     → Option (List ℕ) → Option (List ℕ) → Option (List ℕ) → Option (List ℕ) → Option (List Stamp) → Option (List Stamp) → Type 0
 IsImported seen images moment images_since old new status steps steps' left left' held held' log log' =
     IsRunOver (λ s s' pending. Imports status s s' pending left left' held held'
-    × IsAcknowledged AreFirstIn (moment new) (images_since new) s'.history s.history left left' held log log') seen images moment images_since old new steps steps'
+    × IsAcknowledged FileSays (moment new) (images_since new) s'.history s.history left left' held log log') seen images moment images_since old new steps steps'

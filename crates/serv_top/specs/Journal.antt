@@ -8,15 +8,13 @@ use Rattle.serv_disk.specs.Stamps.{Stamp}
 use Rattle.serv_journal.specs.Reading.{IsNoJournal}
 use Rattle.serv_engine.specs.Histories.{IsGoodFound, lengths_of}
 use Rattle.serv_engine.specs.Opening.{IsDamagedAt, IsTooLong, IsFound, IsClosed, IsFoundWithin, history_bound}
-use Rattle.serv_machine.specs.History.{in_journal}
+use Rattle.serv_machine.specs.History.{in_journal, Stand, stand}
 use Rattle.serv_machine.specs.OnDisk.{HasHistory, OnDisk}
 use Rattle.serv_top.specs.declared.status.Status.{Status}
 use Rattle.serv_top.specs.declared.status.Status.TheVariants.{Done, DiskFault, NotJournal, AlreadyThere, Damaged, OutOfMemory, JournalFull}
-use Rattle.serv_machine.specs.Stands.{Stand, stand}
-use Rattle.serv_top.specs.Outcome.{Ended}
-use Rattle.serv_top.specs.Sound.{StaySound}
-use Rattle.serv_top.specs.Lines.{lines_of}
-use Rattle.serv_top.specs.Upheld.{AreSaidFirst, IsAcknowledged}
+use Rattle.serv_top.specs.Outcome.{Ended, StaySound}
+use Rattle.serv_top.specs.Lines.{Says, lines_of, IsAcknowledged}
+use Rattle.serv_machine.specs.Sayings.{SaidFirst}
 
 -- the limit on a journal that is opened
 abbrev pub journal_limit : ℕ
@@ -99,4 +97,4 @@ abbrev pub IsApplied : {D : Type 0} → (D → Option (List ℕ)) → (D → Lis
     → Option (List ℕ) → Option (List ℕ) → Option (List ℕ) → Option (List ℕ) → Option (List Stamp) → Option (List Stamp) → Type 0
 IsApplied seen images moment images_since old new status steps steps' left left' held held' log log' =
     IsRunOver (λ s s' pending. Ended 0 status s s' pending left left' held held'
-    × IsAcknowledged (λ taken. AreSaidFirst (lines_of taken)) (moment new) (images_since new) s'.history s.history left left' held log log') seen images moment images_since old new steps steps'
+    × IsAcknowledged (λ taken. SaidFirst Says (lines_of taken)) (moment new) (images_since new) s'.history s.history left left' held log log') seen images moment images_since old new steps steps'

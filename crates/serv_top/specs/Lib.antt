@@ -1,17 +1,8 @@
 pub mod Lines
-pub mod Machine
-pub mod Replies
-pub mod Words
 pub mod Status
-pub mod Sound
 pub mod Outcome
-pub mod Serving
 pub mod Journal
-pub mod Written
-pub mod TakenOn
 pub mod Imported
 pub mod Extracts
 pub mod Texts
 pub mod Served
-pub mod Upheld
-pub mod Ends

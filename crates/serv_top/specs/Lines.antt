@@ -1,5 +1,19 @@
--- How a stream of bytes is cut into lines, at line feeds.
-use Rattle.std.specs.Prelude.{◌≡◌, ℕ, ◌==◌, ⊤, false, List, [], ◌∷◌, ◌++◌, if◌then◌else◌}
+-- How a stream of bytes is cut into lines, at line feeds, and what a line says.
+use Rattle.std.specs.Prelude.{◌≡◌, ℕ, ◌==◌, ⊤, false, List, [], ◌∷◌, ◌++◌, if◌then◌else◌, Option}
+use Rattle.svc_types.specs.declared.requests.Request.{Request}
+use Rattle.serv_top.specs.declared.said.Said.{Said}
+use Rattle.serv_top.specs.declared.said.Said.TheVariants.{Asks, Faulty, Unfit}
+use Rattle.svc_types.specs.Requests.{IsRequest}
+use Rattle.serv_line.specs.Lines.{line_of}
+use Rattle.serv_line.specs.LineFaults.{IsFault}
+use Rattle.serv_line.specs.Replies.{text_of_bad}
+use Rattle.serv_rows.specs.Texts.{text_of_bad_row}
+use Rattle.serv_machine.specs.Verdicts.{reply_to_request}
+use Rattle.serv_machine.specs.Sayings.{Saying, asking, telling}
+use Rattle.serv_machine.specs.Answering.{AreReplies}
+use Rattle.serv_disk.specs.Stamps.{Stamp}
+use Rattle.serv_machine.specs.History.{History}
+use Rattle.serv_machine.specs.OnDisk as upheld
 
 -- a byte in front of the first line; where there is no line, the byte is one, and has no line feed yet
 abbrev pub onto_first : ℕ → List (List ℕ) → List (List ℕ)
@@ -34,3 +48,30 @@ open_line bytes = open_from [] bytes
 abbrev pub IsPlain : List ℕ → Type 0
 IsPlain [] = ⊤
 IsPlain (b ∷ bytes) = ((b == 10) ≡ false) × IsPlain bytes
+
+-- ---- what a line, or a row of a file, says
+
+-- a request is asked in words: its reply is a line, or some
+abbrev pub in_words : Request → Saying
+in_words r = asking r (λ h. reply_to_request h r)
+
+abbrev pub saying_of : Said → Saying
+saying_of (Asks r) = in_words r
+saying_of (Faulty place) = telling (text_of_bad place)
+saying_of (Unfit number column) = telling (text_of_bad_row number column)
+
+-- a line asks a request exactly where it is that request's line; any other line has a fault
+pub data Says (line : List ℕ) : Saying → Type 0 where
+  asks : (r : Request) → IsRequest r → line ≡ line_of r → Says line (in_words r)
+  errs : (place : ℕ) → IsFault line place → Says line (telling (text_of_bad place))
+
+-- what it asks is of a form that can be asked
+abbrev pub IsFormed : Said → Type 0
+IsFormed (Asks r) = IsRequest r
+IsFormed (Faulty place) = ⊤
+IsFormed (Unfit number column) = ⊤
+
+-- of a run that took its requests from a source, over a history: each write that it noted is upheld
+abbrev pub IsAcknowledged : (List ℕ → List Saying → Type 0) → ℕ → (ℕ → List ℕ → Type 0) → History → History → Option (List ℕ) → Option (List ℕ) → Option (List ℕ) → Option (List Stamp) → Option (List Stamp) → Type 0
+IsAcknowledged First moment since now h left left' held log log' =
+    upheld.IsAcknowledged (λ taken. AreReplies (First taken) h) moment since now left left' held log log'

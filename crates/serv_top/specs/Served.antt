@@ -2,16 +2,15 @@
 use Rattle.std.specs.Prelude.{◌≡◌, ℕ, List, [], Option}
 use Rattle.std.specs.Io.KnownBytes.{Appends}
 use Rattle.svc_world.specs.World.{Accepted}
-use Rattle.serv_machine.specs.OnDisk.{OnDisk}
 use Rattle.serv_links.specs.declared.doors.DoorsEnd.TheVariants as doors_end
 use Rattle.serv_links.specs.declared.link_end.LinkEnd.{LinkEnd}
 use Rattle.serv_links.specs.declared.summary.Summary.{Summary}
 use Rattle.serv_links.specs.Doors.{OneServed, HasServed, IsDoorsEnd, IsSummary, text_of_summary}
 use Rattle.serv_top.specs.declared.status.Status.{Status}
 use Rattle.serv_top.specs.declared.status.Status.TheVariants.{DiskFault, NetFault}
-use Rattle.serv_machine.specs.Stands.{Stand}
+use Rattle.serv_machine.specs.History.{Stand}
 use Rattle.serv_top.specs.Journal.{IsRunOver}
-use Rattle.serv_top.specs.Written.{IsWrittenAs}
+use Rattle.serv_top.specs.Texts.{IsWrittenAs}
 
 -- the line that counts these ends
 pub record IsCountOf (ends : List LinkEnd) (text : List ℕ) : Type 0 where
@@ -35,12 +34,6 @@ pub record ServesLinks {C : Type 0} (P : Stand → OneServed C) (status : Status
   pub written : List ℕ
   pub wrote : Appends held held' written
   pub says : IsServedAs status most coming' ends written
-
-pub record LinksEnd {D : Type 0} (images : D → List ℕ → Type 0) (moment : D → ℕ) (images_since : D → ℕ → List ℕ → Type 0) (old new : D)
-    {C : Type 0} (P : Stand → OneServed C) (status : Status) (most : ℕ) (coming coming' backed backed' : Option (List C)) (held held' : Option (List ℕ)) (s s' : Stand) : Type 0 where
-  pub pending : List Accepted
-  pub served : ServesLinks P status most coming coming' backed backed' held held' s s' pending
-  pub disk : OnDisk images moment images_since old new s.history s'.history pending
 
 -- a journal was opened, and then links were served over it
 abbrev pub IsServedOver : {D : Type 0} → (D → Option (List ℕ)) → (D → List ℕ → Type 0) → (D → ℕ) → (D → ℕ → List ℕ → Type 0) → D → D → {C : Type 0} → (Stand → OneServed C) → Status → ℕ → ℕ → ℕ

@@ -1,47 +1,46 @@
 -- Texts that are written over a journal.
 use Rattle.std.specs.Prelude.{◌≡◌, ◌⊎◌, ℕ, ◌+◌, ◌<◌, ◌≤◌, Bool, true, false, List, [], length, Option, Some, None, ⊤}
-use Rattle.std.specs.Io.KnownBytes.{Appends, Consumes, IsAtEnd}
-use Rattle.svc_base.specs.Text.{IsReadMonth}
-use Rattle.svc_types.specs.Requests.{IsQuery}
+use Rattle.std.specs.Io.KnownBytes.{Appends, IsAtEnd}
 use Rattle.svc_types.specs.declared.replies.Refusal.TheVariants as refusal
 use Rattle.svc_types.specs.declared.requests.Query.{Query}
-use Rattle.svc_types.specs.declared.requests.Query.TheVariants as query
 use Rattle.svc_types.specs.declared.requests.Request.TheVariants as request
 use Rattle.svc_core.specs.Bound.{query_bound}
 use Rattle.svc_world.specs.declared.answer.Answer.{Answer}
 use Rattle.svc_world.specs.World.{Accepted, world}
 use Rattle.svc_world.specs.Answers.{answer_to, query_refusal}
 use Rattle.serv_machine.specs.History.{Memory, in_store}
-use Rattle.serv_machine.specs.Replies.{reply_to_request}
+use Rattle.serv_machine.specs.Verdicts.{reply_to_request}
 use Rattle.serv_report.specs.AnswerTexts.{text_of_answer}
 use Rattle.serv_top.specs.declared.status.Status.{Status}
-use Rattle.serv_top.specs.declared.status.Status.TheVariants.{NoReport, OutOfMemory}
-use Rattle.serv_top.specs.declared.texts.Text.{Text}
-use Rattle.serv_top.specs.declared.texts.Text.TheVariants.{Show, Ask, Make}
-use Rattle.serv_top.specs.Extracts.{IsAskedExtract, IsExtract, extract_bound, is_about_input}
+use Rattle.serv_top.specs.declared.status.Status.TheVariants.{NoReport, OutOfMemory, Done, WriteFault}
+use Rattle.serv_words.specs.declared.texts.Text.{Text}
+use Rattle.serv_words.specs.declared.texts.Text.TheVariants.{Show, Ask, Make}
+use Rattle.serv_words.specs.Asked.{reads_input}
+use Rattle.serv_top.specs.Extracts.{IsExtract, extract_bound}
 use Rattle.serv_top.specs.Imported.{IsUnread}
 use Rattle.serv_top.specs.Journal.{IsOpened}
-use Rattle.serv_top.specs.Outcome.{input_limit}
-use Rattle.serv_top.specs.Written.{IsWrittenAs}
+use Rattle.serv_top.specs.Outcome.{Exchanges, input_limit}
+use Rattle.serv_disk.specs.Faults.{IsProperPrefix}
 
--- ---- what is asked for
+-- ---- what a run has written that makes one text
 
--- the queries that words of their own ask
-abbrev pub IsShowing : Query → Type 0
-IsShowing (query.Report m) = IsReadMonth m
-IsShowing (query.Trial m) = IsReadMonth m
-IsShowing query.Custodial = Unit {0}
-IsShowing other = ⊥
+-- of such a text a part is written that does not reach its end
+pub record IsCutOf (IsText : List ℕ → Type 0) (written : List ℕ) : Type 0 where
+  pub text : List ℕ
+  pub whole : IsText text
+  pub cut : IsProperPrefix written text
 
-abbrev pub IsText : Text → Type 0
-IsText (Show q) = IsShowing q
-IsText (Ask q) = IsQuery q
-IsText (Make x) = IsAskedExtract x
+-- what is written by the status: such a text, a part of one, or nothing. Other statuses do not come where a text is written
+abbrev pub IsWrittenAs : Status → (List ℕ → Type 0) → List ℕ → Type 0
+IsWrittenAs Done IsText written = IsText written
+IsWrittenAs WriteFault IsText written = IsCutOf IsText written
+IsWrittenAs OutOfMemory IsText written = written ≡ []
+IsWrittenAs other IsText written = ⊥
 
--- whether the input is read for it
-abbrev pub reads_input : Text → Bool
-reads_input (Make x) = is_about_input x
-reads_input other = false
+pub record Writes (status : Status) (IsText : List ℕ → Type 0) (held held' : Option (List ℕ)) : Type 0 where
+  pub written : List ℕ
+  pub wrote : Appends held held' written
+  pub says : IsWrittenAs status IsText written
 
 -- ---- the text
 
@@ -90,14 +89,11 @@ IsInput false taken left = taken ≡ []
 
 -- the input is read first where the text is about it; then the text is written, or the input is not read to its end and
 -- nothing is written
-pub record WritesText (status : Status) (text : Text) (commands : List Accepted) (steps steps' : ℕ) (left left' held held' : Option (List ℕ)) : Type 0 where
-  pub taken : List ℕ
-  pub took : Consumes left left' taken
-  pub written : List ℕ
-  pub wrote : Appends held held' written
-  pub says : ((reads_input text ≡ true) × IsUnread status taken × (written ≡ []))
-      ⊎ (IsInput (reads_input text) taken left' × IsSaidAs status text commands taken written)
-  pub cost : steps' ≤ steps + text_bound text commands taken
+abbrev pub WritesText : Status → Text → List Accepted → ℕ → ℕ → Option (List ℕ) → Option (List ℕ) → Option (List ℕ) → Option (List ℕ) → Type 0
+WritesText status text commands steps steps' left left' held held' =
+    Exchanges (λ taken written. (((reads_input text ≡ true) × IsUnread status taken × (written ≡ []))
+    ⊎ (IsInput (reads_input text) taken left' × IsSaidAs status text commands taken written))
+    × (steps' ≤ steps + text_bound text commands taken)) left left' held held'
 
 -- a journal was opened, and the text is written over its commands. The disk is left as the opening left it
 pub record IsTextOver {D : Type 0} (seen : D → Option (List ℕ)) (images : D → List ℕ → Type 0) (moment : D → ℕ) (images_since : D → ℕ → List ℕ → Type 0)

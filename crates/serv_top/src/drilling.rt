@@ -5,7 +5,7 @@ ghost use Rattle.serv_disk.specs.Faults.{HasRisen};
 ghost use Rattle.serv_drill.specs.Machine.{cost_of_works, first_tally};
 ghost use Rattle.serv_drill.specs.Summary.{summary};
 ghost use Rattle.serv_drill.specs.Works.{year_works};
-ghost use Rattle.serv_top.specs.Written.{Writes};
+ghost use Rattle.serv_top.specs.Texts.{Writes};
 
 use crate::status::Status;
 use crate::writing::write_text;

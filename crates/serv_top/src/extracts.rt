@@ -5,13 +5,13 @@ ghost use Rattle.svc_world.specs.World.{accepted, world};
 ghost use Rattle.svc_core.specs.Posted.{history_of};
 ghost use Rattle.serv_line.specs.Replies.{ended, text_of_bad};
 ghost use Rattle.serv_engine.specs.Histories.{line_of_command};
-ghost use Rattle.serv_top.specs.TakenOn.{lines_of_commands};
-ghost use Rattle.serv_top.specs.Extracts.{IsAskedExtract, IsConfirmed, IsExtract, extract_bound};
-ghost use Rattle.serv_top.specs.Extracts as extracts;
+ghost use Rattle.serv_words.specs.Asked.{IsAskedExtract};
+ghost use Rattle.serv_top.specs.Extracts.{lines_of_commands, IsConfirmed, IsExtract, extract_bound};
 
 use bank_recon::recon_text;
 use pmi_track::{pmi_drops, pmi_text};
 use serv_line::{push_bytes, push_line, push_wide};
+use serv_words::Extract;
 use servicing_transfer::{ConfirmFault, confirm, split, statement};
 use std::alloc::Global;
 use std::sync::ledger::Ledger;
@@ -20,64 +20,33 @@ use svc_checkpoint::Checked;
 use svc_core::Core;
 use svc_types::{Command, Key, Request};
 
-/// A text that is made of a journal's commands, and of the input where it is about it.
-#[derive(Clone, Copy, Debug, PartialEq, Eq)]
-pub(crate) enum Extract {
-    /// The lines of the commands on the loans from one number to another, which are handed over.
-    Transfer(u32, u32),
-    /// The lines of the commands on all other loans, which stay.
-    Remain(u32, u32),
-    /// The statement of all loans.
-    Statement,
-    /// How a statement differs from the books.
-    Confirm,
-    /// Whether the mortgage insurance of each loan of a file ends, and when.
-    Pmi,
-    /// The commands that drop the premiums of insurance that ends.
-    PmiDrops,
-    /// How a bank's movements match the rows of the commands between two numbers.
-    Reconcile(u32, u32),
-}
-
-impl Extract {
-    /// Whether it is about the input.
-    pub(crate) fn is_about_input(self) -> bool
-        ensures { result ≡ extracts.is_about_input self }
-    {
-        match self {
-            Extract::Transfer(_, _) | Extract::Remain(_, _) | Extract::Statement => false,
-            Extract::Confirm | Extract::Pmi | Extract::PmiDrops | Extract::Reconcile(_, _) => true,
+/// The text that is asked for, over the commands of the books and about an input.
+pub(crate) fn extract_text<L: Ledger>(
+    alloc: Global,
+    extract: Extract,
+    core: &Core<Checked>,
+    input: &[u8],
+    steps: &mut Steps<L>,
+) -> Result<Vec<u8>, OutOfMemory>
+    requires asked { IsAskedExtract extract }
+    requires size { length input.now ≤ 2 ^ 26 }
+    ensures text { IfOk result (λ text. IsExtract extract core.now.history input.now text.items) }
+    ensures steps { steps.new ≤ steps.old + extract_bound extract core.now.history input.now }
+{
+    match extract {
+        Extract::Transfer(from, to) => {
+            let halves = split(alloc, core, from, to)?;
+            lines_of(alloc, &halves.inside)
         }
-    }
-
-    /// The text over the commands of the books and about an input.
-    pub(crate) fn text<L: Ledger>(
-        self,
-        alloc: Global,
-        core: &Core<Checked>,
-        input: &[u8],
-        steps: &mut Steps<L>,
-    ) -> Result<Vec<u8>, OutOfMemory>
-        requires asked { IsAskedExtract self }
-        requires size { length input.now ≤ 2 ^ 26 }
-        ensures text { IfOk result (λ text. IsExtract self core.now.history input.now text.items) }
-        ensures steps { steps.new ≤ steps.old + extract_bound self core.now.history input.now }
-    {
-        match self {
-            Extract::Transfer(from, to) => {
-                let halves = split(alloc, core, from, to)?;
-                lines_of(alloc, &halves.inside)
-            }
-            Extract::Remain(from, to) => {
-                let halves = split(alloc, core, from, to)?;
-                lines_of(alloc, &halves.outside)
-            }
-            Extract::Statement => statement(alloc, core, steps),
-            Extract::Confirm => confirmed(alloc, core, input, steps),
-            Extract::Pmi => pmi_text(alloc, core, input, steps),
-            Extract::PmiDrops => pmi_drops(alloc, core, input, steps),
-            Extract::Reconcile(first, last) => recon_text(alloc, core, first, last, input),
+        Extract::Remain(from, to) => {
+            let halves = split(alloc, core, from, to)?;
+            lines_of(alloc, &halves.outside)
         }
+        Extract::Statement => statement(alloc, core, steps),
+        Extract::Confirm => confirmed(alloc, core, input, steps),
+        Extract::Pmi => pmi_text(alloc, core, input, steps),
+        Extract::PmiDrops => pmi_drops(alloc, core, input, steps),
+        Extract::Reconcile(first, last) => recon_text(alloc, core, first, last, input),
     }
 }
 

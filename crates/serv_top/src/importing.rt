@@ -4,21 +4,21 @@ ghost use Rattle.std.specs.Prelude.{◌≡◌, ℕ, ◌<◌, ◌≤◌, ◌^◌,
 ghost use Rattle.std.specs.Io.KnownBytes.{Consumes, IsAtEnd};
 ghost use Rattle.serv_disk.specs.Faults.{HasRisen};
 ghost use Rattle.serv_disk.specs.Stamps.{Stamp};
-ghost use Rattle.serv_machine.specs.Upheld.{Upholds};
+ghost use Rattle.serv_machine.specs.OnDisk.{Upholds};
 ghost use Rattle.serv_top.specs.Journal.{HasFileFaults, IsUnopened};
-ghost use Rattle.serv_machine.specs.Stands.{stand};
+ghost use Rattle.serv_machine.specs.History.{stand};
 ghost use Rattle.serv_top.specs.Outcome.{input_limit};
-ghost use Rattle.serv_top.specs.Upheld.{AreFirst, AreReplies, IsAcknowledged};
-ghost use Rattle.serv_top.specs.Imported.{AreFirstIn, AreRows, FileEnds, ImportEnds, IsImported, IsUnread, RowsEnd, said_of};
+ghost use Rattle.serv_machine.specs.Answering.{AreReplies, Leaves, Writes};
+ghost use Rattle.serv_top.specs.Lines.{IsAcknowledged};
+ghost use Rattle.serv_top.specs.Imported.{AreRows, FileSays, Imports, IsFileOutput, IsIdle, IsImported, IsRowsOutput, IsUnread, said_of};
 
 use crate::over_journal::open_journal;
-use crate::replies::Replies;
 use crate::said::said_of;
 use crate::status::Status;
 use crate::stream::INPUT_LIMIT;
 use serv_disk::{Disk, Sink, Source, read_some};
 use serv_import::{ImportFault, RowRequest, batch};
-use serv_machine::Machine;
+use serv_machine::{Machine, Replies};
 use std::alloc::Global;
 use std::sync::ledger::Ledger;
 use svc_base::Steps;
@@ -64,10 +64,11 @@ fn import_by<D: Disk, M: Machine<D>, S: Source, K: Sink, L: Ledger>(
     steps: &mut Steps<L>,
 ) -> Status
     requires { M.ready machine.old disk.old }
-    ensures ends { ImportEnds D.images D.moment D.images_since disk.old disk.new result
-        (stand (M.history machine.old) steps.old) (stand (M.kept machine.new) steps.new)
-        (S.left src.old) (S.left src.new) (K.held snk.old) (K.held snk.new) }
-    ensures acknowledged { IsAcknowledged AreFirstIn (D.moment disk.new) (D.images_since disk.new)
+    ensures ends { Leaves D.images D.moment D.images_since disk.old disk.new (λ pending. Imports result
+        (stand (M.history machine.old) steps.old) (stand (M.kept machine.new) steps.new) pending
+        (S.left src.old) (S.left src.new) (K.held snk.old) (K.held snk.new))
+        (M.history machine.old) (M.kept machine.new) }
+    ensures acknowledged { IsAcknowledged FileSays (D.moment disk.new) (D.images_since disk.new)
         (M.kept machine.new) (M.history machine.old)
         (S.left src.old) (S.left src.new) (K.held snk.old) (K.log snk.old) (K.log snk.new) }
     ensures read { result ≡ Status.ReadFault → HasRisen (S.faults src.old) (S.faults src.new) }
@@ -121,10 +122,14 @@ fn answer_file<D: Disk, M: Machine<D>, K: Sink, L: Ledger>(
 ) -> Status
     requires size { length bytes.now ≤ 2 ^ 26 }
     requires ready { M.ready machine.old disk.old }
-    ensures ends { FileEnds D.images D.moment D.images_since disk.old disk.new result bytes.now
-        (stand (M.history machine.old) steps.old) (stand (M.kept machine.new) steps.new)
-        (K.held snk.old) (K.held snk.new) }
-    ensures upheld { Upholds (AreReplies (AreFirstIn bytes.now) (M.history machine.old)) (D.moment disk.new)
+    // Its rows are answered, or there is no memory for what they say.
+    ensures ends { Writes D.images D.moment D.images_since disk.old disk.new (λ pending written.
+        ((result ≡ Status.OutOfMemory) × IsIdle (stand (M.history machine.old) steps.old)
+        (stand (M.kept machine.new) steps.new) pending written)
+        ⊎ IsFileOutput result bytes.now (stand (M.history machine.old) steps.old)
+        (stand (M.kept machine.new) steps.new) pending written)
+        (M.history machine.old) (M.kept machine.new) (K.held snk.old) (K.held snk.new) }
+    ensures upheld { Upholds (AreReplies (FileSays bytes.now) (M.history machine.old)) (D.moment disk.new)
         (D.images_since disk.new) (M.kept machine.new) (K.held snk.old) (K.log snk.old) (K.log snk.new) }
     ensures write { result ≡ Status.WriteFault → HasRisen (K.faults snk.old) (K.faults snk.new) }
     ensures disk { result ≡ Status.DiskFault → HasRisen (D.faults disk.old) (D.faults disk.new) }
@@ -151,10 +156,11 @@ fn answer_rows<D: Disk, M: Machine<D>, K: Sink, L: Ledger>(
 ) -> Status
     requires rows { AreRows rows.now }
     requires ready { M.ready machine.old disk.old }
-    ensures ends { RowsEnd D.images D.moment D.images_since disk.old disk.new result (map said_of rows.now)
-        (stand (M.history machine.old) steps.old) (stand (M.kept machine.new) steps.new)
-        (K.held snk.old) (K.held snk.new) }
-    ensures upheld { Upholds (AreReplies (AreFirst (map said_of rows.now)) (M.history machine.old)) (D.moment disk.new)
+    ensures ends { Writes D.images D.moment D.images_since disk.old disk.new
+        (IsRowsOutput result (map said_of rows.now)
+        (stand (M.history machine.old) steps.old) (stand (M.kept machine.new) steps.new))
+        (M.history machine.old) (M.kept machine.new) (K.held snk.old) (K.held snk.new) }
+    ensures upheld { Upholds (AreReplies (λ saids. saids ≡ map said_of rows.now) (M.history machine.old)) (D.moment disk.new)
         (D.images_since disk.new) (M.kept machine.new) (K.held snk.old) (K.log snk.old) (K.log snk.new) }
     ensures write { result ≡ Status.WriteFault → HasRisen (K.faults snk.old) (K.faults snk.new) }
     ensures disk { result ≡ Status.DiskFault → HasRisen (D.faults disk.old) (D.faults disk.new) }

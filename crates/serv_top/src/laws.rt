@@ -1,50 +1,43 @@
-//! What lines, words and files say, and what is said to them.
+//! What lines and files say, and what is said to them.
 
-ghost use Rattle.std.specs.Prelude.{◌≡◌, ℕ, ◌^◌, ◌≤◌, List, [], Some, length};
-ghost use Rattle.svc_base.specs.Text.{IsReadMonth, text_of_month};
+ghost use Rattle.std.specs.Prelude.{◌≡◌, ℕ, ◌^◌, ◌≤◌, List, [], length};
 ghost use Rattle.svc_world.specs.World.{Accepted};
 ghost use Rattle.svc_world.specs.Judging.{IsHistory};
 ghost use Rattle.serv_engine.specs.Histories.{lines_of_history};
 ghost use Rattle.serv_engine.specs.Opening.{IsTooLong};
 ghost use Rattle.serv_top.specs.Journal.{journal_limit};
-ghost use Rattle.serv_top.specs.Lines.{ended_lines, lines_of};
-ghost use Rattle.serv_top.specs.TakenOn.{lines_of_commands, AreTakenOn, HasRoomFor};
+ghost use Rattle.serv_top.specs.Lines.{ended_lines, lines_of, Says};
+ghost use Rattle.serv_top.specs.Extracts.{lines_of_commands, AreTakenOn, HasRoomFor};
 ghost use Rattle.serv_top.specs.Imported.{FileSays};
-ghost use Rattle.serv_top.specs.Words.{month_in};
-ghost use Rattle.serv_machine.specs.Stands.{Stand};
-ghost use Rattle.serv_machine.specs.Sayings.{Saying, replies_to};
-ghost use Rattle.serv_top.specs.Machine.{Says};
-ghost use Rattle.serv_top.specs.Replies.{Answers, IsBegun, IsCutAt, IsCutIn, IsCutOff, IsHeldUp};
-ghost use Rattle.serv_top.specs.Upheld.{AreFirst, AreSaidFirst, Say};
+ghost use Rattle.serv_machine.specs.History.{Stand};
+ghost use Rattle.serv_machine.specs.Sayings.{AreFirst, Say, SaidFirst, Saying, replies_to};
+ghost use Rattle.serv_machine.specs.declared.faults.Stop.{Stop};
+ghost use Rattle.serv_machine.specs.Answering.{AnsweredBut, Answers, IsCutIn};
+ghost use Rattle.serv_top.specs.Outcome.{IsCutAt, IsCutOff};
 
 /// A line says one thing. So lines have one text of replies over a history, and one history after them;
 /// and a front part of their replies is some whole ones and a part of the next one. It does nothing.
 pub fn lines_have_one_answer()
     ensures says { (line : List ℕ) (s t : Saying) → Says line s → Says line t → s ≡ t }
     ensures answers { (lines : List (List ℕ)) (s a b : Stand) (x y : List ℕ)
-        → Answers (Say lines) s a x → Answers (Say lines) s b y → (x ≡ y) × (a.history ≡ b.history) }
+        → Answers (Say Says lines) s a x → Answers (Say Says lines) s b y → (x ≡ y) × (a.history ≡ b.history) }
     ensures cut { (waiting : ℕ) (lines : List (List ℕ)) (s t : Stand) (written : List ℕ)
-        → IsCutIn (AreSaidFirst lines) waiting s t written → IsCutAt (AreSaidFirst lines) s.history written }
+        → IsCutIn (AreFirst (SaidFirst Says lines)) waiting s t written
+        → IsCutAt (AreFirst (SaidFirst Says lines)) s.history written }
 {}
 
 /// Over a journal no reply waits but the last one. So where a write, the disk or memory fails, all replies to what the
 /// disk has, but for the last one of them, are whole; those of a file's rows too. It does nothing.
 pub fn replies_are_whole()
     ensures cut { (lines : List (List ℕ)) (s t : Stand) (written : List ℕ)
-        → IsCutIn (AreSaidFirst lines) 0 s t written → IsCutOff (AreSaidFirst lines) s t written }
+        → IsCutIn (AreFirst (SaidFirst Says lines)) 0 s t written
+        → IsCutOff (AreFirst (SaidFirst Says lines)) s t written }
     ensures cut_rows { (saids : List Saying) (s t : Stand) (written : List ℕ)
-        → IsCutIn (AreFirst saids) 0 s t written → IsCutOff (AreFirst saids) s t written }
-    ensures held { (lines : List (List ℕ)) (s t : Stand) (pending : List Accepted) (written : List ℕ)
-        (up : IsHeldUp (AreSaidFirst lines) 0 s t pending written) → written ≡ replies_to s.history up.done }
-    ensures begun { (lines : List (List ℕ)) (s t : Stand) (written : List ℕ)
-        (begun : IsBegun (AreSaidFirst lines) 0 s t written) → written ≡ replies_to s.history begun.done }
-{}
-
-/// A word is read as a month exactly where it is that month's text. It does nothing.
-pub fn months_are_read()
-    ensures read { (m : ℕ) → IsReadMonth m → month_in (text_of_month m) ≡ Some m }
-    ensures spelled { (text : List ℕ) (m : ℕ) → month_in text ≡ Some m
-        → IsReadMonth m × (text ≡ text_of_month m) }
+        → IsCutIn (AreFirst (λ said. said ≡ saids)) 0 s t written
+        → IsCutOff (AreFirst (λ said. said ≡ saids)) s t written }
+    ensures stopped { (why : Stop) (lines : List (List ℕ)) (s t : Stand) (pending : List Accepted) (written : List ℕ)
+        (but : AnsweredBut why (AreFirst (SaidFirst Says lines)) 0 s t pending written)
+        → written ≡ replies_to s.history but.done }
 {}
 
 /// A file says one thing. It does nothing.
@@ -59,7 +52,7 @@ pub fn histories_are_taken_on()
     ensures ended { (h : List Accepted) → IsHistory h → ended_lines (lines_of_commands h) ≡ lines_of_history h }
     ensures lines { (h : List Accepted) → IsHistory h → lines_of (lines_of_commands h) ≡ lines_of_history h }
     ensures taken_on { (h : List Accepted) (s t : Stand) (written : List ℕ) → IsHistory h → s.history.commands ≡ []
-        → HasRoomFor s.history.store h → Answers (Say (lines_of_history h)) s t written → AreTakenOn h t written }
+        → HasRoomFor s.history.store h → Answers (Say Says (lines_of_history h)) s t written → AreTakenOn h t written }
 {}
 
 /// A journal of version 1 of at most 67,108,864 bytes always has room for its commands in version 2: it never ends a

@@ -4,11 +4,11 @@ ghost use Rattle.std.specs.Prelude.{◌≡◌, ◌≤◌, ◌⊎◌, false};
 ghost use Rattle.serv_disk.specs.Faults.{HasRisen};
 ghost use Rattle.serv_engine.specs.Engines.{IsDurable};
 ghost use Rattle.serv_links.specs.Doors.{ServedLink, text_of_summary};
-ghost use Rattle.serv_machine.specs.Engines.{history_of, kept_history};
+ghost use Rattle.serv_machine.specs.History.{history_of, kept_history, stand};
 ghost use Rattle.serv_top.specs.Journal.{HasFileFaults, IsUnopened};
-ghost use Rattle.serv_machine.specs.Stands.{stand};
-ghost use Rattle.serv_top.specs.Served.{IsServedOver, LinksEnd};
-ghost use Rattle.serv_top.specs.Written.{Writes};
+ghost use Rattle.serv_machine.specs.Answering.{Leaves};
+ghost use Rattle.serv_top.specs.Served.{IsServedOver, ServesLinks};
+ghost use Rattle.serv_top.specs.Texts.{Writes};
 
 use crate::over_journal::open_journal;
 use crate::status::Status;
@@ -69,12 +69,13 @@ fn serve_by<B: Frugal, D: Disk, K: Sink, G: Doors, L: Ledger>(
     requires out { G.out doors.old ≡ 0 }
     requires unspent { engine.old.journal.spent ≡ false }
     requires durable { IsDurable (D.images disk.old) engine.old }
-    ensures ends { LinksEnd D.images D.moment D.images_since disk.old disk.new
+    ensures ends { Leaves D.images D.moment D.images_since disk.old disk.new (λ pending. ServesLinks
         (ServedLink G.Conn.left G.Conn.held G.Conn.log G.Conn.Source.faults G.Conn.Sink.faults
         (D.moment disk.new) (D.images_since disk.new)) result most
         (G.coming doors.old) (G.coming doors.new) (G.backed doors.old) (G.backed doors.new)
         (K.held snk.old) (K.held snk.new)
-        (stand (history_of engine.old) steps.old) (stand (kept_history engine.new) steps.new) }
+        (stand (history_of engine.old) steps.old) (stand (kept_history engine.new) steps.new) pending)
+        (history_of engine.old) (kept_history engine.new) }
     ensures write { result ≡ Status.WriteFault → HasRisen (K.faults snk.old) (K.faults snk.new) }
     ensures disk { result ≡ Status.DiskFault → HasRisen (D.faults disk.old) (D.faults disk.new) }
     ensures net { result ≡ Status.NetFault → HasRisen (G.faults doors.old) (G.faults doors.new) }

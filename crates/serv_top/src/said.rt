@@ -1,12 +1,16 @@
 //! What a line, or a row of a file, says.
 
-ghost use Rattle.std.specs.Prelude.{◌≡◌, IfSome};
-ghost use Rattle.svc_types.specs.Requests.{IsCommand};
-ghost use Rattle.serv_top.specs.Machine.{IsFormed, Says, saying_of};
+ghost use Rattle.std.specs.Prelude.{◌≡◌};
+ghost use Rattle.serv_top.specs.Lines.{IsFormed, Says, saying_of};
 ghost use Rattle.serv_top.specs.Imported as imported;
 
+use serv_disk::Disk;
 use serv_import::RowRequest;
-use serv_line::read_line;
+use serv_line::{push_bad, read_line};
+use serv_machine::{Halt, Machine, Spoken, answer_request};
+use serv_rows::push_bad_row;
+use std::sync::ledger::Ledger;
+use svc_base::Steps;
 use svc_types::{Command, Key, Request};
 
 /// What a line says, or a row of a file.
@@ -20,15 +24,37 @@ pub(crate) enum Said {
     Unfit(u32, u32),
 }
 
-impl Said {
-    /// The command that it brings, with its key.
-    pub(crate) fn command(&self) -> Option<(&Key, &Command)>
-        requires { IsFormed self.now }
-        ensures { IfSome result (λ c. IsCommand c.1.now) }
-    {
+impl Spoken for Said {
+    ghost use Rattle.serv_top.specs.Lines.{IsFormed, saying_of};
+
+    ghost saying = { saying_of };
+
+    ghost formed = { IsFormed };
+
+    fn command(&self) -> Option<(&Key, &Command)> {
         match self {
             Said::Asks(Request::Do(key, command)) => Some((key, command)),
             Said::Asks(Request::Ask(_)) | Said::Faulty(_) | Said::Unfit(_, _) => None,
+        }
+    }
+
+    fn answer<D: Disk, M: Machine<D>, L: Ledger>(
+        &self,
+        machine: &mut M,
+        disk: &mut D,
+        out: &mut Vec<u8>,
+        steps: &mut Steps<L>,
+    ) -> Result<(), Halt> {
+        match self {
+            Said::Asks(request) => answer_request(machine, disk, request, out, steps),
+            Said::Faulty(place) => {
+                push_bad(out, *place)?;
+                Ok(())
+            }
+            Said::Unfit(row, column) => {
+                push_bad_row(out, *row, *column)?;
+                Ok(())
+            }
         }
     }
 }

@@ -3,18 +3,17 @@
 ghost use Rattle.std.specs.Prelude.{◌≡◌, ℕ, ◌+◌, ◌<◌, ◌≤◌, ◌==◌, ◌++◌, List, [], ◌∷◌, Option, Some, Err, false, true, OnErr, OnOk, IfErr, IfOk, length, take, vec_len};
 ghost use Rattle.std.specs.List.{position};
 ghost use Rattle.serv_disk.specs.Faults.{HasRisen};
-ghost use Rattle.serv_machine.specs.OnDisk.{OnDisk};
-ghost use Rattle.serv_machine.specs.Stands.{Stand, running, stand};
-ghost use Rattle.serv_top.specs.Serving.{AllServed, Served, Stops};
-ghost use Rattle.serv_top.specs.Lines.{IsPlain, ended_lines, lines_of};
-ghost use Rattle.serv_machine.specs.Upheld.{Upholds};
-ghost use Rattle.serv_top.specs.Upheld.{AreReplies, AreSaidFirst};
+ghost use Rattle.serv_machine.specs.OnDisk.{OnDisk, Upholds};
+ghost use Rattle.serv_machine.specs.History.{Stand, running, stand};
+ghost use Rattle.serv_top.specs.Outcome.{AllServed, Served};
+ghost use Rattle.serv_machine.specs.Answering.{AreReplies, IsStopped, Writes};
+ghost use Rattle.serv_machine.specs.Sayings.{AreFirst, SaidFirst};
+ghost use Rattle.serv_top.specs.Lines.{IsPlain, Says, ended_lines, lines_of};
 
-use crate::replies::Replies;
 use crate::said::said_in;
 use memchr::memchr;
 use serv_disk::{Disk, Sink};
-use serv_machine::{Machine, Stop};
+use serv_machine::{Machine, Replies, Stop};
 use std::alloc::Global;
 use std::sync::ledger::Ledger;
 use svc_base::{OutOfMemory, Steps};
@@ -73,14 +72,14 @@ impl Serving {
             → Served self.old.replies.waiting before s
             (running (M.history machine.old) (M.kept machine.old) steps.old) held (K.held snk.old)
             self.old.line.items self.old.replies.text.items
-            → IfErr result (λ why. Stops D.images D.moment D.images_since disk.old disk.new why
-            (AreSaidFirst (ended_lines (before ++ bytes.now))) self.old.replies.waiting s (M.kept machine.old)
-            (stand (M.kept machine.new) steps.new) held (K.held snk.new)) }
+            → IfErr result (λ why. Writes D.images D.moment D.images_since disk.old disk.new
+            (IsStopped why (AreFirst (SaidFirst Says (ended_lines (before ++ bytes.now)))) self.old.replies.waiting s
+            (stand (M.kept machine.new) steps.new)) (M.kept machine.old) (M.kept machine.new) held (K.held snk.new)) }
         ensures upheld { (before : List ℕ) (s : Stand) (held : Option (List ℕ))
             → Served self.old.replies.waiting before s
             (running (M.history machine.old) (M.kept machine.old) steps.old) held (K.held snk.old)
             self.old.line.items self.old.replies.text.items
-            → Upholds (AreReplies (AreSaidFirst (ended_lines (before ++ bytes.now))) s.history) (D.moment disk.new)
+            → Upholds (AreReplies (SaidFirst Says (ended_lines (before ++ bytes.now))) s.history) (D.moment disk.new)
             (D.images_since disk.new) (M.kept machine.new) held (K.log snk.old) (K.log snk.new) }
         ensures empty { OnOk result (self.new.replies.text.items ≡ []) }
         ensures waiting { self.new.replies.waiting ≡ self.old.replies.waiting }
@@ -124,14 +123,14 @@ impl Serving {
             → Served self.old.replies.waiting before s
             (running (M.history machine.old) (M.kept machine.old) steps.old) held (K.held snk.old)
             self.old.line.items self.old.replies.text.items
-            → IfErr result (λ why. Stops D.images D.moment D.images_since disk.old disk.new why
-            (AreSaidFirst (ended_lines (before ++ bytes.now))) self.old.replies.waiting s (M.kept machine.old)
-            (stand (M.kept machine.new) steps.new) held (K.held snk.new)) }
+            → IfErr result (λ why. Writes D.images D.moment D.images_since disk.old disk.new
+            (IsStopped why (AreFirst (SaidFirst Says (ended_lines (before ++ bytes.now)))) self.old.replies.waiting s
+            (stand (M.kept machine.new) steps.new)) (M.kept machine.old) (M.kept machine.new) held (K.held snk.new)) }
         ensures upheld { (before : List ℕ) (s : Stand) (held : Option (List ℕ))
             → Served self.old.replies.waiting before s
             (running (M.history machine.old) (M.kept machine.old) steps.old) held (K.held snk.old)
             self.old.line.items self.old.replies.text.items
-            → Upholds (AreReplies (AreSaidFirst (ended_lines (before ++ bytes.now))) s.history) (D.moment disk.new)
+            → Upholds (AreReplies (SaidFirst Says (ended_lines (before ++ bytes.now))) s.history) (D.moment disk.new)
             (D.images_since disk.new) (M.kept machine.new) held (K.log snk.old) (K.log snk.new) }
         ensures waiting { self.new.replies.waiting ≡ self.old.replies.waiting }
         ensures disk { OnOk result (OnDisk D.images D.moment D.images_since disk.old disk.new
@@ -178,14 +177,14 @@ impl Serving {
             → Served self.old.replies.waiting before s
             (running (M.history machine.old) (M.kept machine.old) steps.old) held (K.held snk.old)
             self.old.line.items self.old.replies.text.items
-            → IfErr result (λ why. Stops D.images D.moment D.images_since disk.old disk.new why
-            (AreSaidFirst (ended_lines (before ++ (piece.now ++ 10 ∷ [])))) self.old.replies.waiting s (M.kept machine.old)
-            (stand (M.kept machine.new) steps.new) held (K.held snk.new)) }
+            → IfErr result (λ why. Writes D.images D.moment D.images_since disk.old disk.new
+            (IsStopped why (AreFirst (SaidFirst Says (ended_lines (before ++ (piece.now ++ 10 ∷ []))))) self.old.replies.waiting s
+            (stand (M.kept machine.new) steps.new)) (M.kept machine.old) (M.kept machine.new) held (K.held snk.new)) }
         ensures upheld { (before : List ℕ) (s : Stand) (held : Option (List ℕ))
             → Served self.old.replies.waiting before s
             (running (M.history machine.old) (M.kept machine.old) steps.old) held (K.held snk.old)
             self.old.line.items self.old.replies.text.items
-            → Upholds (AreReplies (AreSaidFirst (ended_lines (before ++ (piece.now ++ 10 ∷ [])))) s.history)
+            → Upholds (AreReplies (SaidFirst Says (ended_lines (before ++ (piece.now ++ 10 ∷ [])))) s.history)
             (D.moment disk.new) (D.images_since disk.new) (M.kept machine.new)
             held (K.log snk.old) (K.log snk.new) }
         ensures waiting { self.new.replies.waiting ≡ self.old.replies.waiting }
@@ -224,14 +223,14 @@ impl Serving {
             → Served self.old.replies.waiting before s
             (running (M.history machine.old) (M.kept machine.old) steps) held (K.held snk.old)
             self.old.line.items self.old.replies.text.items
-            → IfErr result (λ why. Stops D.images D.moment D.images_since disk.old disk.new why
-            (AreSaidFirst (ended_lines (before ++ piece.now))) self.old.replies.waiting s (M.kept machine.old)
-            (stand (M.kept machine.new) steps) held (K.held snk.new)) }
+            → IfErr result (λ why. Writes D.images D.moment D.images_since disk.old disk.new
+            (IsStopped why (AreFirst (SaidFirst Says (ended_lines (before ++ piece.now)))) self.old.replies.waiting s
+            (stand (M.kept machine.new) steps)) (M.kept machine.old) (M.kept machine.new) held (K.held snk.new)) }
         ensures upheld { (before : List ℕ) (s : Stand) (steps : ℕ) (held : Option (List ℕ))
             → Served self.old.replies.waiting before s
             (running (M.history machine.old) (M.kept machine.old) steps) held (K.held snk.old)
             self.old.line.items self.old.replies.text.items
-            → Upholds (AreReplies (AreSaidFirst (ended_lines (before ++ piece.now))) s.history) (D.moment disk.new)
+            → Upholds (AreReplies (SaidFirst Says (ended_lines (before ++ piece.now))) s.history) (D.moment disk.new)
             (D.images_since disk.new) (M.kept machine.new) held (K.log snk.old) (K.log snk.new) }
         ensures same { OnOk result ((machine.new ≡ machine.old) × (disk.new ≡ disk.old) × (snk.new ≡ snk.old)) }
         ensures waiting { self.new.replies.waiting ≡ self.old.replies.waiting }
@@ -272,14 +271,14 @@ impl Serving {
             → Served self.old.replies.waiting before s
             (running (M.history machine.old) (M.kept machine.old) steps.old) held (K.held snk.old)
             self.old.line.items self.old.replies.text.items
-            → IfErr result (λ why. Stops D.images D.moment D.images_since disk.old disk.new why
-            (AreSaidFirst (ended_lines (before ++ 10 ∷ []))) self.old.replies.waiting s (M.kept machine.old)
-            (stand (M.kept machine.new) steps.new) held (K.held snk.new)) }
+            → IfErr result (λ why. Writes D.images D.moment D.images_since disk.old disk.new
+            (IsStopped why (AreFirst (SaidFirst Says (ended_lines (before ++ 10 ∷ [])))) self.old.replies.waiting s
+            (stand (M.kept machine.new) steps.new)) (M.kept machine.old) (M.kept machine.new) held (K.held snk.new)) }
         ensures upheld { (before : List ℕ) (s : Stand) (held : Option (List ℕ))
             → Served self.old.replies.waiting before s
             (running (M.history machine.old) (M.kept machine.old) steps.old) held (K.held snk.old)
             self.old.line.items self.old.replies.text.items
-            → Upholds (AreReplies (AreSaidFirst (ended_lines (before ++ 10 ∷ []))) s.history) (D.moment disk.new)
+            → Upholds (AreReplies (SaidFirst Says (ended_lines (before ++ 10 ∷ []))) s.history) (D.moment disk.new)
             (D.images_since disk.new) (M.kept machine.new) held (K.log snk.old) (K.log snk.new) }
         ensures waiting { self.new.replies.waiting ≡ self.old.replies.waiting }
         ensures disk { OnOk result (OnDisk D.images D.moment D.images_since disk.old disk.new
@@ -321,14 +320,14 @@ impl Serving {
             → Served self.old.replies.waiting bytes s
             (running (M.history machine.old) (M.kept machine.old) steps.old) held (K.held snk.old)
             self.old.line.items self.old.replies.text.items
-            → IfErr result (λ why. Stops D.images D.moment D.images_since disk.old disk.new why
-            (AreSaidFirst (lines_of bytes)) self.old.replies.waiting s (M.kept machine.old)
-            (stand (M.kept machine.new) steps.new) held (K.held snk.new)) }
+            → IfErr result (λ why. Writes D.images D.moment D.images_since disk.old disk.new
+            (IsStopped why (AreFirst (SaidFirst Says (lines_of bytes))) self.old.replies.waiting s
+            (stand (M.kept machine.new) steps.new)) (M.kept machine.old) (M.kept machine.new) held (K.held snk.new)) }
         ensures upheld { (bytes : List ℕ) (s : Stand) (held : Option (List ℕ))
             → Served self.old.replies.waiting bytes s
             (running (M.history machine.old) (M.kept machine.old) steps.old) held (K.held snk.old)
             self.old.line.items self.old.replies.text.items
-            → Upholds (AreReplies (AreSaidFirst (lines_of bytes)) s.history) (D.moment disk.new)
+            → Upholds (AreReplies (SaidFirst Says (lines_of bytes)) s.history) (D.moment disk.new)
             (D.images_since disk.new) (M.kept machine.new) held (K.log snk.old) (K.log snk.new) }
         ensures disk { OnOk result (OnDisk D.images D.moment D.images_since disk.old disk.new
             (M.kept machine.old) (M.kept machine.new) []) }

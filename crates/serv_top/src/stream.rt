@@ -2,10 +2,11 @@
 
 ghost use Rattle.std.specs.Prelude.{◌≡◌, ◌≤◌};
 ghost use Rattle.serv_disk.specs.Faults.{HasRisen};
-ghost use Rattle.serv_machine.specs.Stands.{stand};
-ghost use Rattle.serv_top.specs.Lines.{lines_of};
-ghost use Rattle.serv_top.specs.Outcome.{Ends};
-ghost use Rattle.serv_top.specs.Upheld.{AreSaidFirst, IsAcknowledged};
+ghost use Rattle.serv_machine.specs.History.{stand};
+ghost use Rattle.serv_machine.specs.Answering.{Leaves};
+ghost use Rattle.serv_machine.specs.Sayings.{SaidFirst};
+ghost use Rattle.serv_top.specs.Lines.{IsAcknowledged, Says, lines_of};
+ghost use Rattle.serv_top.specs.Outcome.{Ended};
 
 use crate::serving::Serving;
 use crate::status::Status;
@@ -33,10 +34,11 @@ pub(crate) fn serve<D: Disk, M: Machine<D>, S: Source, K: Sink, L: Ledger>(
     steps: &mut Steps<L>,
 ) -> Status
     requires { M.ready machine.old disk.old }
-    ensures ends { Ends D.images D.moment D.images_since disk.old disk.new waiting result
-        (stand (M.history machine.old) steps.old) (stand (M.kept machine.new) steps.new)
-        (S.left src.old) (S.left src.new) (K.held snk.old) (K.held snk.new) }
-    ensures acknowledged { IsAcknowledged (λ taken. AreSaidFirst (lines_of taken)) (D.moment disk.new)
+    ensures ends { Leaves D.images D.moment D.images_since disk.old disk.new (λ pending. Ended waiting result
+        (stand (M.history machine.old) steps.old) (stand (M.kept machine.new) steps.new) pending
+        (S.left src.old) (S.left src.new) (K.held snk.old) (K.held snk.new))
+        (M.history machine.old) (M.kept machine.new) }
+    ensures acknowledged { IsAcknowledged (λ taken. SaidFirst Says (lines_of taken)) (D.moment disk.new)
         (D.images_since disk.new) (M.kept machine.new) (M.history machine.old)
         (S.left src.old) (S.left src.new) (K.held snk.old) (K.log snk.old) (K.log snk.new) }
     ensures read { result ≡ Status.ReadFault → HasRisen (S.faults src.old) (S.faults src.new) }

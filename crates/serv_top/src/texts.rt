@@ -8,14 +8,15 @@ ghost use Rattle.svc_world.specs.World.{world};
 ghost use Rattle.svc_core.specs.Bound.{query_bound};
 ghost use Rattle.serv_disk.specs.Faults.{HasRisen};
 ghost use Rattle.serv_machine.specs.History.{in_store, Memory};
-ghost use Rattle.serv_machine.specs.Replies.{reply_to_request};
+ghost use Rattle.serv_machine.specs.Verdicts.{reply_to_request};
+ghost use Rattle.serv_words.specs.Asked.{IsShowing, IsText};
+ghost use Rattle.serv_words.specs.Asked as asked;
 ghost use Rattle.serv_top.specs.Imported.{IsUnread};
 ghost use Rattle.serv_top.specs.Journal.{HasFileFaults, IsUnopened};
 ghost use Rattle.serv_top.specs.Status.{status_of_asking};
-ghost use Rattle.serv_top.specs.Texts.{IsAnswerText, IsInput, IsLacking, IsShowing, IsText, IsTextOf, IsTextOver, WritesText, text_bound};
-ghost use Rattle.serv_top.specs.Texts as texts;
+ghost use Rattle.serv_top.specs.Texts.{IsAnswerText, IsInput, IsLacking, IsTextOf, IsTextOver, WritesText, text_bound};
 
-use crate::extracts::Extract;
+use crate::extracts::extract_text;
 use crate::importing::read_all;
 use crate::over_journal::open_journal;
 use crate::status::Status;
@@ -24,6 +25,7 @@ use serv_disk::{Disk, Sink, Source};
 use serv_engine::Engine;
 use serv_machine::{Machine, decide_query, push_verdict};
 use serv_report::write_answer;
+use serv_words::Text;
 use std::alloc::Global;
 use std::mem::forget;
 use std::sync::ledger::Ledger;
@@ -31,29 +33,6 @@ use svc_base::{OutOfMemory, Steps};
 use svc_checkpoint::Checked;
 use svc_core::CoreFault;
 use svc_types::{Query, Refusal};
-
-/// A text that is written over a journal.
-#[derive(Clone, Copy, Debug, PartialEq, Eq)]
-pub(crate) enum Text {
-    /// The answer to a query: a month's report, its balances, or the line of the custodial accounts.
-    Show(Query),
-    /// The reply to a query, as its line has it.
-    Ask(Query),
-    /// A text that is made of the journal's commands, and of the input where it is about it.
-    Make(Extract),
-}
-
-impl Text {
-    /// Whether the input is read for it.
-    pub(crate) fn reads_input(&self) -> bool
-        ensures { result ≡ texts.reads_input self.now }
-    {
-        match self {
-            Text::Show(_) | Text::Ask(_) => false,
-            Text::Make(extract) => extract.is_about_input(),
-        }
-    }
-}
 
 /// Opens the journal of the disk, reads the whole source where the text is about it, and writes the text in one go.
 pub(crate) fn write_over_journal<S: Source, K: Sink, D: Disk, L: Ledger>(
@@ -69,7 +48,7 @@ pub(crate) fn write_over_journal<S: Source, K: Sink, D: Disk, L: Ledger>(
         steps.old steps.new × (src.new ≡ src.old) × (snk.new ≡ snk.old))
         ⊎ IsTextOver D.seen D.images D.moment D.images_since disk.old disk.new result text.now
         steps.old steps.new (S.left src.old) (S.left src.new) (K.held snk.old) (K.held snk.new) }
-    ensures unread { texts.reads_input text.now ≢ true → src.new ≡ src.old }
+    ensures unread { asked.reads_input text.now ≢ true → src.new ≡ src.old }
     ensures idle { (last : Option ℕ) → result ≡ Status.NoReport last → snk.new ≡ snk.old }
     ensures file { HasFileFaults (D.seen disk.old) result }
     ensures read { result ≡ Status.ReadFault → HasRisen (S.faults src.old) (S.faults src.new) }
@@ -102,7 +81,7 @@ fn write_by<S: Source, K: Sink, D: Disk, L: Ledger>(
     requires { IsText text.now }
     ensures writes { WritesText result text.now engine.now.history steps.old steps.new
         (S.left src.old) (S.left src.new) (K.held snk.old) (K.held snk.new) }
-    ensures unread { texts.reads_input text.now ≢ true → src.new ≡ src.old }
+    ensures unread { asked.reads_input text.now ≢ true → src.new ≡ src.old }
     ensures idle { (last : Option ℕ) → result ≡ Status.NoReport last → snk.new ≡ snk.old }
     ensures read { result ≡ Status.ReadFault → HasRisen (S.faults src.old) (S.faults src.new) }
     ensures write { result ≡ Status.WriteFault → HasRisen (K.faults snk.old) (K.faults snk.new) }
@@ -122,12 +101,12 @@ fn write_by<S: Source, K: Sink, D: Disk, L: Ledger>(
 /// What is read for a text: the whole source, or nothing.
 fn input_for<S: Source>(alloc: Global, text: &Text, src: &mut S) -> Result<Vec<u8>, Status>
     ensures input { IfOk result (λ v. Consumes (S.left src.old) (S.left src.new) v.items
-        × IsInput (texts.reads_input text.now) v.items (S.left src.new)) }
+        × IsInput (asked.reads_input text.now) v.items (S.left src.new)) }
     ensures few { IfOk result (λ v. length v.items ≤ 2 ^ 26) }
     ensures unread { IfErr result (λ status. (taken : List ℕ)
         × Consumes (S.left src.old) (S.left src.new) taken × IsUnread status taken) }
-    ensures reads { IfErr result (λ status. texts.reads_input text.now ≡ true) }
-    ensures same { texts.reads_input text.now ≢ true → src.new ≡ src.old }
+    ensures reads { IfErr result (λ status. asked.reads_input text.now ≡ true) }
+    ensures same { asked.reads_input text.now ≢ true → src.new ≡ src.old }
     ensures cause { result ≡ Err Status.ReadFault → HasRisen (S.faults src.old) (S.faults src.new) }
     ensures later { S.faults src.old ≤ S.faults src.new }
 {
@@ -158,7 +137,7 @@ fn text_by<D: Disk, L: Ledger>(
             Ok(whole) => Ok(whole),
             Err(_) => Err(Status::OutOfMemory),
         },
-        Text::Make(extract) => match extract.text(alloc, engine.core(), input, steps) {
+        Text::Make(extract) => match extract_text(alloc, *extract, engine.core(), input, steps) {
             Ok(whole) => Ok(whole),
             Err(_) => Err(Status::OutOfMemory),
         },
@@ -197,7 +176,7 @@ fn unanswered(fault: CoreFault) -> Status
 }
 
 /// The text of the reply to a query: its answer, or the rule that refuses it.
-#[tactic(auto, unfolding(serv_machine::specs::Replies::reply_to_request, serv_machine::specs::Verdicts::verdict_to, serv_machine::specs::Replies::bound_of_request))]
+#[tactic(auto, unfolding(serv_machine::specs::Verdicts::reply_to_request, serv_machine::specs::Verdicts::verdict_to, serv_machine::specs::Verdicts::bound_of_request))]
 fn reply_text<D: Disk, M: Machine<D>, L: Ledger>(
     alloc: Global,
     machine: &M,

@@ -2,7 +2,7 @@
 
 ghost use Rattle.std.specs.Prelude.{◌≡◌, ◌≤◌};
 ghost use Rattle.serv_disk.specs.Faults.{HasRisen};
-ghost use Rattle.serv_top.specs.Written.{Writes};
+ghost use Rattle.serv_top.specs.Texts.{Writes};
 
 use crate::status::Status;
 use serv_disk::{Sink, write_whole};

@@ -1,12 +1,13 @@
-use Rattle.std.proofs.Common.{◌++◌, [], refl, sym, inr, append-nil}
+use Rattle.std.proofs.Common.{◌++◌, refl, inl, inr}
+use Rattle.serv_disk.specs.Faults.{HasRisen}
+use Rattle.serv_machine.specs.History.{stand}
 use Rattle.serv_machine.proofs.OnDiskLemmas.{disk_none}
-use Rattle.serv_machine.proofs.UpheldLemmas.{commands_kept, upheld_wider}
-use Rattle.serv_links.specs.Answered.{AreAnswers, AreAnswersIn}
-use Rattle.serv_links.proofs.AnsweredLemmas.{none_read}
-use Rattle.serv_machine.specs.Stands.{stand}
-use Rattle.serv_links.specs.Responses.{response_503}
+use Rattle.serv_machine.proofs.UpheldLemmas.{upheld_wider}
+use Rattle.serv_links.specs.Outcomes.{AreAnswers, AreAnswersOf, AreRead}
+use Rattle.serv_links.proofs.AnsweredLemmas.{unread_upheld}
 use Rattle.serv_links.proofs.AskLemmas.{asks_are}
-use Rattle.serv_links.proofs.RoundLemmas.{piece_of, unread_here, writes_as}
+use Rattle.serv_links.proofs.RoundLemmas.{piece_of, unread_ended}
+use Rattle.serv_machine.proofs.GatheredLemmas.{writes_as}
 use Rattle.serv_links.proofs.answering.serve_piece.Goals as goal
 
 pub answer_all-requires-clause-asks : goal.answer_all-requires-clause-asks
@@ -23,17 +24,18 @@ returns-in-Ok-clause-piece g c = λ s stands.
 
 pub returns-in-Err-clause-piece : goal.returns-in-Err-clause-piece
 returns-in-Err-clause-piece g c = λ s stands.
-    unread_here g.D.Disk.images g.D.Disk.moment g.D.Disk.images_since _ c.args.disk.now (s ++ c.args.piece.now) c.feed.new.self (stand (g.M.Machine.kept c.args.machine.now) c.args.steps.now)
-    (g.K.Sink.held c.args.link.now) (g.K.Sink.held c.write_no_memory.new.link) c.write_no_memory.ensures.front
+    unread_ended g.D.Disk.images g.D.Disk.moment g.D.Disk.images_since (AreRead (s ++ c.args.piece.now)) (inl refl) (HasRisen (g.K.Sink.faults c.args.link.now) (g.K.Sink.faults c.write_last.new.link)) c.args.disk.now
+    (stand (g.M.Machine.kept c.args.machine.now) c.args.steps.now) (g.K.Sink.held c.args.link.now) (g.K.Sink.held c.write_last.new.link) c.write_last.ensures.front
     (disk_none g.D.Disk.images g.D.Disk.moment g.D.Disk.images_since c.args.disk.now _ _ refl (g.met.M.Machine.keeps_running c.args.machine.now c.args.disk.now (g.met.M.Machine.settled c.args.machine.now c.args.disk.now c.requires.ready).0) (g.met.D.Disk.only_now c.args.disk.now))
 
 pub returns-in-Ok-clause-upheld : goal.returns-in-Ok-clause-upheld
 returns-in-Ok-clause-upheld g c = λ s stands.
     let fed = c.in-Ok.ensures.asks s stands in
-    upheld_wider (AreAnswers c.in-Ok.asks.items (g.M.Machine.kept c.args.machine.now)) (AreAnswersIn (g.M.Machine.kept c.args.machine.now) (s ++ c.args.piece.now)) _ _ _
+    upheld_wider (AreAnswers c.in-Ok.asks.items (g.M.Machine.kept c.args.machine.now)) (AreAnswersOf (AreRead (s ++ c.args.piece.now)) (g.M.Machine.kept c.args.machine.now)) _ _ _
     (λ bytes commands is. record { asks = c.in-Ok.asks.items; known = inr (fed.0, fed.1); answers = is }) _ _ _ (rw c.deref.ensures.value at c.answer_all.ensures.upheld)
 
 pub returns-in-Err-clause-upheld : goal.returns-in-Err-clause-upheld
 returns-in-Err-clause-upheld g c = λ s stands.
-    none_read g.D.Disk.images g.D.Disk.moment g.D.Disk.images_since c.args.disk.now (g.met.D.Disk.only_now c.args.disk.now) _ _ _ (g.M.Machine.kept c.args.machine.now) _ [] (s ++ c.args.piece.now) response_503 (sym (append-nil _))
-    (commands_kept (g.D.Disk.images c.args.disk.now) _ (g.met.M.Machine.keeps_running c.args.machine.now c.args.disk.now (g.met.M.Machine.settled c.args.machine.now c.args.disk.now c.requires.ready).0)) (inr (inr refl)) c.write_no_memory.ensures.noted
+    unread_upheld g.D.Disk.images g.D.Disk.moment g.D.Disk.images_since c.args.disk.now (g.met.D.Disk.only_now c.args.disk.now) (AreRead (s ++ c.args.piece.now)) (inl refl) (stand (g.M.Machine.kept c.args.machine.now) c.args.steps.now) _ _ _
+    (disk_none g.D.Disk.images g.D.Disk.moment g.D.Disk.images_since c.args.disk.now _ _ refl (g.met.M.Machine.keeps_running c.args.machine.now c.args.disk.now (g.met.M.Machine.settled c.args.machine.now c.args.disk.now c.requires.ready).0) (g.met.D.Disk.only_now c.args.disk.now))
+    c.write_last.ensures.noted

@@ -1,10 +1,8 @@
 use Rattle.std.proofs.Common.{refl, sym, subst, ◌∙◌, arith}
 use Rattle.std.proofs.lemmas.Bool.{false_from_ne_true}
-use Rattle.serv_machine.specs.History.{History}
-use Rattle.serv_machine.specs.Engines.{history_of, kept_history}
+use Rattle.serv_machine.specs.History.{History, history_of, kept_history, stand}
 use Rattle.serv_machine.specs.EngineLaws.{durable_kept, durable_whole}
 use Rattle.serv_machine.proofs.OnDiskLemmas.{disk_none}
-use Rattle.serv_machine.specs.Stands.{stand}
 use Rattle.serv_links.proofs.DoorsLemmas.{Along, along_none, along_more, along_stops, at_most_one, calm_end, counted_more, disk_end}
 use Rattle.serv_links.proofs.doors.serve_doors.Goals as goal
 

@@ -1,7 +1,6 @@
 use Rattle.std.proofs.Common.{◌≡◌, ◌*◌, ◌^◌, ◌≤◌, false}
 use Rattle.serv_engine.specs.Engines.{IsDurable}
-use Rattle.serv_machine.specs.Engines.{history_of, kept_history}
-use Rattle.serv_machine.specs.Stands.{stand}
+use Rattle.serv_machine.specs.History.{history_of, kept_history, stand}
 use Rattle.serv_links.proofs.DoorsLemmas.{Along}
 use Rattle.serv_links.proofs.doors.serve_doors.Given as goal
 

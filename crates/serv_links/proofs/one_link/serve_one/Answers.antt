@@ -1,10 +1,8 @@
 use Rattle.serv_disk.specs.Faults.{HasRisen}
-use Rattle.serv_machine.specs.History.{History}
-use Rattle.serv_machine.specs.Engines.{kept_history}
+use Rattle.serv_machine.specs.History.{History, kept_history, stand}
 use Rattle.serv_machine.specs.EngineLaws.{durable_kept}
-use Rattle.serv_machine.specs.Stands.{stand}
-use Rattle.serv_machine.specs.Upheld.{Upholds}
-use Rattle.serv_links.specs.Outcomes.{Writes}
+use Rattle.serv_machine.specs.OnDisk.{Upholds}
+use Rattle.serv_machine.specs.Answering.{Writes}
 use Rattle.serv_links.specs.Links.{Serves}
 use Rattle.std.proofs.Common.{subst}
 use Rattle.serv_links.proofs.LinkLemmas.{complete_link}
@@ -22,4 +20,4 @@ returns-clause-served g c =
 
 pub returns-clause-complete : goal.returns-clause-complete
 returns-clause-complete g c = λ input is short reads writes disks.
-    complete_link c.serve_link.result _ _ _ _ _ _ _ c.serve_link.ensures.served.pending c.serve_link.ensures.served.wrote input is short reads writes (λ failed. disks (c.serve_link.ensures.stopped failed)) c.serve_link.ensures.served.says_so
+    complete_link c.serve_link.result _ _ _ _ _ _ _ c.serve_link.ensures.served.pending c.serve_link.ensures.served.written input is short reads writes (λ failed. disks (c.serve_link.ensures.stopped failed)) c.serve_link.ensures.served.says_so

@@ -1,26 +1,22 @@
-use Rattle.std.proofs.Common.{◌≡◌, ◌+◌, ◌≤◌, [], take, refl, sym, ◌∙◌, arith, inr, append-nil}
+use Rattle.std.proofs.Common.{◌≡◌, ◌+◌, ◌≤◌, take, refl, sym, ◌∙◌, arith}
 use Rattle.std.proofs.lemmas.Bool.{both_ways}
+use Rattle.serv_disk.specs.Faults.{HasRisen}
 use Rattle.serv_machine.specs.declared.faults.Stop.TheVariants as stop
-use Rattle.serv_machine.specs.Upheld.{Upholds}
+use Rattle.serv_machine.specs.OnDisk.{Upholds}
 use Rattle.serv_machine.proofs.OnDiskLemmas.{disk_none}
-use Rattle.serv_machine.proofs.UpheldLemmas.{commands_kept}
 use Rattle.serv_links.specs.Links.{link_limit}
-use Rattle.serv_machine.specs.Stands.{stand}
-use Rattle.serv_links.specs.Responses.{response_503}
-use Rattle.serv_links.proofs.AnsweredLemmas.{none_taken}
+use Rattle.serv_machine.specs.History.{stand}
 use Rattle.serv_links.proofs.GoingLemmas.{stopped_as, same_left, same_reads, same_held, same_writes, same_log, starved_at_once, going_none, run_ends, run_breaks, run_broken, run_disk, run_memory, run_passes, run_cut, run_over, run_goes}
 use Rattle.serv_links.proofs.RoundLemmas.{risen_last}
 use Rattle.serv_links.proofs.serving.serve_link.Goals as goal
 
 pub returns-in_default-clause-served : goal.returns-in_default-clause-served
 returns-in_default-clause-served g c =
-    let kept : g.C.Source.left c.write_no_memory.new.link ≡ g.C.Source.left c.args.link.now =
-    same_left (g.C.Sink.beside c.args.link.now) (g.C.Sink.beside c.write_no_memory.new.link) _ _ _ _ (g.met.C.Link.reading c.args.link.now) (g.met.C.Link.reading c.write_no_memory.new.link) c.write_no_memory.ensures.beside in
-    let has = g.met.M.Machine.keeps_running c.args.machine.now c.args.disk.now (g.met.M.Machine.settled c.args.machine.now c.args.disk.now c.requires).0 in
-    let up =
-    none_taken g.D.Disk.images g.D.Disk.moment g.D.Disk.images_since c.args.disk.now (g.met.D.Disk.only_now c.args.disk.now) _ _ _ (g.M.Machine.kept c.args.machine.now) _ [] response_503 (sym (append-nil _))
-    (commands_kept (g.D.Disk.images c.args.disk.now) _ has) (inr (inr refl)) c.write_no_memory.ensures.noted in
-    starved_at_once g.D.Disk.images g.D.Disk.moment g.D.Disk.images_since c.args.disk.now _ _ _ _ _ _ _ (stand (g.M.Machine.kept c.args.machine.now) c.args.steps.now) up kept c.write_no_memory.ensures.front
+    let kept : g.C.Source.left c.write_last.new.link ≡ g.C.Source.left c.args.link.now =
+    same_left (g.C.Sink.beside c.args.link.now) (g.C.Sink.beside c.write_last.new.link) _ _ _ _ (g.met.C.Link.reading c.args.link.now) (g.met.C.Link.reading c.write_last.new.link) c.write_last.ensures.beside in
+    starved_at_once g.D.Disk.images g.D.Disk.moment g.D.Disk.images_since c.args.disk.now (g.met.D.Disk.only_now c.args.disk.now)
+    (HasRisen (g.C.Source.faults c.args.link.now) (g.C.Source.faults c.write_last.new.link)) (HasRisen (g.C.Sink.faults c.args.link.now) (g.C.Sink.faults c.write_last.new.link)) _ _ _ _ _ _ (stand (g.M.Machine.kept c.args.machine.now) c.args.steps.now)
+    kept c.write_last.ensures.front c.write_last.ensures.noted
     (disk_none g.D.Disk.images g.D.Disk.moment g.D.Disk.images_since c.args.disk.now _ _ refl (g.met.M.Machine.keeps_running c.args.machine.now c.args.disk.now (g.met.M.Machine.settled c.args.machine.now c.args.disk.now c.requires).0) (g.met.D.Disk.only_now c.args.disk.now))
 
 pub pieces-init : goal.pieces-init

@@ -1,7 +1,7 @@
 use Rattle.std.proofs.Common.{◌-◌, ◌^◌, ◌<◌, ◌≤◌}
-use Rattle.serv_machine.specs.Upheld.{Upholds}
-use Rattle.serv_machine.specs.Stands.{stand}
-use Rattle.serv_links.specs.Outcomes.{Writes}
+use Rattle.serv_machine.specs.OnDisk.{Upholds}
+use Rattle.serv_machine.specs.History.{stand}
+use Rattle.serv_machine.specs.Answering.{Writes}
 use Rattle.serv_links.proofs.GoingLemmas.{Going}
 use Rattle.serv_links.proofs.serving.serve_link.Given as goal
 

@@ -7,8 +7,8 @@ returns-in_err-answer_query-in-Ask-clause-disk g c = λ other.
     disk_none g.D.Disk.images g.D.Disk.moment g.D.Disk.images_since c.args.disk.now _ _ (g.met.M.Machine.settled c.args.machine.now c.args.disk.now c.requires.ready).1
     (g.met.M.Machine.keeps c.args.machine.now c.args.disk.now c.requires.ready) (g.met.D.Disk.only_now c.args.disk.now)
 
-pub returns-in_err-answer_query-in-Ask-clause-near : goal.returns-in_err-answer_query-in-Ask-clause-near
-returns-in_err-answer_query-in-Ask-clause-near g c = λ starved. inl (g.met.M.Machine.settled c.args.machine.now c.args.disk.now c.requires.ready).1
+pub returns-in_err-answer_query-in-Ask-clause-kept : goal.returns-in_err-answer_query-in-Ask-clause-kept
+returns-in_err-answer_query-in-Ask-clause-kept g c = λ other. inl (g.met.M.Machine.settled c.args.machine.now c.args.disk.now c.requires.ready).1
 
 pub returns-in_err-answer_query-in-Ask-clause-running : goal.returns-in_err-answer_query-in-Ask-clause-running
 returns-in_err-answer_query-in-Ask-clause-running g c = λ other. (g.met.M.Machine.settled c.args.machine.now c.args.disk.now c.requires.ready).0
@@ -18,8 +18,8 @@ returns-in_ok-answer_query-in-Ask-clause-disk g c = λ other.
     disk_none g.D.Disk.images g.D.Disk.moment g.D.Disk.images_since c.args.disk.now _ _ (g.met.M.Machine.settled c.args.machine.now c.args.disk.now c.requires.ready).1
     (g.met.M.Machine.keeps c.args.machine.now c.args.disk.now c.requires.ready) (g.met.D.Disk.only_now c.args.disk.now)
 
-pub returns-in_ok-answer_query-in-Ask-clause-held : goal.returns-in_ok-answer_query-in-Ask-clause-held
-returns-in_ok-answer_query-in-Ask-clause-held g c = inl (g.met.M.Machine.settled c.args.machine.now c.args.disk.now c.requires.ready).1
+pub returns-in_ok-answer_query-in-Ask-clause-kept : goal.returns-in_ok-answer_query-in-Ask-clause-kept
+returns-in_ok-answer_query-in-Ask-clause-kept g c = λ other. inl (g.met.M.Machine.settled c.args.machine.now c.args.disk.now c.requires.ready).1
 
 pub returns-in_ok-answer_query-in-Ask-clause-running : goal.returns-in_ok-answer_query-in-Ask-clause-running
 returns-in_ok-answer_query-in-Ask-clause-running g c = λ other. (g.met.M.Machine.settled c.args.machine.now c.args.disk.now c.requires.ready).0

@@ -1,7 +1,7 @@
 use Rattle.std.proofs.Common.{[], refl, arith, inl}
 use Rattle.std.proofs.KnownBytes.{Appends-nil}
 use Rattle.serv_machine.proofs.OnDiskLemmas.{disk_none}
-use Rattle.serv_top.proofs.ImportLemmas.{batch_rows, file_rows, file_headless}
+use Rattle.serv_top.proofs.ImportLemmas.{batch_rows, file_says}
 use Rattle.serv_top.specs.Imported.{rows, headless}
 use Rattle.serv_machine.proofs.UpheldLemmas.{upheld_none}
 use Rattle.serv_top.proofs.AnsweredLemmas.{file_written}
@@ -12,18 +12,18 @@ answer_rows-requires-clause-rows g c = rw c.deref.ensures.value (batch_rows _ _ 
 
 pub returns-in-Ok-clause-ends : goal.returns-in-Ok-clause-ends
 returns-in-Ok-clause-ends g c =
-    file_rows g.D.Disk.images g.D.Disk.moment g.D.Disk.images_since _ _ _ _ _ _ _ _ _ c.in-Ok.ensures.read (rw c.deref.ensures.value at c.answer_rows.ensures.ends)
+    file_says g.D.Disk.images g.D.Disk.moment g.D.Disk.images_since _ _ _ _ _ _ _ _ _ (rows _ c.in-Ok.ensures.read) (rw c.deref.ensures.value at c.answer_rows.ensures.ends)
 
 pub returns-in-Err-Header-clause-ends : goal.returns-in-Err-Header-clause-ends
 returns-in-Err-Header-clause-ends g c =
-    file_headless g.D.Disk.images g.D.Disk.moment g.D.Disk.images_since _ _ _ _ _ _ _ _ ((rw c.in-Err-Header.field-0-is at c.in-Err-Header.ensures.header) refl) c.answer_rows-in-Err-Header.ensures.ends
+    file_says g.D.Disk.images g.D.Disk.moment g.D.Disk.images_since _ _ _ _ _ _ _ _ _ (headless ((rw c.in-Err-Header.field-0-is at c.in-Err-Header.ensures.header) refl)) c.answer_rows-in-Err-Header.ensures.ends
 
 pub returns-in-Err-OutOfMemory-clause-ends : goal.returns-in-Err-OutOfMemory-clause-ends
 returns-in-Err-OutOfMemory-clause-ends g c = record {
   pending = [];
   written = [];
   wrote = Appends-nil _;
-  says = inl (refl, record { none_pending = refl; nothing = refl; stays = ((g.met.M.Machine.settled c.args.machine.now c.args.disk.now c.requires.ready).1, omega arith) });
+  says_so = inl (refl, record { none_pending = refl; nothing = refl; stays = ((g.met.M.Machine.settled c.args.machine.now c.args.disk.now c.requires.ready).1, omega arith) });
   disk = disk_none g.D.Disk.images g.D.Disk.moment g.D.Disk.images_since c.args.disk.now _ _ (g.met.M.Machine.settled c.args.machine.now c.args.disk.now c.requires.ready).1
       (g.met.M.Machine.keeps c.args.machine.now c.args.disk.now c.requires.ready) (g.met.D.Disk.only_now c.args.disk.now);
 }

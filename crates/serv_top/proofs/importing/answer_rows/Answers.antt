@@ -1,12 +1,11 @@
-use Rattle.std.proofs.Common.{take, drop, map, refl, arith, suc, []}
+use Rattle.std.proofs.Common.{◌≡◌, take, drop, map, refl, arith, suc, []}
 use Rattle.std.proofs.lemmas.List.{take_all}
 use Rattle.serv_machine.proofs.OnDiskLemmas.{disk_none, disk_more}
 use Rattle.serv_machine.proofs.UpheldLemmas.{upheld_none}
 use Rattle.serv_top.specs.Imported.{said_of}
-use Rattle.serv_machine.specs.Stands.{running}
-use Rattle.serv_top.specs.Upheld.{AreFirst}
-use Rattle.serv_top.proofs.AnsweredLemmas.{upheld_call}
-use Rattle.serv_top.proofs.GatheredLemmas.{gathered_none}
+use Rattle.serv_machine.specs.History.{running}
+use Rattle.serv_machine.proofs.AnsweringLemmas.{first_exact, upheld_call}
+use Rattle.serv_machine.proofs.GatheredLemmas.{gathered_none}
 use Rattle.serv_top.proofs.ImportLemmas.{first_rows, rows_settled, rows_stopped, next_item, item_at, is_row}
 use Rattle.serv_top.proofs.importing.answer_rows.Goals as goal
 
@@ -37,8 +36,8 @@ loop-row-preserved g c =
     let next = rw (inv.waiting, c.said_of.ensures.said) at c.in-Ok.ensures in
     record {
       gathers = rw (next_item list i item c.row-item.is c.loop-row-test.true) (next.gathered (map said_of (take i list)) _ _ inv.gathers);
-      upheld = upheld_call g.D.Disk.images g.D.Disk.moment g.D.Disk.images_since c.loop-row.disk c.act.new.disk _ _ [] c.in-Ok.ensures.disk (AreFirst _) (AreFirst (map said_of list)) _ _ _ _ _
-          (first_rows (map said_of list) (map said_of (take i list)) (map said_of (drop (suc i) list)) (said_of item) (item_at list i item c.row-item.is c.loop-row-test.true)) inv.upheld
+      upheld = upheld_call g.D.Disk.images g.D.Disk.moment g.D.Disk.images_since c.loop-row.disk c.act.new.disk _ _ [] c.in-Ok.ensures.disk _ (λ saids. saids ≡ map said_of list) _ _ _ _ _
+          (λ done first. first_rows (map said_of list) (map said_of (take i list)) (map said_of (drop (suc i) list)) (said_of item) (item_at list i item c.row-item.is c.loop-row-test.true) done [] first) inv.upheld
           (said.upheld (map said_of (take i list)) _ _ inv.gathers);
       disk = disk_more g.D.Disk.images g.D.Disk.moment g.D.Disk.images_since _ _ _ _ _ _ _ inv.disk c.in-Ok.ensures.disk;
       running = c.in-Ok.ensures.running;
@@ -66,8 +65,8 @@ returns-in-Err-clause-upheld g c =
     let inv = c.loop-row.invariant in
     let said = rw (inv.waiting, c.said_of.ensures.said) at c.act.ensures in
     let stops = (rw (inv.waiting, c.said_of.ensures.said) at c.in-Err.ensures.stopped) (map said_of (take i list)) _ _ inv.gathers in
-    upheld_call g.D.Disk.images g.D.Disk.moment g.D.Disk.images_since c.loop-row.disk c.act.new.disk _ _ stops.pending stops.disk (AreFirst _) (AreFirst (map said_of list)) _ _ _ _ _
-    (first_rows (map said_of list) (map said_of (take i list)) (map said_of (drop (suc i) list)) (said_of item) (item_at list i item c.row-item.is c.loop-row-test.true)) inv.upheld
+    upheld_call g.D.Disk.images g.D.Disk.moment g.D.Disk.images_since c.loop-row.disk c.act.new.disk _ _ stops.pending stops.disk _ (λ saids. saids ≡ map said_of list) _ _ _ _ _
+    (λ done first. first_rows (map said_of list) (map said_of (take i list)) (map said_of (drop (suc i) list)) (said_of item) (item_at list i item c.row-item.is c.loop-row-test.true) done [] first) inv.upheld
     (said.upheld (map said_of (take i list)) _ _ inv.gathers)
 
 pub returns-in-Ok-let_go-clause-ends : goal.returns-in-Ok-let_go-clause-ends
@@ -77,7 +76,7 @@ returns-in-Ok-let_go-clause-ends g c =
     let all = rw (take_all c.loop-row.row-index list (omega (arith, c.loop-row-test.false))) at inv.gathers in
     rows_settled g.D.Disk.images g.D.Disk.moment g.D.Disk.images_since c.args.disk.now c.loop-row.disk c.let_go.new.disk (map said_of list) _ _ (g.M.Machine.kept c.loop-row.machine) _ _ inv.disk
     (running (g.M.Machine.history c.let_go.new.machine) (g.M.Machine.kept c.let_go.new.machine) c.loop-row.steps) _ refl
-    (g.met.M.Machine.settled c.let_go.new.machine c.let_go.new.disk c.in-Ok-let_go.ensures.ready).1 c.in-Ok-let_go.ensures.few
+    (g.met.M.Machine.settled c.let_go.new.machine c.let_go.new.disk c.in-Ok-let_go.ensures.settled).1 c.in-Ok-let_go.ensures.few
     ((rw inv.waiting at c.in-Ok-let_go.ensures.gathered) (map said_of list) _ _ _ all) c.in-Ok-let_go.ensures.disk
 
 pub returns-in-Ok-let_go-clause-upheld : goal.returns-in-Ok-let_go-clause-upheld
@@ -85,8 +84,8 @@ returns-in-Ok-let_go-clause-upheld g c =
     let list = c.args.rows.now in
     let inv = c.loop-row.invariant in
     let all = rw (take_all c.loop-row.row-index list (omega (arith, c.loop-row-test.false))) at inv.gathers in
-    upheld_call g.D.Disk.images g.D.Disk.moment g.D.Disk.images_since c.loop-row.disk c.let_go.new.disk _ _ [] c.in-Ok-let_go.ensures.disk (AreFirst (map said_of list)) (AreFirst (map said_of list)) _ _ _ _ _
-    (λ said is. is) inv.upheld ((rw inv.waiting at c.let_go.ensures.upheld) (map said_of list) _ _ _ all)
+    upheld_call g.D.Disk.images g.D.Disk.moment g.D.Disk.images_since c.loop-row.disk c.let_go.new.disk _ _ [] c.in-Ok-let_go.ensures.disk _ (λ saids. saids ≡ map said_of list) _ _ _ _ _
+    (λ done is. is) inv.upheld ((rw inv.waiting at c.let_go.ensures.upheld) (map said_of list) _ _ _ all)
 
 pub returns-clause-ends : goal.returns-clause-ends
 returns-clause-ends g c =
@@ -94,7 +93,7 @@ returns-clause-ends g c =
     let inv = c.loop-row.invariant in
     let all = rw (take_all c.loop-row.row-index list (omega (arith, c.loop-row-test.false))) at inv.gathers in
     rw c.from-in-Err-let_go.ensures
-    (rows_stopped g.D.Disk.images g.D.Disk.moment g.D.Disk.images_since c.args.disk.now c.loop-row.disk c.let_go.new.disk (map said_of list) _ _ _ _ _ inv.disk c.in-Err-let_go.stop (map said_of list) (λ said is. is)
+    (rows_stopped g.D.Disk.images g.D.Disk.moment g.D.Disk.images_since c.args.disk.now c.loop-row.disk c.let_go.new.disk (map said_of list) _ _ _ _ _ inv.disk c.in-Err-let_go.stop _ (λ done ahead is. first_exact (map said_of list) done ahead is)
     ((rw inv.waiting at c.in-Err-let_go.ensures.stopped) (map said_of list) _ _ _ all))
 
 pub returns-clause-upheld : goal.returns-clause-upheld
@@ -103,5 +102,5 @@ returns-clause-upheld g c =
     let inv = c.loop-row.invariant in
     let all = rw (take_all c.loop-row.row-index list (omega (arith, c.loop-row-test.false))) at inv.gathers in
     let stops = (rw inv.waiting at c.in-Err-let_go.ensures.stopped) (map said_of list) _ _ _ all in
-    upheld_call g.D.Disk.images g.D.Disk.moment g.D.Disk.images_since c.loop-row.disk c.let_go.new.disk _ _ stops.pending stops.disk (AreFirst (map said_of list)) (AreFirst (map said_of list)) _ _ _ _ _
-    (λ said is. is) inv.upheld ((rw inv.waiting at c.let_go.ensures.upheld) (map said_of list) _ _ _ all)
+    upheld_call g.D.Disk.images g.D.Disk.moment g.D.Disk.images_since c.loop-row.disk c.let_go.new.disk _ _ stops.pending stops.disk _ (λ saids. saids ≡ map said_of list) _ _ _ _ _
+    (λ done is. is) inv.upheld ((rw inv.waiting at c.let_go.ensures.upheld) (map said_of list) _ _ _ all)

@@ -1,17 +1,15 @@
 use Rattle.std.proofs.Common.{◌≡◌, ◌≤◌, [], take, map}
-use Rattle.serv_machine.specs.OnDisk.{OnDisk}
-use Rattle.serv_machine.specs.Stands.{stand, running}
+use Rattle.serv_machine.specs.OnDisk.{OnDisk, Upholds}
+use Rattle.serv_machine.specs.History.{stand, running}
 use Rattle.serv_top.specs.Imported.{said_of}
-use Rattle.serv_top.specs.Serving.{Gathered}
-use Rattle.serv_machine.specs.Upheld.{Upholds}
-use Rattle.serv_top.specs.Upheld.{AreFirst, AreReplies}
+use Rattle.serv_machine.specs.Answering.{AreReplies, Gathered}
 use Rattle.serv_top.proofs.importing.answer_rows.Given as goal
 
 -- the rows so far are answered
 abbrev pub invariant-loop-row : goal.invariant-loop-row
 invariant-loop-row g l = record {
   gathers : Gathered 0 (map said_of (take l.row-index l.rows)) (stand (g.M.Machine.history l.fn.machine) l.fn.steps) (running (g.M.Machine.history l.machine) (g.M.Machine.kept l.machine) l.steps) (g.K.Sink.held l.fn.snk) (g.K.Sink.held l.snk) l.replies.text.items;
-  upheld : Upholds (AreReplies (AreFirst (map said_of l.rows)) (g.M.Machine.history l.fn.machine)) (g.D.Disk.moment l.disk) (g.D.Disk.images_since l.disk) (g.M.Machine.kept l.machine) (g.K.Sink.held l.fn.snk) (g.K.Sink.log l.fn.snk) (g.K.Sink.log l.snk);
+  upheld : Upholds (AreReplies (λ saids. saids ≡ map said_of l.rows) (g.M.Machine.history l.fn.machine)) (g.D.Disk.moment l.disk) (g.D.Disk.images_since l.disk) (g.M.Machine.kept l.machine) (g.K.Sink.held l.fn.snk) (g.K.Sink.log l.fn.snk) (g.K.Sink.log l.snk);
   disk : OnDisk g.D.Disk.images g.D.Disk.moment g.D.Disk.images_since l.fn.disk l.disk (g.M.Machine.history l.fn.machine) (g.M.Machine.kept l.machine) [];
   running : g.M.Machine.running l.machine l.disk;
   waiting : l.replies.waiting ≡ 0;

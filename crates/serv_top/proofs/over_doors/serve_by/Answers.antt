@@ -1,7 +1,6 @@
 use Rattle.std.proofs.Common.{[], refl}
 use Rattle.std.proofs.KnownBytes.{Appends-nil}
-use Rattle.serv_machine.specs.Engines.{history_of, kept_history}
-use Rattle.serv_machine.specs.Stands.{stand}
+use Rattle.serv_machine.specs.History.{history_of, kept_history, stand}
 use Rattle.serv_top.proofs.LinksLemmas.{ended, counts_written}
 use Rattle.serv_top.proofs.over_doors.serve_by.Goals as goal
 

@@ -1,6 +1,6 @@
 use Rattle.std.proofs.Common.{refl, inl, inr}
 use Rattle.serv_journal.proofs.ReadingLemmas.{risen_from}
-use Rattle.serv_machine.specs.Engines.{kept_history}
+use Rattle.serv_machine.specs.History.{kept_history}
 use Rattle.serv_top.proofs.LinksLemmas.{over_engine}
 use Rattle.serv_top.proofs.over_doors.serve_over.Goals as goal
 

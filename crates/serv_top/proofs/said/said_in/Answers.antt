@@ -1,4 +1,4 @@
-use Rattle.serv_top.specs.Machine.{asks, errs}
+use Rattle.serv_top.specs.Lines.{asks, errs}
 use Rattle.serv_top.proofs.said.said_in.Goals as goal
 
 pub returns-in-Ok-clause-says : goal.returns-in-Ok-clause-says

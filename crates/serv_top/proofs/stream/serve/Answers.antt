@@ -2,8 +2,9 @@ use Rattle.std.proofs.Common.{◌≡◌, ◌+◌, ◌<◌, ◌≤◌, ◌++◌, 
 use Rattle.std.proofs.KnownBytes.{Consumes-trans}
 use Rattle.serv_machine.proofs.OnDiskLemmas.{disk_none, disk_more}
 use Rattle.serv_top.specs.Outcome.{input_limit}
-use Rattle.serv_top.specs.Upheld.{AreSaidFirst}
-use Rattle.serv_top.proofs.AnsweredLemmas.{upheld_call}
+use Rattle.serv_machine.specs.Sayings.{SaidFirst}
+use Rattle.serv_top.specs.Lines.{Says}
+use Rattle.serv_machine.proofs.AnsweringLemmas.{upheld_call}
 use Rattle.serv_top.proofs.GoingLemmas.{going_more, upheld_taken, upheld_end, acknowledged}
 use Rattle.serv_machine.proofs.UpheldLemmas.{upheld_none}
 use Rattle.serv_top.proofs.Running.{end_took, course_none, ends_at_bytes, ends_done, ends_at_end, ends_unread, ends_full}
@@ -81,7 +82,7 @@ loop-taken-preserved g c =
     let upheld = rw c.loop-taken.invariant.waiting at c.feed_all.ensures.upheld in
     record {
       going = going_more going bytes n _ _ _ _ _ _ _ _ long c.in-Ok.ensures.taken (fed going.run.taken _ _ going.run.served)
-          (upheld_call g.D.Disk.images g.D.Disk.moment g.D.Disk.images_since c.loop-taken.disk c.feed_all.new.disk _ _ [] c.in-Ok-feed_all.ensures.disk (AreSaidFirst _) (AreSaidFirst _) _ _ _ _ _ (λ said is. is)
+          (upheld_call g.D.Disk.images g.D.Disk.moment g.D.Disk.images_since c.loop-taken.disk c.feed_all.new.disk _ _ [] c.in-Ok-feed_all.ensures.disk _ (SaidFirst Says _) _ _ _ _ _ (λ done is. is)
           (upheld_taken _ _ _ _ _ _ _ going.run.taken bytes going.upheld) (upheld going.run.taken _ _ going.run.served));
       disk = disk_more g.D.Disk.images g.D.Disk.moment g.D.Disk.images_since _ _ _ _ _ _ _ c.loop-taken.invariant.disk c.in-Ok-feed_all.ensures.disk;
       ready = c.in-Ok-feed_all.ensures.ready;
@@ -99,7 +100,7 @@ returns-in-Ok-finish-clause-acknowledged g c =
     let none : c.in-Ok-eq0.field-0 ≡ 0 = omega (arith, c.in-Ok-eq0.field-0-test) in
     let upheld = rw c.loop-taken.invariant.waiting at c.finish.ensures.upheld in
     acknowledged _ _ _ _ _ _ _ _ _ going.run.taken (end_took going.run _ (rw none at c.in-Ok-eq0.ensures.taken))
-    (upheld_call g.D.Disk.images g.D.Disk.moment g.D.Disk.images_since c.loop-taken.disk c.finish.new.disk _ _ [] c.in-Ok-finish.ensures.disk (AreSaidFirst _) (AreSaidFirst _) _ _ _ _ _ (λ said is. is)
+    (upheld_call g.D.Disk.images g.D.Disk.moment g.D.Disk.images_since c.loop-taken.disk c.finish.new.disk _ _ [] c.in-Ok-finish.ensures.disk _ (SaidFirst Says _) _ _ _ _ _ (λ done is. is)
     (upheld_end _ _ _ _ _ _ _ going.run.taken going.upheld) (upheld going.run.taken _ _ going.run.served))
 
 pub returns-in-Err-finish-clause-acknowledged : goal.returns-in-Err-finish-clause-acknowledged
@@ -109,7 +110,7 @@ returns-in-Err-finish-clause-acknowledged g c =
     let upheld = rw c.loop-taken.invariant.waiting at c.finish.ensures.upheld in
     let stops = (rw c.loop-taken.invariant.waiting at c.in-Err-finish.ensures.stopped) going.run.taken _ _ going.run.served in
     acknowledged _ _ _ _ _ _ _ _ _ going.run.taken (end_took going.run _ (rw none at c.in-Ok-eq0.ensures.taken))
-    (upheld_call g.D.Disk.images g.D.Disk.moment g.D.Disk.images_since c.loop-taken.disk c.finish.new.disk _ _ stops.pending stops.disk (AreSaidFirst _) (AreSaidFirst _) _ _ _ _ _ (λ said is. is)
+    (upheld_call g.D.Disk.images g.D.Disk.moment g.D.Disk.images_since c.loop-taken.disk c.finish.new.disk _ _ stops.pending stops.disk _ (SaidFirst Says _) _ _ _ _ _ (λ done is. is)
     (upheld_end _ _ _ _ _ _ _ going.run.taken going.upheld) (upheld going.run.taken _ _ going.run.served))
 
 pub returns-in-Err-feed_all-clause-acknowledged : goal.returns-in-Err-feed_all-clause-acknowledged
@@ -120,7 +121,7 @@ returns-in-Err-feed_all-clause-acknowledged g c =
     let stops = (rw c.loop-taken.invariant.waiting at c.in-Err-feed_all.ensures.stopped) going.run.taken _ _ going.run.served in
     acknowledged _ _ _ _ _ _ _ _ _ (going.run.taken ++ bytes) (Consumes-trans _ _ _ going.run.taken bytes going.run.took c.in-Ok.ensures.taken)
     (upheld_end _ _ _ _ _ _ _ (going.run.taken ++ bytes)
-    (upheld_call g.D.Disk.images g.D.Disk.moment g.D.Disk.images_since c.loop-taken.disk c.feed_all.new.disk _ _ stops.pending stops.disk (AreSaidFirst _) (AreSaidFirst _) _ _ _ _ _ (λ said is. is)
+    (upheld_call g.D.Disk.images g.D.Disk.moment g.D.Disk.images_since c.loop-taken.disk c.feed_all.new.disk _ _ stops.pending stops.disk _ (SaidFirst Says _) _ _ _ _ _ (λ done is. is)
     (upheld_taken _ _ _ _ _ _ _ going.run.taken bytes going.upheld) (upheld going.run.taken _ _ going.run.served)))
 
 pub returns-in-Err-clause-acknowledged : goal.returns-in-Err-clause-acknowledged

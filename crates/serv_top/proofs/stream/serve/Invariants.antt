@@ -1,6 +1,6 @@
 use Rattle.std.proofs.Common.{◌≡◌, ◌-◌, ◌^◌, ◌≤◌, []}
 use Rattle.serv_machine.specs.OnDisk.{OnDisk}
-use Rattle.serv_machine.specs.Stands.{stand, running}
+use Rattle.serv_machine.specs.History.{stand, running}
 use Rattle.serv_top.proofs.GoingLemmas.{Going}
 use Rattle.serv_top.proofs.stream.serve.Given as goal
 

@@ -1,5 +1,6 @@
 use Rattle.std.proofs.Common.{◌∙◌, sym, subst, arith}
-use Rattle.serv_top.specs.Texts.{IsInput, reads_input}
+use Rattle.serv_words.specs.Asked.{reads_input}
+use Rattle.serv_top.specs.Texts.{IsInput}
 use Rattle.serv_top.proofs.TextLemmas.{nothing_read, ok_map}
 use Rattle.serv_top.proofs.texts.input_for.Goals as goal
 

@@ -1,7 +1,7 @@
 use Rattle.std.proofs.Common.{refl, sym, ap, ◌∙◌}
 use Rattle.std.specs.Prelude.{Some}
-use Rattle.serv_top.specs.declared.texts.Text.TheVariants.{Ask}
-use Rattle.serv_top.proofs.AskLemmas.{asks_none}
+use Rattle.serv_words.specs.declared.texts.Text.TheVariants.{Ask}
+use Rattle.serv_words.proofs.AskLemmas.{asks_none}
 use Rattle.serv_top.proofs.EndLemmas.{init_ends, session_ends}
 use Rattle.serv_top.proofs.ImportLemmas.{complete_import}
 use Rattle.serv_top.proofs.LinksLemmas.{complete_served}

@@ -6,7 +6,7 @@ use Rattle.svc_world.specs.Judging.{IsHistory}
 use Rattle.svc_core.proofs.CoreLemmas.{history_more}
 use Rattle.serv_engine.specs.Engines.{reply_of}
 use Rattle.serv_engine.proofs.RunningLemmas.{none_kept_of, none_begun_of}
-use Rattle.serv_machine.specs.Engines.{kept_history}
+use Rattle.serv_machine.specs.History.{kept_history}
 use Rattle.serv_machine.specs.EngineLaws.{durable_kept, durable_runs, running_whole}
 use Rattle.serv_machine.specs.OnDisk.{OnDisk}
 use Rattle.serv_machine.proofs.EngineLemmas.{long_enough, running_base, act_reply, act_fault_is, act_after, kept_but, kept_behind, same_held, taken_disk, kept_disk, stopped_disk, err_same, disk_fault_is, fault_fresh}

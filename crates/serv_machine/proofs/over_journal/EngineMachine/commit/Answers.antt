@@ -5,7 +5,7 @@ use Rattle.serv_disk.specs.Disks.{Each}
 use Rattle.serv_journal.specs.Disks.{gate_of}
 use Rattle.serv_engine.specs.Histories.{lines_of_history}
 use Rattle.serv_engine.specs.Engines.{kept_of, begun_of}
-use Rattle.serv_machine.specs.Engines.{history_of}
+use Rattle.serv_machine.specs.History.{history_of}
 use Rattle.serv_machine.specs.OnDisk.{HasHistory}
 use Rattle.serv_machine.specs.EngineLaws.{durable_whole}
 use Rattle.serv_machine.proofs.EngineLemmas.{behind_disk, torn_disk, same_history}

@@ -2,10 +2,11 @@ use Rattle.std.proofs.Common.{◌≡◌, ◌++◌, [], take, refl, sym, arith, a
 use Rattle.std.proofs.lemmas.List.{take_all, take_rest}
 use Rattle.std.proofs.lemmas.Result.{on_ok_weaker, IfErr-weaker}
 use Rattle.serv_machine.proofs.OnDiskLemmas.{disk_none, disk_more}
-use Rattle.serv_top.specs.Upheld.{AreFirst, AreSaidFirst}
+use Rattle.serv_machine.specs.Sayings.{AreFirst, SaidFirst}
+use Rattle.serv_top.specs.Lines.{Says}
 use Rattle.serv_machine.proofs.UpheldLemmas.{upheld_none}
-use Rattle.serv_top.proofs.AnsweredLemmas.{upheld_call, upheld_result}
-use Rattle.serv_top.proofs.GatheredLemmas.{stops_after}
+use Rattle.serv_machine.proofs.AnsweringLemmas.{first_exact, upheld_call, upheld_result}
+use Rattle.serv_machine.proofs.GatheredLemmas.{stops_after}
 use Rattle.serv_top.proofs.PlainLemmas.{part_more, part_rest}
 use Rattle.serv_top.proofs.ServedLemmas.{first_here, none_more, served_gone}
 use Rattle.serv_top.proofs.serving.Serving.feed_all.Goals as goal
@@ -38,7 +39,7 @@ loop-at-preserved g c =
           rw (sym (part_more before bytes at n)) (fed (before ++ take at bytes) s held (inv.served before s held run));
       upheld = λ before s held run.
           let next = rw inv.waiting at (rw take_rest at c.feed_some.ensures.upheld) in
-          upheld_call g.D.Disk.images g.D.Disk.moment g.D.Disk.images_since c.loop-at.disk c.feed_some.new.disk _ _ [] said.disk (AreSaidFirst _) (AreSaidFirst _) s.history held _ _ _ (λ said is. is)
+          upheld_call g.D.Disk.images g.D.Disk.moment g.D.Disk.images_since c.loop-at.disk c.feed_some.new.disk _ _ [] said.disk _ (SaidFirst Says _) s.history held _ _ _ (λ done is. is)
           (inv.upheld before s held run) (rw (part_rest before bytes at) at (next (before ++ take at bytes) s held (inv.served before s held run)));
       disk = disk_more g.D.Disk.images g.D.Disk.moment g.D.Disk.images_since _ _ _ _ _ _ _ inv.disk said.disk;
       running = said.running;
@@ -54,7 +55,7 @@ returns-in-Err-clause-stopped g c = λ before s held run.
     let inv = c.loop-at.invariant in
     let said = (rw inv.waiting at (rw take_rest at c.in-Err.ensures.stopped)) (before ++ take at bytes) s held (inv.served before s held run) in
     rw (sym (part_rest before bytes at))
-    (stops_after (AreSaidFirst _) (AreSaidFirst _) (λ said is. is) _ s _ g.D.Disk.images g.D.Disk.moment g.D.Disk.images_since c.args.disk.now c.loop-at.disk c.feed_some.new.disk c.in-Err.stop _ _ held _ inv.disk said)
+    (stops_after _ (AreFirst (SaidFirst Says _)) (λ done ahead is. is) _ s _ g.D.Disk.images g.D.Disk.moment g.D.Disk.images_since c.args.disk.now c.loop-at.disk c.feed_some.new.disk c.in-Err.stop _ _ _ held _ inv.disk said)
 
 pub returns-in-Err-clause-upheld : goal.returns-in-Err-clause-upheld
 returns-in-Err-clause-upheld g c = λ before s held run.
@@ -63,7 +64,7 @@ returns-in-Err-clause-upheld g c = λ before s held run.
     let inv = c.loop-at.invariant in
     let stops = (rw inv.waiting at (rw take_rest at c.in-Err.ensures.stopped)) (before ++ take at bytes) s held (inv.served before s held run) in
     let next = rw inv.waiting at (rw take_rest at c.feed_some.ensures.upheld) in
-    upheld_call g.D.Disk.images g.D.Disk.moment g.D.Disk.images_since c.loop-at.disk c.feed_some.new.disk _ _ stops.pending stops.disk (AreSaidFirst _) (AreSaidFirst _) s.history held _ _ _ (λ said is. is)
+    upheld_call g.D.Disk.images g.D.Disk.moment g.D.Disk.images_since c.loop-at.disk c.feed_some.new.disk _ _ stops.pending stops.disk _ (SaidFirst Says _) s.history held _ _ _ (λ done is. is)
     (inv.upheld before s held run) (rw (part_rest before bytes at) at (next (before ++ take at bytes) s held (inv.served before s held run)))
 
 pub returns-clause-fed : goal.returns-clause-fed
@@ -83,8 +84,8 @@ returns-clause-stopped g c = λ before s held run.
     let all : take i bytes ≡ bytes = take_all i bytes (omega (arith, c.loop-at-test.false)) in
     let so_far = rw all at (inv.served before s held run) in
     IfErr-weaker c.let_go.result _ _
-    (λ why stops. stops_after (AreFirst so_far.said) (AreSaidFirst _) (first_here _ (before ++ bytes) so_far _ [] (sym (append-nil _))) _ s _ g.D.Disk.images g.D.Disk.moment g.D.Disk.images_since
-    c.args.disk.now c.loop-at.disk c.let_go.new.disk why _ _ held _ inv.disk stops)
+    (λ why stops. stops_after _ (AreFirst (SaidFirst Says _)) (λ done ahead is. first_here _ (before ++ bytes) so_far _ [] (sym (append-nil _)) done ahead (first_exact so_far.said done ahead is)) _ s _ g.D.Disk.images g.D.Disk.moment g.D.Disk.images_since
+    c.args.disk.now c.loop-at.disk c.let_go.new.disk why _ _ _ held _ inv.disk stops)
     ((rw inv.waiting at c.let_go.ensures.stopped) so_far.said s _ held so_far.gathers)
 
 pub returns-clause-upheld : goal.returns-clause-upheld
@@ -95,8 +96,8 @@ returns-clause-upheld g c = λ before s held run.
     let all : take i bytes ≡ bytes = take_all i bytes (omega (arith, c.loop-at-test.false)) in
     let so_far = rw all at (inv.served before s held run) in
     let let_go = rw inv.waiting at c.let_go.ensures in
-    upheld_result g.D.Disk.images g.D.Disk.moment g.D.Disk.images_since c.loop-at.disk c.let_go.new.disk c.let_go.result _ _ _ _ s (AreFirst so_far.said) (AreSaidFirst _) held _ _ _ _ c.let_go.ensures.disk
-    (let_go.stopped so_far.said s _ held so_far.gathers) (first_here _ (before ++ bytes) so_far _ [] (sym (append-nil _))) (inv.upheld before s held run) (let_go.upheld so_far.said s _ held so_far.gathers)
+    upheld_result g.D.Disk.images g.D.Disk.moment g.D.Disk.images_since c.loop-at.disk c.let_go.new.disk c.let_go.result _ _ _ _ s _ _ (SaidFirst Says _) held _ _ _ _ c.let_go.ensures.disk
+    (let_go.stopped so_far.said s _ held so_far.gathers) (λ done first. first_here _ (before ++ bytes) so_far _ [] (sym (append-nil _)) done [] first) (inv.upheld before s held run) (let_go.upheld so_far.said s _ held so_far.gathers)
 
 pub returns-clause-empty : goal.returns-clause-empty
 returns-clause-empty g c = on_ok_weaker c.let_go.result (λ few. none_more _ few) c.let_go.ensures.few

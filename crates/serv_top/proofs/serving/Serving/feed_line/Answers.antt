@@ -1,7 +1,7 @@
 use Rattle.std.proofs.Common.{◌++◌, ◌∷◌, [], append_assoc}
-use Rattle.serv_top.specs.Lines.{ended_lines}
-use Rattle.serv_top.specs.Upheld.{AreSaidFirst}
-use Rattle.serv_top.proofs.GatheredLemmas.{stopped_wider}
+use Rattle.serv_machine.specs.Sayings.{AreFirst, SaidFirst}
+use Rattle.serv_top.specs.Lines.{Says, ended_lines}
+use Rattle.serv_machine.proofs.GatheredLemmas.{stops_wider}
 use Rattle.serv_top.proofs.GoingLemmas.{upheld_taken}
 use Rattle.serv_top.proofs.ServedLemmas.{first_further}
 use Rattle.serv_top.proofs.serving.Serving.feed_line.Goals as goal
@@ -30,13 +30,9 @@ returns-in-Ok-clause-disk g c = rw (c.in-Ok.ensures.same.0, c.in-Ok.ensures.same
 pub returns-in-Err-clause-stopped : goal.returns-in-Err-clause-stopped
 returns-in-Err-clause-stopped g c = λ before s held run.
     let piece = c.args.piece.now in
-    let stops = c.in-Err.ensures.stopped before s _ held run in
-    record {
-      pending = stops.pending;
-      stopped = rw (append_assoc before piece (10 ∷ [])) at
-          (stopped_wider (AreSaidFirst (ended_lines (before ++ piece))) _ (λ said is. first_further (before ++ piece) (10 ∷ []) said is) _ s _ c.in-Err.stop stops.pending held _ stops.stopped);
-      disk = stops.disk;
-    }
+    rw (append_assoc before piece (10 ∷ [])) at
+    (stops_wider (AreFirst (SaidFirst Says (ended_lines (before ++ piece)))) _ (λ done ahead is. first_further (before ++ piece) (10 ∷ []) done ahead is) _ s _
+    g.D.Disk.images g.D.Disk.moment g.D.Disk.images_since c.args.disk.now c.feed_piece.new.disk c.in-Err.stop _ _ held _ (c.in-Err.ensures.stopped before s _ held run))
 
 pub returns-in-Err-clause-upheld : goal.returns-in-Err-clause-upheld
 returns-in-Err-clause-upheld g c = λ before s held run.

@@ -1,10 +1,10 @@
 use Rattle.std.proofs.Common.{◌+◌, ◌++◌, take, drop, refl, sym, ◌∙◌}
 use Rattle.serv_machine.proofs.OnDiskLemmas.{disk_none}
 use Rattle.serv_top.proofs.PlainLemmas.{plain_before, plain_all, line_before, part_rest}
-use Rattle.serv_top.proofs.GatheredLemmas.{stops_after}
+use Rattle.serv_machine.proofs.GatheredLemmas.{stops_after}
 use Rattle.serv_top.proofs.ServedLemmas.{first_further}
-use Rattle.serv_top.specs.Lines.{ended_lines}
-use Rattle.serv_top.specs.Upheld.{AreSaidFirst}
+use Rattle.serv_machine.specs.Sayings.{AreFirst, SaidFirst}
+use Rattle.serv_top.specs.Lines.{Says, ended_lines}
 use Rattle.serv_top.proofs.GoingLemmas.{upheld_taken}
 use Rattle.serv_top.proofs.serving.Serving.feed_some.Goals as goal
 
@@ -27,8 +27,8 @@ returns-in-Err-clause-stopped g c = λ before s held run.
     let none = disk_none g.D.Disk.images g.D.Disk.moment g.D.Disk.images_since c.args.disk.now _ _ refl
     (g.met.M.Machine.keeps_running c.args.machine.now c.args.disk.now c.requires.running) (g.met.D.Disk.only_now c.args.disk.now) in
     rw (sym (part_rest before bytes n))
-    (stops_after (AreSaidFirst (ended_lines (before ++ take n bytes))) _ (λ said is. first_further (before ++ take n bytes) (drop n bytes) said is) _ s _ g.D.Disk.images g.D.Disk.moment g.D.Disk.images_since
-    c.args.disk.now c.args.disk.now c.feed_line.new.disk c.in-Err.stop _ _ held _ none stops)
+    (stops_after (AreFirst (SaidFirst Says (ended_lines (before ++ take n bytes)))) _ (λ done ahead is. first_further (before ++ take n bytes) (drop n bytes) done ahead is) _ s _ g.D.Disk.images g.D.Disk.moment g.D.Disk.images_since
+    c.args.disk.now c.args.disk.now c.feed_line.new.disk c.in-Err.stop _ _ _ held _ none stops)
 
 pub returns-in-Err-feed_piece-clause-stopped : goal.returns-in-Err-feed_piece-clause-stopped
 returns-in-Err-feed_piece-clause-stopped g c = λ before s held run. c.in-Err-feed_piece.ensures.stopped before s _ held run
