@@ -1,35 +1,29 @@
--- A run over a journal: what stands where it was opened, and where it was not.
-use Rattle.std.proofs.Common.{◌≡◌, ◌⊎◌, ℕ, ◌+◌, ◌-◌, ◌<◌, ◌≤◌, List, [], ◌∷◌, ◌++◌, length, refl, ap, subst, inl, inr, ⊎_elim, arith}
+-- A run over a journal that was opened.
+use Rattle.std.proofs.Common.{◌≡◌, ◌⊎◌, ℕ, ◌-◌, ◌<◌, List, [], ◌∷◌, ◌++◌, length, refl, ap, subst, inl, inr, ⊎_elim, arith}
 use Rattle.std.specs.Prelude.{Option, Some}
 use Rattle.svc_world.specs.World.{Accepted}
 use Rattle.svc_world.specs.Judging.{IsHistory}
-use Rattle.serv_disk.specs.Disks.{Each}
 use Rattle.serv_disk.specs.Faults.{HasRisen}
 use Rattle.serv_disk.specs.Stamps.{Stamp}
-use Rattle.serv_journal.specs.declared.format.Version.TheVariants.{Two}
-use Rattle.serv_engine.specs.declared.fault.EngineFault.{EngineFault}
-use Rattle.serv_engine.specs.declared.fault.EngineFault.TheVariants as fault
 use Rattle.serv_engine.specs.Histories.{lengths_of, IsGoodFound}
-use Rattle.serv_engine.specs.Engines.{EngineState, IsDurable}
-use Rattle.serv_engine.specs.Opening.{IsFound, IsPassing, IsOpenFault, IsOpenCause, history_bound}
+use Rattle.serv_engine.specs.Engines.{EngineState}
 use Rattle.serv_engine.proofs.GoodLemmas.{good_journal, good_undamaged}
-use Rattle.serv_engine.proofs.LengthLemmas.{journal_base}
 use Rattle.serv_machine.specs.History.{History, Store, in_journal, history_of, Stand, stand}
-use Rattle.serv_machine.specs.EngineLaws.{durable_whole}
 use Rattle.serv_machine.specs.OnDisk.{OnDisk}
-use Rattle.serv_machine.proofs.EngineLemmas.{long_enough}
 use Rattle.serv_links.proofs.LinkLemmas.{few_taken}
-use Rattle.serv_top.specs.declared.status.Status.{Status}
-use Rattle.serv_top.specs.declared.status.Status.TheVariants as status
+use Rattle.serv_texts.specs.declared.status.Status.{Status}
+use Rattle.serv_texts.specs.declared.status.Status.TheVariants as status
 use Rattle.serv_machine.specs.declared.faults.Stop.{Stop}
 use Rattle.serv_machine.specs.declared.faults.Stop.TheVariants as stop
 use Rattle.serv_machine.specs.Sayings.{SaidFirst}
 use Rattle.serv_machine.specs.Answering.{Leaves}
 use Rattle.serv_machine.proofs.SayingLemmas.{store_moves}
 use Rattle.serv_machine.proofs.GatheredLemmas.{store_stopped}
-use Rattle.serv_top.specs.Outcome.{AreStopped, Ended, IsOutput, input_limit}
-use Rattle.serv_top.specs.Status.{status_of_fault, Completes}
-use Rattle.serv_top.specs.Journal.{KeepsGood, IsCause, IsOnly, IsUnopened, IsOpened, IsRunOver, IsApplied, journal_limit}
+use Rattle.serv_top.specs.Outcome.{AreStopped, Ended, IsOutput}
+use Rattle.serv_texts.specs.Input.{input_limit}
+use Rattle.serv_top.specs.Ends.{Completes}
+use Rattle.serv_texts.specs.Journal.{IsCause, IsUnopened, IsOpened, journal_limit}
+use Rattle.serv_top.specs.Journal.{IsRunOver, IsApplied}
 use Rattle.serv_top.specs.Lines.{Says, lines_of, IsAcknowledged}
 use Rattle.serv_top.proofs.SoundLemmas.{stay_sound}
 
@@ -53,24 +47,6 @@ store_ended waiting other s s' pending taken left written is = absurd is
 -- kept where the engine's commands are
 same_store : (e : EngineState) (h : History) → h.store ≡ (history_of e).store → h ≡ in_journal (e.journal.size - lengths_of e.history) e.journal.limit h.commands
 same_store e h same = let make : Store → History = λ store. record { commands = h.commands; store = store } in ap make same
-
-pub opened : {D : Type 0} (seen : D → Option (List ℕ)) (images : D → List ℕ → Type 0) (moment : D → ℕ) (images_since : D → ℕ → List ℕ → Type 0) (old mid : D) (e : EngineState) (steps begun : ℕ)
-    → IsHistory e.history → ((s : List ℕ) → seen old ≡ Some s → IsFound journal_limit e.journal.size e.history s)
-    → KeepsGood seen images moment images_since old mid
-    → ((s : List ℕ) → seen old ≡ Some s → (h : List Accepted) (a : Accepted) → IsHistory (h ++ a ∷ []) → Each (images old) (IsGoodFound h a) → (e.history ≡ h) ⊎ (e.history ≡ h ++ a ∷ []))
-    → IsDurable (images mid) e → e.journal.version ≡ Two → begun ≤ steps + history_bound [] e.history
-    → IsOpened seen images moment images_since old mid steps begun (e.journal.size - lengths_of e.history) e.history
-opened seen images moment images_since old mid e steps begun is_history found good either durable version cost =
-    let b = journal_base (images mid) e durable version in
-    let back : e.journal.size ≡ (e.journal.size - lengths_of e.history) + lengths_of e.history = omega (arith, long_enough e b.0 b.1) in
-    record {
-      is_history = is_history;
-      found = λ s told. subst (λ n. IsFound journal_limit n e.history s) back (found s told);
-      good = good;
-      either = either;
-      whole = λ c image. let is = durable_whole (images mid) e version durable c image in record { whole = is.whole; form = is.form };
-      cost = cost;
-    }
 
 pub run_over : {D : Type 0} (E : Stand → Stand → List Accepted → Type 0) (seen : D → Option (List ℕ)) (images : D → List ℕ → Type 0) (moment : D → ℕ) (images_since : D → ℕ → List ℕ → Type 0)
     (old mid new : D) (e : EngineState) (h : History) (steps begun steps' : ℕ) (pending : List Accepted)
@@ -108,20 +84,6 @@ applied {D} seen images moment images_since old mid new st e h steps begun steps
     run_over (λ s s' pending. Ended 0 st s s' pending left left' held held'
     × IsAcknowledged (λ taken. SaidFirst Says (lines_of taken)) (moment new) (images_since new) s'.history s.history left left' held log log') seen images moment images_since old mid new e h steps begun steps' ends.pending opening limit
     (store_ended 0 st (stand (history_of e) begun) (stand h steps') ends.pending ends.says_so.taken left' ends.says_so.written ends.says_so.says) (ends.says_so, acked) ends.disk
-
--- ---- none was opened
-
-pub cause_of : (told : Option (List ℕ)) (old new : ℕ) (f : EngineFault) → ((s : List ℕ) → told ≡ Some s → IsOpenFault journal_limit s old new f) → IsOpenCause old new f → IsCause (status_of_fault f) told old new
-cause_of told old new fault.NotJournal is cause = is
-cause_of told old new (fault.Damaged place) is cause = is
-cause_of told old new (fault.JournalFull bytes) is cause = is
-cause_of told old new fault.DiskFault is cause = cause
-cause_of told old new fault.OutOfMemory is cause = tt
-cause_of told old new (fault.Refused why) is cause = absurd cause
-
-pub only_of : (only f : EngineFault) (old new : ℕ) → (f ≡ only) ⊎ IsPassing old new f → IsOnly (status_of_fault only) (status_of_fault f)
-only_of only f old new which =
-    ⊎_elim (λ same. inl (ap status_of_fault same)) (λ passing. inr (⊎_elim (λ memory. inl (ap status_of_fault memory)) (λ disk. inr (ap status_of_fault disk.0)) passing)) which
 
 -- ---- completeness
 

@@ -3,12 +3,13 @@ use Rattle.std.proofs.Common.{◌≡◌, ◌⊎◌, ℕ, ◌<◌, List, length, 
 use Rattle.std.specs.Prelude.{Option, Some}
 use Rattle.svc_world.specs.World.{Accepted}
 use Rattle.serv_disk.specs.Faults.{HasRisen}
-use Rattle.serv_top.specs.declared.status.Status.{Status}
-use Rattle.serv_top.specs.declared.status.Status.TheVariants as status
-use Rattle.serv_top.specs.Status.{Finishes}
-use Rattle.serv_top.specs.Journal.{IsInit}
+use Rattle.serv_texts.specs.declared.status.Status.{Status}
+use Rattle.serv_texts.specs.declared.status.Status.TheVariants as status
+use Rattle.serv_top.specs.Ends.{Finishes}
+use Rattle.serv_texts.specs.Journal.{IsInit}
 use Rattle.serv_machine.specs.History.{Stand}
-use Rattle.serv_top.specs.Outcome.{Ended, input_limit}
+use Rattle.serv_top.specs.Outcome.{Ended}
+use Rattle.serv_texts.specs.Input.{input_limit}
 use Rattle.serv_links.proofs.LinkLemmas.{few_taken}
 
 pub init_ends : (st : Status) (told told' : Option (List ℕ)) (images : List ℕ → Type 0) (faults faults' : ℕ) → (HasRisen faults faults' → ⊥) → IsInit st told told' images faults faults' → (st ≡ status.Done) ⊎ (st ≡ status.AlreadyThere)

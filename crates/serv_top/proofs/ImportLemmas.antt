@@ -18,17 +18,18 @@ use Rattle.serv_machine.specs.OnDisk.{OnDisk}
 use Rattle.serv_machine.proofs.OnDiskLemmas.{disk_more}
 use Rattle.serv_machine.specs.declared.faults.Stop.{Stop}
 use Rattle.serv_machine.specs.declared.faults.Stop.TheVariants as stop
-use Rattle.serv_top.specs.declared.status.Status.{Status}
-use Rattle.serv_top.specs.declared.status.Status.TheVariants as status
+use Rattle.serv_texts.specs.declared.status.Status.{Status}
+use Rattle.serv_texts.specs.declared.status.Status.TheVariants as status
 use Rattle.serv_machine.specs.Sayings.{Saying, AreFirst, MovesAll}
-use Rattle.serv_top.specs.Outcome.{input_limit}
+use Rattle.serv_texts.specs.Input.{input_limit, IsUnread}
 use Rattle.serv_machine.specs.Answering.{Gathered, IsStopped, Leaves, Writes}
 use Rattle.serv_machine.proofs.GatheredLemmas.{all_gathered, stops_after, store_stopped, writes_as}
 use Rattle.serv_machine.proofs.SayingLemmas.{store_moves}
-use Rattle.serv_top.specs.Status.{status_of, Completes}
+use Rattle.serv_texts.specs.Status.{status_of}
+use Rattle.serv_top.specs.Ends.{Completes}
 use Rattle.serv_top.specs.Lines.{IsAcknowledged}
-use Rattle.serv_top.specs.Imported.{FileSays, said_of, IsRow, AreRows, IsRowsOutput, IsUnread, IsIdle, IsFileOutput, rows, headless, Imports, IsImported}
-use Rattle.serv_top.specs.Journal.{IsOpened, IsUnopened, journal_limit}
+use Rattle.serv_top.specs.Imported.{FileSays, said_of, IsRow, AreRows, IsRowsOutput, IsIdle, IsFileOutput, rows, headless, Imports, IsImported}
+use Rattle.serv_texts.specs.Journal.{IsOpened, IsUnopened, journal_limit}
 use Rattle.serv_links.proofs.LinkLemmas.{few_taken}
 use Rattle.serv_top.proofs.Applied.{run_over, unopened_ends}
 use Rattle.serv_top.proofs.ServedLemmas.{none_more}

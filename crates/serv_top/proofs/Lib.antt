@@ -10,9 +10,7 @@ pub mod SoundLemmas
 pub mod RoomLemmas
 pub mod Running
 pub mod Applied
-pub mod WrittenLemmas
 pub mod ImportLemmas
-pub mod TextLemmas
 pub mod LinksLemmas
 pub mod FeedLemmas
 pub mod TakenOnLemmas
@@ -20,4 +18,4 @@ pub mod AnsweredLemmas
 pub mod GoingLemmas
 pub mod OrderLemmas
 pub mod EndLemmas
-pub mod MadeLemmas
+pub mod TextEndLemmas

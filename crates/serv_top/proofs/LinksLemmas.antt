@@ -22,15 +22,15 @@ use Rattle.serv_machine.proofs.GatheredLemmas.{store_stopped}
 use Rattle.serv_links.specs.Outcomes.{IsAnswered, IsCutOff}
 use Rattle.serv_links.specs.Links.{IsServed}
 use Rattle.serv_links.specs.Doors.{AreServed, IsDoorsEnd, IsSummary, OneServed, ServedLink, ServesDoors, text_of_summary}
-use Rattle.serv_top.specs.declared.status.Status.{Status}
-use Rattle.serv_top.specs.declared.status.Status.TheVariants as status
-use Rattle.serv_top.specs.Journal.{IsUnopened, IsOpened, journal_limit}
+use Rattle.serv_texts.specs.declared.status.Status.{Status}
+use Rattle.serv_texts.specs.declared.status.Status.TheVariants as status
+use Rattle.serv_texts.specs.Journal.{IsUnopened, IsOpened, journal_limit}
 use Rattle.serv_machine.specs.Answering.{Leaves}
 use Rattle.serv_top.specs.Served.{IsCountOf, IsServedAs, IsServedOver, ServesLinks}
-use Rattle.serv_top.specs.Texts.{IsWrittenAs, Writes}
+use Rattle.serv_texts.specs.Texts.{IsWrittenAs, Writes}
 use Rattle.serv_top.proofs.Applied.{run_over, unopened_ends}
-use Rattle.serv_top.proofs.WrittenLemmas.{written_of}
-use Rattle.serv_top.specs.Status.{Completes}
+use Rattle.serv_texts.proofs.WrittenLemmas.{written_of}
+use Rattle.serv_top.specs.Ends.{Completes}
 
 -- ---- where commands are kept stays the same
 

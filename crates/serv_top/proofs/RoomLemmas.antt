@@ -6,7 +6,7 @@ use Rattle.serv_journal.proofs.FormatLemmas.{length_of_body}
 use Rattle.serv_journal.proofs.ScanLemmas.{records_least}
 use Rattle.serv_engine.specs.Histories.{lines_of_history}
 use Rattle.serv_engine.specs.Opening.{IsTooLong}
-use Rattle.serv_top.specs.Journal.{journal_limit}
+use Rattle.serv_texts.specs.Journal.{journal_limit}
 
 -- a record of version 2 has four bytes more
 longer : (n m : ℕ) (lines : List (List ℕ)) → length (records Two m lines) ≡ length (records One n lines) + 4 * length lines

@@ -11,16 +11,17 @@ use Rattle.serv_machine.specs.OnDisk.{OnDisk}
 use Rattle.serv_machine.proofs.OnDiskLemmas.{disk_more}
 use Rattle.serv_machine.specs.declared.faults.Stop.{Stop}
 use Rattle.serv_machine.specs.declared.faults.Stop.TheVariants as stop
-use Rattle.serv_top.specs.declared.status.Status.{Status}
-use Rattle.serv_top.specs.declared.status.Status.TheVariants as status
+use Rattle.serv_texts.specs.declared.status.Status.{Status}
+use Rattle.serv_texts.specs.declared.status.Status.TheVariants as status
 use Rattle.serv_machine.specs.Sayings.{Saying, Say, SaidFirst, AreFirst}
 use Rattle.serv_machine.specs.Answering.{Answers, IsStopped, Leaves, NextHasNone, Writes}
 use Rattle.serv_machine.proofs.SayingLemmas.{said_all}
 use Rattle.serv_machine.proofs.AnsweringLemmas.{first_all}
 use Rattle.serv_machine.proofs.GatheredLemmas.{all_gathered}
 use Rattle.serv_top.specs.Lines.{Says, lines_of, ended_lines}
-use Rattle.serv_top.specs.Outcome.{AllServed, AreStopped, Ended, Exchanges, Ran, Served, input_limit}
-use Rattle.serv_top.specs.Status.{status_of}
+use Rattle.serv_top.specs.Outcome.{AllServed, AreStopped, Ended, Ran, Served}
+use Rattle.serv_texts.specs.Input.{Exchanges, input_limit}
+use Rattle.serv_texts.specs.Status.{status_of}
 use Rattle.serv_top.proofs.ServedLemmas.{served_none}
 use Rattle.serv_top.proofs.SoundLemmas.{nothing_sound, begun_sound}
 

@@ -18,7 +18,8 @@ use Rattle.serv_machine.specs.Verdicts.{reply_to_request, history_after_request,
 use Rattle.serv_top.specs.Lines.{IsPlain, onto_first, onto_ended, lines_of, ended_lines, Says, in_words, asks}
 use Rattle.serv_machine.specs.Sayings.{Saying, Say, history_after_all, replies_to}
 use Rattle.serv_machine.specs.Answering.{Answers}
-use Rattle.serv_top.specs.Extracts.{lines_of_commands, HasRoomFor, replies_after, AreTakenOn}
+use Rattle.serv_texts.specs.Extracts.{lines_of_commands}
+use Rattle.serv_top.specs.Outcome.{HasRoomFor, replies_after, AreTakenOn}
 use Rattle.serv_top.proofs.LineLemmas.{lines_one}
 
 -- ---- the lines of a stream of them

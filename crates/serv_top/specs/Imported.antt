@@ -1,5 +1,5 @@
 -- What a run that imports a file has taken, accepted and written.
-use Rattle.std.specs.Prelude.{◌≡◌, ℕ, ◌<◌, ◌≤◌, ◌⊎◌, List, [], ◌∷◌, length, map, Option}
+use Rattle.std.specs.Prelude.{◌≡◌, ℕ, ◌<◌, ◌⊎◌, List, [], ◌∷◌, length, map, Option}
 use Rattle.std.specs.Io.KnownBytes.{IsAtEnd}
 use Rattle.svc_types.specs.Keys.{IsKey}
 use Rattle.svc_types.specs.Requests.{IsCommand}
@@ -8,15 +8,15 @@ use Rattle.svc_world.specs.World.{Accepted}
 use Rattle.serv_import.specs.declared.row.RowRequest.{RowRequest}
 use Rattle.serv_import.specs.declared.row.RowRequest.TheVariants as row
 use Rattle.serv_import.specs.Batches.{HasHeader, IsBatch}
-use Rattle.serv_top.specs.declared.status.Status.{Status}
-use Rattle.serv_top.specs.declared.status.Status.TheVariants.{Done, ReadFault, WriteFault, DiskFault, TooMuch, OutOfMemory}
+use Rattle.serv_texts.specs.declared.status.Status.{Status}
+use Rattle.serv_texts.specs.declared.status.Status.TheVariants.{Done, WriteFault, DiskFault, OutOfMemory}
 use Rattle.serv_machine.specs.History.{Stand, Stays}
 use Rattle.serv_machine.specs.Sayings.{Saying, AreFirst, telling}
 use Rattle.serv_machine.specs.Answering.{Answers, IsStopped}
 use Rattle.serv_machine.specs.declared.faults.Stop.TheVariants as stop
 use Rattle.serv_rows.specs.Texts.{text_of_bad_row}
 use Rattle.serv_top.specs.Lines.{in_words, IsAcknowledged}
-use Rattle.serv_top.specs.Outcome.{Exchanges, input_limit}
+use Rattle.serv_texts.specs.Input.{Exchanges, IsUnread, input_limit}
 use Rattle.serv_top.specs.Journal.{IsRunOver}
 use Rattle.serv_disk.specs.Stamps.{Stamp}
 
@@ -52,13 +52,6 @@ IsRowsOutput OutOfMemory saids s s' pending written = IsStopped stop.OutOfMemory
 IsRowsOutput other saids s s' pending written = ⊥
 
 -- ---- the file
-
--- what is taken where no row is acted on, by the status: a read failed, the file has too many bytes, or memory is short
-abbrev pub IsUnread : Status → List ℕ → Type 0
-IsUnread ReadFault taken = length taken < input_limit
-IsUnread (TooMuch n) taken = (n ≡ length taken) × (n ≡ input_limit)
-IsUnread OutOfMemory taken = length taken ≤ input_limit
-IsUnread other taken = ⊥
 
 -- no row is acted on, and nothing is written
 pub record IsIdle (s s' : Stand) (pending : List Accepted) (written : List ℕ) : Type 0 where

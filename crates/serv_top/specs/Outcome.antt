@@ -1,30 +1,21 @@
 -- What a run has taken from its source, accepted and written to its sink when it ends with a status.
-use Rattle.std.specs.Prelude.{◌≡◌, ℕ, ◌^◌, ◌<◌, ◌≤◌, ◌⊎◌, List, [], ◌∷◌, ◌++◌, length, take, Option}
-use Rattle.std.specs.Io.KnownBytes.{Appends, Consumes, IsAtEnd}
+use Rattle.std.specs.Prelude.{◌≡◌, ℕ, ◌+◌, ◌<◌, ◌≤◌, ◌⊎◌, List, [], ◌∷◌, ◌++◌, length, take, Option}
+use Rattle.std.specs.Io.KnownBytes.{Appends, IsAtEnd}
 use Rattle.svc_world.specs.World.{Accepted, world}
-use Rattle.svc_world.specs.Judging.{IsHistory}
+use Rattle.svc_world.specs.Judging.{IsHistory, next_reply}
 use Rattle.svc_world.specs.Laws.{AreLawful, ReportsGrow}
 use Rattle.serv_disk.specs.Faults.{IsProperPrefix}
 use Rattle.serv_machine.specs.declared.faults.Stop.{Stop}
 use Rattle.serv_machine.specs.declared.faults.Stop.TheVariants as stop
-use Rattle.serv_machine.specs.History.{History, nothing, Stand, stand, Running}
+use Rattle.serv_line.specs.Replies.{text_of_reply}
+use Rattle.serv_engine.specs.Histories.{lengths_of}
+use Rattle.serv_machine.specs.History.{History, Store, Memory, Journal, nothing, Stand, stand, Running}
 use Rattle.serv_machine.specs.Sayings.{Saying, Say, SaidFirst, AreFirst, reply_to, history_after_all, replies_to, MovesAll}
 use Rattle.serv_machine.specs.Answering.{Answers, Gathered, IsStopped}
-use Rattle.serv_top.specs.declared.status.Status.{Status}
-use Rattle.serv_top.specs.declared.status.Status.TheVariants.{Done, ReadFault, WriteFault, DiskFault, TooMuch, OutOfMemory}
+use Rattle.serv_texts.specs.declared.status.Status.{Status}
+use Rattle.serv_texts.specs.declared.status.Status.TheVariants.{Done, ReadFault, WriteFault, DiskFault, TooMuch, OutOfMemory}
+use Rattle.serv_texts.specs.Input.{Exchanges, input_limit}
 use Rattle.serv_top.specs.Lines.{Says, lines_of, ended_lines, open_line}
-
--- how many bytes of input are too many
-abbrev pub input_limit : ℕ
-input_limit = 2 ^ 26
-
--- this holds of what is taken from the source and written to the sink, where these tell what is left and what is held
-pub record Exchanges (P : List ℕ → List ℕ → Type 0) (left left' held held' : Option (List ℕ)) : Type 0 where
-  pub taken : List ℕ
-  pub written : List ℕ
-  pub took : Consumes left left' taken
-  pub wrote : Appends held held' written
-  pub says : P taken written
 
 -- ---- lines
 
@@ -100,3 +91,21 @@ pub record AllServed (lines : List (List ℕ)) (s s' : Stand) (held held' : Opti
   pub written : List ℕ
   pub wrote : Appends held held' written
   pub answers : Answers (Say Says lines) s s' written
+
+-- ---- lines of commands that are taken on
+
+-- a store has room for these commands and no others
+abbrev pub HasRoomFor : Store → List Accepted → Type 0
+HasRoomFor Memory commands = Unit {0}
+HasRoomFor (Journal base limit) commands = base + lengths_of commands ≤ limit
+
+-- the replies to commands that come after others, each to the next one, joined
+abbrev pub replies_after : List Accepted → List Accepted → List ℕ
+replies_after before [] = []
+replies_after before (a ∷ more) = text_of_reply (next_reply before a.command) ++ replies_after (before ++ a ∷ []) more
+
+-- lines were acted on as the commands of a history: these are what is held after them, and each has the reply to the
+-- next command
+pub record AreTakenOn (commands : List Accepted) (after : Stand) (written : List ℕ) : Type 0 where
+  pub commands_are : after.history.commands ≡ commands
+  pub replies : written ≡ replies_after [] commands

@@ -6,11 +6,11 @@ use Rattle.serv_links.specs.declared.doors.DoorsEnd.TheVariants as doors_end
 use Rattle.serv_links.specs.declared.link_end.LinkEnd.{LinkEnd}
 use Rattle.serv_links.specs.declared.summary.Summary.{Summary}
 use Rattle.serv_links.specs.Doors.{OneServed, HasServed, IsDoorsEnd, IsSummary, text_of_summary}
-use Rattle.serv_top.specs.declared.status.Status.{Status}
-use Rattle.serv_top.specs.declared.status.Status.TheVariants.{DiskFault, NetFault}
+use Rattle.serv_texts.specs.declared.status.Status.{Status}
+use Rattle.serv_texts.specs.declared.status.Status.TheVariants.{DiskFault, NetFault}
 use Rattle.serv_machine.specs.History.{Stand}
 use Rattle.serv_top.specs.Journal.{IsRunOver}
-use Rattle.serv_top.specs.Texts.{IsWrittenAs}
+use Rattle.serv_texts.specs.Texts.{IsWrittenAs}
 
 -- the line that counts these ends
 pub record IsCountOf (ends : List LinkEnd) (text : List ℕ) : Type 0 where

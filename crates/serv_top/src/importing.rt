@@ -1,30 +1,22 @@
 //! The rows of a file, answered over a journal.
 
-ghost use Rattle.std.specs.Prelude.{◌≡◌, ℕ, ◌<◌, ◌≤◌, ◌^◌, ◌⊎◌, ◌++◌, ◌∷◌, [], List, Option, map, length, Err, IfOk, IfErr, OnErr, OnOk};
-ghost use Rattle.std.specs.Io.KnownBytes.{Consumes, IsAtEnd};
+ghost use Rattle.std.specs.Prelude.{◌≡◌, ◌≤◌, ◌^◌, ◌⊎◌, map, length};
 ghost use Rattle.serv_disk.specs.Faults.{HasRisen};
-ghost use Rattle.serv_disk.specs.Stamps.{Stamp};
 ghost use Rattle.serv_machine.specs.OnDisk.{Upholds};
-ghost use Rattle.serv_top.specs.Journal.{HasFileFaults, IsUnopened};
+ghost use Rattle.serv_texts.specs.Journal.{HasFileFaults, IsUnopened};
 ghost use Rattle.serv_machine.specs.History.{stand};
-ghost use Rattle.serv_top.specs.Outcome.{input_limit};
 ghost use Rattle.serv_machine.specs.Answering.{AreReplies, Leaves, Writes};
 ghost use Rattle.serv_top.specs.Lines.{IsAcknowledged};
-ghost use Rattle.serv_top.specs.Imported.{AreRows, FileSays, Imports, IsFileOutput, IsIdle, IsImported, IsRowsOutput, IsUnread, said_of};
+ghost use Rattle.serv_top.specs.Imported.{AreRows, FileSays, Imports, IsFileOutput, IsIdle, IsImported, IsRowsOutput, said_of};
 
-use crate::over_journal::open_journal;
 use crate::said::said_of;
-use crate::status::Status;
-use crate::stream::INPUT_LIMIT;
-use serv_disk::{Disk, Sink, Source, read_some};
+use serv_disk::{Disk, Sink, Source};
 use serv_import::{ImportFault, RowRequest, batch};
 use serv_machine::{Machine, Replies};
+use serv_texts::{Status, open_journal, read_all};
 use std::alloc::Global;
 use std::sync::ledger::Ledger;
 use svc_base::Steps;
-
-/// How many bytes are asked for at a time.
-const ROOM: usize = 1 << 16;
 
 /// Opens the journal of the disk, reads the whole source, and answers its rows. Each reply is written once
 /// the disk has its command, before the next row is acted on.
@@ -82,33 +74,6 @@ fn import_by<D: Disk, M: Machine<D>, S: Source, K: Sink, L: Ledger>(
         Ok(bytes) => answer_file(alloc, &bytes, machine, disk, snk, steps),
         Err(status) => status,
     }
-}
-
-/// The whole source. Errs where it has too many bytes, a read fails or memory is short.
-pub(crate) fn read_all<S: Source>(alloc: Global, src: &mut S) -> Result<Vec<u8>, Status>
-    ensures whole { IfOk result (λ v. Consumes (S.left src.old) (S.left src.new) v.items
-        × IsAtEnd (S.left src.new) × (length v.items < input_limit)) }
-    ensures unread { IfErr result (λ status. (taken : List ℕ)
-        × Consumes (S.left src.old) (S.left src.new) taken × IsUnread status taken) }
-    ensures cause { result ≡ Err Status.ReadFault → HasRisen (S.faults src.old) (S.faults src.new) }
-    ensures later { S.faults src.old ≤ S.faults src.new }
-{
-    let mut bytes = Vec::new(alloc);
-    let mut room = [0; ROOM];
-    let limit = INPUT_LIMIT as usize;
-    while bytes.len() < limit {
-        let most = (limit - bytes.len()).min(ROOM);
-        match read_some(src, &mut room, most) {
-            Ok(0) => return Ok(bytes),
-            Ok(n) => {
-                if bytes.extend_from_slice(&room[..n]).is_err() {
-                    return Err(Status::OutOfMemory);
-                }
-            }
-            Err(_) => return Err(Status::ReadFault),
-        }
-    }
-    Err(Status::TooMuch(bytes.len() as u64))
 }
 
 /// Answers the rows of a file. Without the header its first row is bad, and no other is looked at.

@@ -5,15 +5,15 @@ ghost use Rattle.svc_world.specs.World.{Accepted};
 ghost use Rattle.svc_world.specs.Judging.{IsHistory};
 ghost use Rattle.serv_engine.specs.Histories.{lines_of_history};
 ghost use Rattle.serv_engine.specs.Opening.{IsTooLong};
-ghost use Rattle.serv_top.specs.Journal.{journal_limit};
+ghost use Rattle.serv_texts.specs.Journal.{journal_limit};
 ghost use Rattle.serv_top.specs.Lines.{ended_lines, lines_of, Says};
-ghost use Rattle.serv_top.specs.Extracts.{lines_of_commands, AreTakenOn, HasRoomFor};
+ghost use Rattle.serv_texts.specs.Extracts.{lines_of_commands};
+ghost use Rattle.serv_top.specs.Outcome.{AreTakenOn, HasRoomFor, IsCutAt, IsCutOff};
 ghost use Rattle.serv_top.specs.Imported.{FileSays};
 ghost use Rattle.serv_machine.specs.History.{Stand};
 ghost use Rattle.serv_machine.specs.Sayings.{AreFirst, Say, SaidFirst, Saying, replies_to};
 ghost use Rattle.serv_machine.specs.declared.faults.Stop.{Stop};
 ghost use Rattle.serv_machine.specs.Answering.{AnsweredBut, Answers, IsCutIn};
-ghost use Rattle.serv_top.specs.Outcome.{IsCutAt, IsCutOff};
 
 /// A line says one thing. So lines have one text of replies over a history, and one history after them;
 /// and a front part of their replies is some whole ones and a part of the next one. It does nothing.

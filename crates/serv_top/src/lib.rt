@@ -1,26 +1,20 @@
 //! The program's top call: request lines from a source, replies to a sink, and the status of the run.
 #![tactic(auto)]
 
-mod drilling;
-mod extracts;
 mod importing;
 mod laws;
 mod over_doors;
 mod over_journal;
 mod said;
 mod serving;
-mod status;
 mod stream;
-mod texts;
 mod top;
-mod writing;
 
 pub use laws::{
     files_say_one_thing, histories_are_taken_on, lines_have_one_answer, old_journals_have_room,
     replies_are_whole,
 };
 pub use serv_links::serve_one;
+pub use serv_texts::{INPUT_LIMIT, Status};
 pub use serv_words::{months_are_read, port_in};
-pub use status::Status;
-pub use stream::INPUT_LIMIT;
 pub use top::run;

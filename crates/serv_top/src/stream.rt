@@ -9,15 +9,12 @@ ghost use Rattle.serv_top.specs.Lines.{IsAcknowledged, Says, lines_of};
 ghost use Rattle.serv_top.specs.Outcome.{Ended};
 
 use crate::serving::Serving;
-use crate::status::Status;
 use serv_disk::{Disk, Sink, Source, read_some};
 use serv_machine::Machine;
+use serv_texts::{INPUT_LIMIT, Status};
 use std::alloc::Global;
 use std::sync::ledger::Ledger;
 use svc_base::Steps;
-
-/// A run that has taken this many bytes takes no more: 67,108,864.
-pub const INPUT_LIMIT: u64 = 1 << 26;
 
 /// How many bytes are asked for at a time.
 const ROOM: usize = 1 << 16;

@@ -1,6 +1,6 @@
 use Rattle.std.proofs.Common.{◌≡◌, ◌∙◌}
 use Rattle.serv_links.specs.Doors.{text_of_summary}
-use Rattle.serv_top.proofs.WrittenLemmas.{writes_of, writes_nothing}
+use Rattle.serv_texts.proofs.WrittenLemmas.{writes_of, writes_nothing}
 use Rattle.serv_top.proofs.over_doors.write_counts.Goals as goal
 
 pub returns-in-Ok-clause-writes : goal.returns-in-Ok-clause-writes

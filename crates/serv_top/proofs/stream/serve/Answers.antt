@@ -1,7 +1,7 @@
 use Rattle.std.proofs.Common.{◌≡◌, ◌+◌, ◌<◌, ◌≤◌, ◌++◌, [], length, take, refl, arith}
 use Rattle.std.proofs.KnownBytes.{Consumes-trans}
 use Rattle.serv_machine.proofs.OnDiskLemmas.{disk_none, disk_more}
-use Rattle.serv_top.specs.Outcome.{input_limit}
+use Rattle.serv_texts.specs.Input.{input_limit}
 use Rattle.serv_machine.specs.Sayings.{SaidFirst}
 use Rattle.serv_top.specs.Lines.{Says}
 use Rattle.serv_machine.proofs.AnsweringLemmas.{upheld_call}

@@ -6,8 +6,7 @@ use Rattle.serv_top.proofs.EndLemmas.{init_ends, session_ends}
 use Rattle.serv_top.proofs.ImportLemmas.{complete_import}
 use Rattle.serv_top.proofs.LinksLemmas.{complete_served}
 use Rattle.serv_top.proofs.OrderLemmas.{no_text, of_none, of_query, of_task, text_of_none, text_of_query, text_of_task}
-use Rattle.serv_top.proofs.TextLemmas.{complete_text}
-use Rattle.serv_top.proofs.WrittenLemmas.{written_finishes}
+use Rattle.serv_top.proofs.TextEndLemmas.{complete_text, written_finishes}
 use Rattle.serv_top.proofs.Applied.{complete_run}
 use Rattle.serv_top.proofs.top.run.Goals as goal
 

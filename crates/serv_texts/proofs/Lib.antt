@@ -1,0 +1,4 @@
+pub mod OpenLemmas
+pub mod MadeLemmas
+pub mod WrittenLemmas
+pub mod TextLemmas

@@ -1,0 +1,11 @@
+use Rattle.std.proofs.Common.{◌≡◌, ◌∙◌}
+use Rattle.serv_drill.specs.Summary.{summary}
+use Rattle.serv_texts.proofs.WrittenLemmas.{writes_of, writes_nothing}
+use Rattle.serv_texts.proofs.drilling.write_year.Goals as goal
+
+pub returns-in-Ok-clause-writes : goal.returns-in-Ok-clause-writes
+returns-in-Ok-clause-writes g c =
+    writes_of c.write_text.result (λ text. text ≡ summary c.args.loans c.args.number) c.deref.result.now _ _ (c.deref.ensures.value ∙ c.in-Ok.ensures.text) c.write_text.ensures.writes
+
+pub returns-in-Err-clause-writes : goal.returns-in-Err-clause-writes
+returns-in-Err-clause-writes g c = writes_nothing (λ text. text ≡ summary c.args.loans c.args.number) _

@@ -1,6 +1,0 @@
-use Rattle.std.proofs.Common.{◌∙◌, arith}
-use Rattle.serv_top.proofs.WrittenLemmas.{all_lines_of}
-use Rattle.serv_top.proofs.extracts.lines_of.Goals as goal
-
-pub returns : goal.returns
-returns c = c.loop-key.invariant ∙ all_lines_of c.loop-key.key-index c.args.commands.now (omega (arith, c.loop-key-test.false))

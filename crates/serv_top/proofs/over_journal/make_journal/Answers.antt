@@ -1,5 +1,0 @@
-use Rattle.serv_top.proofs.MadeLemmas.{made_empty}
-use Rattle.serv_top.proofs.over_journal.make_journal.Goals as goal
-
-pub returns-in-Ok-clause-made : goal.returns-in-Ok-clause-made
-returns-in-Ok-clause-made g c = made_empty (g.D.Disk.images c.init.new.disk) c.in-Ok.ensures.durable
