@@ -1,6 +1,6 @@
 -- Links that are served one after another.
 use Rattle.std.proofs.Common.{◌≡◌, ℕ, ◌+◌, ◌<◌, ◌≤◌, List, [], ◌∷◌, ◌++◌, length, refl, sym, ap, subst, ◌∙◌, inl, inr, arith, append_assoc, append-nil, length-append}
-use Rattle.std.specs.Prelude.{Option, Some, None}
+use Rattle.std.specs.Prelude.{Option, Some, None, option_map}
 use Rattle.std.proofs.lemmas.List.Sums.{sum_by_push}
 use Rattle.svc_world.specs.World.{Accepted}
 use Rattle.serv_disk.specs.Listening.{IsNext, IsBack}
@@ -29,19 +29,20 @@ taken_none (Some old) = refl
 
 back_none : {C : Type 0} (backed : Option (List C)) → AreBack backed backed []
 back_none None = refl
-back_none (Some old) = sym (append-nil old)
+back_none (Some old) = ap Some (sym (append-nil old))
 
 taken_more : {C : Type 0} (c0 c1 c2 : Option (List C)) (links : List C) (x : C) → AreTaken c0 c1 links → IsNext c1 c2 (Some x) → AreTaken c0 c2 (links ++ x ∷ [])
-taken_more None c1 c2 links x first next = subst (λ c. IsNext c c2 (Some x)) first next
-taken_more (Some old) None c2 links x first next = absurd first
-taken_more (Some old) (Some mid) None links x first next = absurd next
-taken_more (Some old) (Some mid) (Some new) links x first next = first ∙ (ap (λ l. links ++ l) next ∙ sym (append_assoc links (x ∷ []) new))
+taken_more c0 None c2 links x first next = first ∙ ap (option_map (λ rest. (links ++ x ∷ []) ++ rest)) (sym next)
+taken_more c0 (Some mid) None links x first next = absurd next
+taken_more c0 (Some mid) (Some new) links x first next = first ∙ ap Some (ap (λ l. links ++ l) next ∙ sym (append_assoc links (x ∷ []) new))
 
 back_more : {C : Type 0} (b0 b1 b2 : Option (List C)) (links : List C) (y : C) → AreBack b0 b1 links → IsBack b1 b2 y → AreBack b0 b2 (links ++ y ∷ [])
 back_more None b1 b2 links y first back = subst (λ b. IsBack b b2 y) first back
-back_more (Some old) None b2 links y first back = absurd first
+back_more (Some old) None b2 links y first back = cc
 back_more (Some old) (Some mid) None links y first back = absurd back
-back_more (Some old) (Some mid) (Some new) links y first back = back ∙ (ap (λ l. l ++ y ∷ []) first ∙ append_assoc old links (y ∷ []))
+back_more (Some old) (Some mid) (Some new) links y first back =
+    let same : mid ≡ old ++ links = cc in
+    ap Some (back ∙ ap (λ l. l ++ y ∷ []) same ∙ append_assoc old links (y ∷ []))
 
 -- ---- one link more
 
@@ -193,7 +194,7 @@ module _ {D C : Type 0} (images : D → List ℕ → Type 0) (moment : D → ℕ
         ends = along.ends ++ e ∷ [];
         pending = link.pending;
         has = has_on;
-        ended = (record { before = along.ends; last = e; ends_are = refl; others = along.calm; failed = failed }, (let is = long in omega arith));
+        ended = ((along.ends, (e, refl, along.calm, failed)), (let is = long in omega arith));
         counted = counted;
         disk = disk_on;
       }

@@ -100,16 +100,16 @@ module _ (U V : (ℕ → List Accepted → Type 0) → Type 0) (left left' : Opt
   passed_more : (m : ℕ) (c' : Conn) (t' : Stand) (pending' : List Accepted) (w : List ℕ) → IsPiece cut (Ok tt) m (going.rest ++ piece) c' t t' pending' w
       → Passed V left left''' c' (n + m) (taken + count) s t' pending' (added ++ w)
   passed_more m c' t' pending' w more = record {
-    nothing = more.nothing;
+    nothing = more.2;
     bytes = going.bytes ++ piece;
     took = took_more left left' left'' left''' going.bytes piece going.took took same;
     count = bytes_more going.bytes piece taken count going.count long;
-    asks = going.asks ++ more.asks;
-    over = more.fed.0;
-    asked = asks-grow going.asks more.asks going.bytes going.rest piece more.fed.0 going.asked more.fed.1;
-    stands = more.fed.2;
+    asks = going.asks ++ more.0;
+    over = more.1.0;
+    asked = asks-grow going.asks more.0 going.bytes going.rest piece more.1.0 going.asked more.1.1;
+    stands = more.1.2;
     read_on = last_read;
-    answered = answered_more n m going.asks more.asks s t t' added w going.answered more.answered;
+    answered = answered_more n m going.asks more.0 s t t' added w going.answered more.3;
     acknowledged = up;
   }
 

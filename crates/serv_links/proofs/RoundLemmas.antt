@@ -109,7 +109,7 @@ parted i asks a d lt is =
 
 pub piece_of : (cut : Type 0) (o : Result (Unit {0}) Stop) (n : ℕ) (asks : List Ask) (bytes : List ℕ) (c : Conn) (s s' : Stand) (pending : List Accepted) (w : List ℕ) → IsFed bytes asks c → IsRound cut o n asks s s' pending w
     → IsPiece cut o n bytes c s s' pending w
-piece_of cut (Ok done) n asks bytes c s s' pending w fed round = record { asks = asks; fed = fed; nothing = round.0; answered = round.1 }
+piece_of cut (Ok done) n asks bytes c s s' pending w fed round = (asks, fed, round.0, round.1)
 piece_of cut (Err why) n asks bytes c s s' pending w fed round = record { asks = asks; known = inr (fed.0, fed.1); ended = round }
 
 -- ---- what is written last

@@ -1,7 +1,7 @@
 -- What is said one after the other, where nothing further is answered: it holds of more that is said, and after what was answered
 -- before.
 use Rattle.std.proofs.Common.{◌≡◌, ℕ, ◌≤◌, List, [], ◌∷◌, ◌++◌, length, refl, sym, ap, subst, ◌∙◌, inl, inr, arith, append-nil, append_assoc, length-append}
-use Rattle.std.specs.Prelude.{Option, Some, None}
+use Rattle.std.specs.Prelude.{Option, Some, None, option_map, unwrap_or}
 use Rattle.std.proofs.KnownBytes.{Appends-trans}
 use Rattle.svc_types.specs.declared.requests.Request.{Request}
 use Rattle.svc_types.specs.declared.requests.Request.TheVariants as request
@@ -11,7 +11,7 @@ use Rattle.serv_machine.specs.declared.faults.Stop.TheVariants.{WriteFault, Disk
 use Rattle.serv_machine.specs.Answering.{Answers, IsCutIn, NextHasNone, AnsweredBut, IsStopped, AreReplies, Writes}
 use Rattle.serv_machine.specs.History.{History, Stand, Decision, Kept, Refused, Full, Fresh, after_decision, decided}
 use Rattle.serv_machine.specs.OnDisk.{OnDisk}
-use Rattle.serv_machine.specs.Sayings.{Saying, Say, SaidFirst, AreFirst, after_asked, history_after_all, replies_to, MovesAll}
+use Rattle.serv_machine.specs.Sayings.{Saying, Say, SaidFirst, AreFirst, history_after_all, replies_to, MovesAll}
 use Rattle.serv_machine.specs.Verdicts.{history_after_request}
 use Rattle.serv_machine.proofs.OnDiskLemmas.{disk_more}
 use Rattle.serv_machine.proofs.SayingLemmas.{replies_to-append, moves_all-append, say-append}
@@ -154,7 +154,7 @@ grown_decided h a (Refused why) = grown_none h h refl
 grown_decided h a (Full bytes) = grown_none h h refl
 grown_decided h a Fresh = (a ∷ [], refl)
 
-grown_asked : (h : History) (asks : Option Request) → Grown h (after_asked h asks)
+grown_asked : (h : History) (asks : Option Request) → Grown h (unwrap_or (option_map (history_after_request h) asks) h)
 unfolding history_after_request
 grown_asked h None = grown_none h h refl
 grown_asked h (Some (request.Do key c)) = grown_decided h (accepted key c) (decided h key c)

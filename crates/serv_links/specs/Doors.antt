@@ -1,5 +1,5 @@
 -- Links that are served one after another, as they come from doors.
-use Rattle.std.specs.Prelude.{◌≡◌, ℕ, ◌<◌, ◌≤◌, ◌⊎◌, List, [], ◌∷◌, ◌++◌, length, sum_by, codes, Option, Some, None, ⊤}
+use Rattle.std.specs.Prelude.{◌≡◌, ℕ, ◌<◌, ◌≤◌, ◌⊎◌, List, [], ◌∷◌, ◌++◌, length, sum_by, codes, Option, Some, None, ⊤, option_map}
 use Rattle.std.specs.Io.KnownBytes.{Appends}
 use Rattle.svc_world.specs.World.{Accepted}
 use Rattle.serv_disk.specs.Faults.{HasRisen}
@@ -34,25 +34,18 @@ pub record ServedLink {C : Type 0} (left held : C → Option (List ℕ)) (log : 
 abbrev pub AreServed : {C : Type 0}
     → OneServed C → List LinkEnd → List C → List C → Stand → Stand → List Accepted → Type 0
 AreServed P [] [] [] s s' pending = (s' ≡ s) × (pending ≡ [])
-AreServed P [] [] (y ∷ back) s s' pending = ⊥
-AreServed P [] (x ∷ came) back s s' pending = ⊥
-AreServed P (end ∷ ends) [] back s s' pending = ⊥
-AreServed P (end ∷ ends) (x ∷ came) [] s s' pending = ⊥
 AreServed P (end ∷ ends) (x ∷ came) (y ∷ back) s s' pending =
     (t : Stand) × ((now : List Accepted) × ((later : List Accepted) × P end x y s t now
     × AreServed P ends came back t s' later × (pending ≡ now ++ later)))
+AreServed P ends came back s s' pending = ⊥
 
 -- these links came, where the doors tell which are to come
 abbrev pub AreTaken : {C : Type 0} → Option (List C) → Option (List C) → List C → Type 0
-AreTaken None new links = new ≡ None
-AreTaken (Some old) None links = ⊥
-AreTaken (Some old) (Some new) links = old ≡ links ++ new
+AreTaken old new links = old ≡ option_map (λ rest. links ++ rest) new
 
 -- these links were handed back
 abbrev pub AreBack : {C : Type 0} → Option (List C) → Option (List C) → List C → Type 0
-AreBack None new links = new ≡ None
-AreBack (Some old) None links = ⊥
-AreBack (Some old) (Some new) links = new ≡ old ++ links
+AreBack old new links = new ≡ option_map (λ had. had ++ links) old
 
 -- no link is to come
 abbrev pub AreNone : {C : Type 0} → Option (List C) → Type 0
@@ -72,18 +65,11 @@ abbrev pub NoDisk : List LinkEnd → Type 0
 NoDisk [] = ⊤
 NoDisk (end ∷ ends) = (¬ (IsDiskEnd end)) × NoDisk ends
 
--- the disk failed at the last end, and at no other
-pub record EndInDisk (ends : List LinkEnd) : Type 0 where
-  pub before : List LinkEnd
-  pub last : LinkEnd
-  pub ends_are : ends ≡ before ++ last ∷ []
-  pub others : NoDisk before
-  pub failed : IsDiskEnd last
-
--- so many links were served, or no more were to come; or the disk failed, or the doors failed
+-- so many links were served, or no more were to come; or the disk failed at the last end and at no other, or the doors failed
 abbrev pub IsDoorsEnd : {C : Type 0} → DoorsEnd → ℕ → Option (List C) → List LinkEnd → Type 0
 IsDoorsEnd Done most coming ends = NoDisk ends × ((length ends ≡ most) ⊎ ((length ends < most) × AreNone coming))
-IsDoorsEnd DiskFault most coming ends = EndInDisk ends × (length ends ≤ most)
+IsDoorsEnd DiskFault most coming ends =
+    ((before : List LinkEnd) × ((last : LinkEnd) × (ends ≡ before ++ last ∷ []) × NoDisk before × IsDiskEnd last)) × (length ends ≤ most)
 IsDoorsEnd NetFault most coming ends = NoDisk ends × (length ends < most)
 
 -- which ends are counted

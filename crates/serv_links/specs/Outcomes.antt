@@ -76,15 +76,9 @@ pub record IsCutOff (Known : List Ask → Type 0) (cut : Type 0) (why : Stop) (n
   pub known : Known asks
   pub ended : IsEnded cut why n asks s s' pending wrote
 
--- all of a piece are answered, and the connection goes on with what is left
-pub record IsFedAll (n : ℕ) (bytes : List ℕ) (c : Conn) (s s' : Stand) (pending : List Accepted) (wrote : List ℕ) : Type 0 where
-  pub asks : List Ask
-  pub fed : IsFed bytes asks c
-  pub nothing : pending ≡ []
-  pub answered : IsAnswered n asks s s' wrote
-
+-- of a piece all are answered, and the connection goes on with what is left; or they are not
 abbrev pub IsPiece : Type 0 → Result (Unit {0}) Stop → ℕ → List ℕ → Conn → Stand → Stand → List Accepted → List ℕ → Type 0
-IsPiece cut (Ok done) n bytes c s s' pending wrote = IsFedAll n bytes c s s' pending wrote
+IsPiece cut (Ok done) n bytes c s s' pending wrote = (asks : List Ask) × IsFed bytes asks c × (pending ≡ []) × IsAnswered n asks s s' wrote
 IsPiece cut (Err why) n bytes c s s' pending wrote = IsCutOff (AreRead bytes) cut why n s s' pending wrote
 
 -- ---- what bytes answer

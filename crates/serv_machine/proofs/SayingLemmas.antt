@@ -1,12 +1,12 @@
 -- What is said in order, and a command that is fresh, which is one more and the next one of a history that goes on.
 use Rattle.std.proofs.Common.{◌≡◌, ◌+◌, ◌≤◌, List, [], ◌∷◌, ◌++◌, refl, sym, ap, ◌∙◌, ⊎_elim, arith, append-nil, append_assoc}
-use Rattle.std.specs.Prelude.{Option, Some, None}
+use Rattle.std.specs.Prelude.{Option, Some, None, option_map, unwrap_or, IsSomeAnd}
 use Rattle.svc_types.specs.declared.requests.Request.{Request}
 use Rattle.svc_types.specs.declared.requests.Request.TheVariants as request
 use Rattle.svc_world.specs.World.{Accepted, accepted}
 use Rattle.serv_machine.specs.History.{Store, History, Decision, Kept, Refused, Full, Fresh, after_decision, decided, Stand}
-use Rattle.serv_machine.specs.Verdicts.{history_after_request}
-use Rattle.serv_machine.specs.Sayings.{Saying, Say, SaidFirst, after_asked, commands_asked, IsAppended, reply_to, history_after, bound_of, commands_of, IsFresh, history_after_all, replies_to, bound_of_all, MovesAll, Starves}
+use Rattle.serv_machine.specs.Verdicts.{history_after_request, commands_in, IsAppending}
+use Rattle.serv_machine.specs.Sayings.{Saying, Say, SaidFirst, reply_to, history_after, bound_of, commands_of, IsFresh, history_after_all, replies_to, bound_of_all, MovesAll, Starves}
 use Rattle.serv_machine.proofs.NextLemmas.{next_is as it_is_next}
 
 -- ---- one list after another
@@ -52,7 +52,7 @@ store_decided h a (Refused why) = refl
 store_decided h a (Full bytes) = refl
 store_decided h a Fresh = refl
 
-store_asked : (h : History) (asks : Option Request) → (after_asked h asks).store ≡ h.store
+store_asked : (h : History) (asks : Option Request) → (unwrap_or (option_map (history_after_request h) asks) h).store ≡ h.store
 unfolding history_after_request
 store_asked h None = refl
 store_asked h (Some (request.Do key c)) = store_decided h (accepted key c) (decided h key c)
@@ -76,7 +76,7 @@ store_starves said s s' is = ⊎_elim (λ same. ap store_of same) (λ next. ap s
 
 -- ---- a command that is fresh
 
-appended_grows : (h : History) (asks : Option Request) → IsAppended h asks → (after_asked h asks).commands ≡ h.commands ++ commands_asked asks
+appended_grows : (h : History) (asks : Option Request) → IsSomeAnd asks (IsAppending h) → (unwrap_or (option_map (history_after_request h) asks) h).commands ≡ h.commands ++ unwrap_or (option_map commands_in asks) []
 unfolding history_after_request
 appended_grows h None is = absurd is
 appended_grows h (Some (request.Do key c)) is = ap (λ (d : Decision). (after_decision h (accepted key c) d).commands) is
@@ -90,7 +90,7 @@ pub record IsSingle (list : List Accepted) : Type 0 where
   pub one : Accepted
   pub is : list ≡ one ∷ []
 
-appended_one : (h : History) (asks : Option Request) → IsAppended h asks → IsSingle (commands_asked asks)
+appended_one : (h : History) (asks : Option Request) → IsSomeAnd asks (IsAppending h) → IsSingle (unwrap_or (option_map commands_in asks) [])
 appended_one h None is = absurd is
 appended_one h (Some (request.Do key c)) is = record { one = accepted key c; is = refl }
 appended_one h (Some (request.Ask q)) is = absurd is

@@ -41,9 +41,6 @@ durable_whole images e two durable = λ c image. record {
 pub durable_kept : (images : List ℕ → Type 0) (e : EngineState) → IsDurable images e → kept_history e ≡ history_of e
 durable_kept images e durable = ap (λ h. in_journal (e.journal.size - lengths_of e.history) e.journal.limit h) (running.none_kept_of e durable.kept.gate)
 
-pub durable_runs : (images : List ℕ → Type 0) (e : EngineState) → IsDurable images e → IsRunning images e
-durable_runs images e durable = running.durable_running images e durable
-
 -- what is so much is no more than that
 pub no_more : (n : ℕ) → n ≤ n
 no_more n = omega arith

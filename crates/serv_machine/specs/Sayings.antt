@@ -1,6 +1,6 @@
 -- What is said to a machine, one thing after the other; what it replies to that, and what it holds after it. A line, a row of a file
 -- and a request of a connection each say something.
-use Rattle.std.specs.Prelude.{◌≡◌, ℕ, ◌+◌, ◌≤◌, List, [], ◌∷◌, ◌++◌, Option, Some, None}
+use Rattle.std.specs.Prelude.{◌≡◌, ℕ, ◌+◌, ◌≤◌, List, [], ◌∷◌, ◌++◌, Option, Some, None, option_map, unwrap_or, IsSomeAnd}
 use Rattle.svc_types.specs.declared.requests.Request.{Request}
 use Rattle.svc_world.specs.World.{Accepted}
 use Rattle.serv_machine.specs.History.{History, IsNear, Stand}
@@ -22,36 +22,20 @@ abbrev pub reply_to : History → Saying → List ℕ
 reply_to h said = said.text h
 
 -- what is held after it
-abbrev pub after_asked : History → Option Request → History
-after_asked h None = h
-after_asked h (Some r) = history_after_request h r
-
 abbrev pub history_after : History → Saying → History
-history_after h said = after_asked h said.request
+history_after h said = unwrap_or (option_map (history_after_request h) said.request) h
 
 -- the steps of it, at most
-abbrev pub bound_asked : History → Option Request → ℕ
-bound_asked h None = 0
-bound_asked h (Some r) = bound_of_request h r
-
 abbrev pub bound_of : History → Saying → ℕ
-bound_of h said = bound_asked h said.request
+bound_of h said = unwrap_or (option_map (bound_of_request h) said.request) 0
 
 -- the command that it brings, if it brings one
-abbrev pub commands_asked : Option Request → List Accepted
-commands_asked None = []
-commands_asked (Some r) = commands_in r
-
 abbrev pub commands_of : Saying → List Accepted
-commands_of said = commands_asked said.request
+commands_of said = unwrap_or (option_map commands_in said.request) []
 
 -- it brings a command that is fresh, and for which there is room
-abbrev pub IsAppended : History → Option Request → Type 0
-IsAppended h None = ⊥
-IsAppended h (Some r) = IsAppending h r
-
 abbrev pub IsFresh : History → Saying → Type 0
-IsFresh h said = IsAppended h said.request
+IsFresh h said = IsSomeAnd said.request (IsAppending h)
 
 -- ---- one after the other
 
@@ -71,10 +55,6 @@ bound_of_all h [] = 0
 bound_of_all h (said ∷ more) = bound_of h said + bound_of_all (history_after h said) more
 
 -- ---- where the books stand
-
--- it was acted on, within its bound
-abbrev pub Moves : Saying → Stand → Stand → Type 0
-Moves said s s' = (s'.history ≡ history_after s.history said) × (s'.steps ≤ s.steps + bound_of s.history said)
 
 -- all of it was acted on, within its bound
 abbrev pub MovesAll : List Saying → Stand → Stand → Type 0

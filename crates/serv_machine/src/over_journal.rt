@@ -33,7 +33,8 @@ impl<D: Disk, B: Frugal> Machine<D> for Engine<B> {
     ghost use Rattle.serv_journal.specs.declared.format.Version.TheVariants.{Two};
     ghost use Rattle.serv_engine.specs.Engines.{IsDurable, IsRunning};
     ghost use Rattle.serv_machine.specs.History.{history_of, kept_history};
-    ghost use Rattle.serv_machine.specs.EngineLaws.{durable_kept, durable_runs, durable_whole, running_whole};
+    ghost use Rattle.serv_engine.proofs.RunningLemmas.{durable_running};
+    ghost use Rattle.serv_machine.specs.EngineLaws.{durable_kept, durable_whole, running_whole};
 
     ghost history = { history_of };
 
@@ -78,5 +79,5 @@ impl<D: Disk, B: Frugal> Machine<D> for Engine<B> {
 
     ghost keeps_running = { λ e d is. running_whole (D.images d) e is.1 is.2 };
 
-    ghost settled = { λ e d is. ((is.0, is.1, durable_runs (D.images d) e is.2), durable_kept (D.images d) e is.2) };
+    ghost settled = { λ e d is. ((is.0, is.1, durable_running (D.images d) e is.2), durable_kept (D.images d) e is.2) };
 }

@@ -9,14 +9,14 @@ use Rattle.serv_engine.specs.Histories.{lengths_of, IsGoodFound}
 use Rattle.serv_engine.specs.Engines.{EngineState}
 use Rattle.serv_engine.proofs.GoodLemmas.{good_journal, good_undamaged}
 use Rattle.serv_machine.specs.History.{History, Store, in_journal, history_of, Stand, stand}
-use Rattle.serv_machine.specs.OnDisk.{OnDisk}
+use Rattle.serv_machine.specs.OnDisk.{OnDisk, IsAcknowledged}
 use Rattle.serv_links.proofs.LinkLemmas.{few_taken}
 use Rattle.serv_texts.specs.declared.status.Status.{Status}
 use Rattle.serv_texts.specs.declared.status.Status.TheVariants as status
 use Rattle.serv_machine.specs.declared.faults.Stop.{Stop}
 use Rattle.serv_machine.specs.declared.faults.Stop.TheVariants as stop
 use Rattle.serv_machine.specs.Sayings.{SaidFirst}
-use Rattle.serv_machine.specs.Answering.{Leaves}
+use Rattle.serv_machine.specs.Answering.{Leaves, AreReplies}
 use Rattle.serv_machine.proofs.SayingLemmas.{store_moves}
 use Rattle.serv_machine.proofs.GatheredLemmas.{store_stopped}
 use Rattle.serv_top.specs.Outcome.{AreStopped, Ended, IsOutput}
@@ -24,7 +24,7 @@ use Rattle.serv_texts.specs.Input.{input_limit}
 use Rattle.serv_top.specs.Ends.{Completes}
 use Rattle.serv_texts.specs.Journal.{IsCause, IsUnopened, IsOpened, journal_limit}
 use Rattle.serv_top.specs.Journal.{IsRunOver, IsApplied}
-use Rattle.serv_top.specs.Lines.{Says, lines_of, IsAcknowledged}
+use Rattle.serv_top.specs.Lines.{Says, lines_of}
 use Rattle.serv_top.proofs.SoundLemmas.{stay_sound}
 
 -- ---- where commands are kept stays the same
@@ -78,11 +78,11 @@ pub applied : {D : Type 0} (seen : D → Option (List ℕ)) (images : D → List
     (steps begun steps' : ℕ) (left left' held held' : Option (List ℕ)) (log log' : Option (List Stamp))
     → IsOpened seen images moment images_since old mid steps begun (e.journal.size - lengths_of e.history) e.history → e.journal.limit ≡ journal_limit
     → Leaves images moment images_since mid new (λ pending. Ended 0 st (stand (history_of e) begun) (stand h steps') pending left left' held held') (history_of e) h
-    → IsAcknowledged (λ taken. SaidFirst Says (lines_of taken)) (moment new) (images_since new) h (history_of e) left left' held log log'
+    → IsAcknowledged (λ taken. AreReplies (SaidFirst Says (lines_of taken)) (history_of e)) (moment new) (images_since new) h left left' held log log'
     → IsApplied seen images moment images_since old new st steps steps' left left' held held' log log'
 applied {D} seen images moment images_since old mid new st e h steps begun steps' left left' held held' log log' opening limit ends acked =
     run_over (λ s s' pending. Ended 0 st s s' pending left left' held held'
-    × IsAcknowledged (λ taken. SaidFirst Says (lines_of taken)) (moment new) (images_since new) s'.history s.history left left' held log log') seen images moment images_since old mid new e h steps begun steps' ends.pending opening limit
+    × IsAcknowledged (λ taken. AreReplies (SaidFirst Says (lines_of taken)) s.history) (moment new) (images_since new) s'.history left left' held log log') seen images moment images_since old mid new e h steps begun steps' ends.pending opening limit
     (store_ended 0 st (stand (history_of e) begun) (stand h steps') ends.pending ends.says_so.taken left' ends.says_so.written ends.says_so.says) (ends.says_so, acked) ends.disk
 
 -- ---- completeness

@@ -5,7 +5,6 @@ use Rattle.svc_world.specs.World.{Accepted}
 use Rattle.serv_disk.specs.Faults.{HasRisen}
 use Rattle.serv_texts.specs.declared.status.Status.{Status}
 use Rattle.serv_texts.specs.declared.status.Status.TheVariants as status
-use Rattle.serv_top.specs.Ends.{Finishes}
 use Rattle.serv_texts.specs.Journal.{IsInit}
 use Rattle.serv_machine.specs.History.{Stand}
 use Rattle.serv_top.specs.Outcome.{Ended}
@@ -19,7 +18,7 @@ init_ends status.DiskFault told told' images faults faults' calm is = absurd (ca
 init_ends other told told' images faults faults' calm is = absurd is
 
 pub session_ends : (waiting : ℕ) (st : Status) (s s' : Stand) (pending : List Accepted) (left left' held held' : Option (List ℕ)) (input : List ℕ) → left ≡ Some input → length input < input_limit
-    → (st ≡ status.ReadFault → ⊥) → (st ≡ status.WriteFault → ⊥) → (st ≡ status.DiskFault → ⊥) → Ended waiting st s s' pending left left' held held' → Finishes st
+    → (st ≡ status.ReadFault → ⊥) → (st ≡ status.WriteFault → ⊥) → (st ≡ status.DiskFault → ⊥) → Ended waiting st s s' pending left left' held held' → (st ≡ status.Done) ⊎ (st ≡ status.OutOfMemory)
 session_ends waiting status.Done s s' pending left left' held held' input is short reads writes disks e = inl refl
 session_ends waiting status.ReadFault s s' pending left left' held held' input is short reads writes disks e = absurd (reads refl)
 session_ends waiting status.WriteFault s s' pending left left' held held' input is short reads writes disks e = absurd (writes refl)

@@ -5,9 +5,9 @@ use Rattle.std.specs.Io.KnownBytes.{Consumes}
 use Rattle.std.proofs.KnownBytes.{Consumes-trans}
 use Rattle.serv_disk.specs.Stamps.{Stamp}
 use Rattle.serv_machine.specs.History.{History, Stand, Running}
-use Rattle.serv_top.specs.Lines.{Says, lines_of, ended_lines, open_line, IsAcknowledged}
+use Rattle.serv_top.specs.Lines.{Says, lines_of, ended_lines, open_line}
 use Rattle.serv_top.specs.Outcome.{Served}
-use Rattle.serv_machine.specs.OnDisk.{Upholds}
+use Rattle.serv_machine.specs.OnDisk.{Upholds, IsAcknowledged}
 use Rattle.serv_top.proofs.Cutting.{unended, ended_from, ended_lines-append, lines_of-from}
 use Rattle.serv_top.proofs.Running.{Course}
 use Rattle.serv_machine.specs.Sayings.{SaidFirst}
@@ -36,7 +36,7 @@ module _ (moment : ℕ) (since : ℕ → List ℕ → Type 0) (now h : History) 
 
   -- the bytes that were taken
   pub acknowledged : (left left' : Option (List ℕ)) (taken : List ℕ) → Consumes left left' taken → Upholds (AreReplies (SaidFirst Says (lines_of taken)) h) moment since now held log log'
-      → IsAcknowledged (λ bytes. SaidFirst Says (lines_of bytes)) moment since now h left left' held log log'
+      → IsAcknowledged (λ bytes. AreReplies (SaidFirst Says (lines_of bytes)) h) moment since now left left' held log log'
   acknowledged left left' taken took up = record { taken = taken; took = took; upheld = up }
 
 -- more bytes are taken and served

@@ -9,12 +9,12 @@ use Rattle.serv_disk.specs.Faults.{HasRisen}
 use Rattle.serv_disk.specs.Stamps.{Stamp}
 use Rattle.serv_engine.specs.Histories.{IsGoodFound, lengths_of}
 use Rattle.serv_engine.specs.Engines.{EngineState}
-use Rattle.serv_machine.specs.History.{history_of, History, Stand, stand, Running}
+use Rattle.serv_machine.specs.History.{history_of, History, Stand, stand, Running, Stays}
 use Rattle.serv_import.specs.declared.row.RowRequest.{RowRequest}
 use Rattle.serv_import.specs.declared.row.RowRequest.TheVariants as row
 use Rattle.serv_import.specs.Batches.{AreAnswers, IsBatch}
 use Rattle.serv_import.proofs.UniqueLemmas.{one_batch}
-use Rattle.serv_machine.specs.OnDisk.{OnDisk}
+use Rattle.serv_machine.specs.OnDisk.{OnDisk, IsAcknowledged}
 use Rattle.serv_machine.proofs.OnDiskLemmas.{disk_more}
 use Rattle.serv_machine.specs.declared.faults.Stop.{Stop}
 use Rattle.serv_machine.specs.declared.faults.Stop.TheVariants as stop
@@ -22,13 +22,12 @@ use Rattle.serv_texts.specs.declared.status.Status.{Status}
 use Rattle.serv_texts.specs.declared.status.Status.TheVariants as status
 use Rattle.serv_machine.specs.Sayings.{Saying, AreFirst, MovesAll}
 use Rattle.serv_texts.specs.Input.{input_limit, IsUnread}
-use Rattle.serv_machine.specs.Answering.{Gathered, IsStopped, Leaves, Writes}
+use Rattle.serv_machine.specs.Answering.{Gathered, IsStopped, Leaves, Writes, AreReplies}
 use Rattle.serv_machine.proofs.GatheredLemmas.{all_gathered, stops_after, store_stopped, writes_as}
 use Rattle.serv_machine.proofs.SayingLemmas.{store_moves}
 use Rattle.serv_texts.specs.Status.{status_of}
 use Rattle.serv_top.specs.Ends.{Completes}
-use Rattle.serv_top.specs.Lines.{IsAcknowledged}
-use Rattle.serv_top.specs.Imported.{FileSays, said_of, IsRow, AreRows, IsRowsOutput, IsIdle, IsFileOutput, rows, headless, Imports, IsImported}
+use Rattle.serv_top.specs.Imported.{FileSays, said_of, IsRow, AreRows, IsRowsOutput, IsFileOutput, rows, headless, Imports, IsImported}
 use Rattle.serv_texts.specs.Journal.{IsOpened, IsUnopened, journal_limit}
 use Rattle.serv_links.proofs.LinkLemmas.{few_taken}
 use Rattle.serv_top.proofs.Applied.{run_over, unopened_ends}
@@ -118,7 +117,7 @@ is_row list i item is are small = subst (λ (r : RowRequest). IsRow r) (sym is) 
 module _ {D : Type 0} (images : D → List ℕ → Type 0) (moment : D → ℕ) (images_since : D → ℕ → List ℕ → Type 0) (old new : D) (st : Status) (bytes : List ℕ) (s s' : Stand) (held held' : Option (List ℕ)) where
   -- its rows are answered, or there is no memory for what they say
   abbrev pub FileOutput : List Accepted → List ℕ → Type 0
-  FileOutput pending written = ((st ≡ status.OutOfMemory) × IsIdle s s' pending written) ⊎ IsFileOutput st bytes s s' pending written
+  FileOutput pending written = ((st ≡ status.OutOfMemory) × (pending ≡ []) × (written ≡ []) × Stays s s') ⊎ IsFileOutput st bytes s s' pending written
 
   pub file_says : (saids : List Saying) → FileSays bytes saids → Writes images moment images_since old new (IsRowsOutput st saids s s') s.history s'.history held held' → Writes images moment images_since old new FileOutput s.history s'.history held held'
   file_says saids file ends = writes_as images moment images_since old new (IsRowsOutput st saids s s') FileOutput s.history s'.history held held' (λ pending written is. inr (record { saids = saids; file = file; rows = is })) ends
@@ -135,7 +134,7 @@ import_unread images moment images_since old new st s s' left left' held unread 
     written = [];
     took = unread.1;
     wrote = Appends-nil held;
-    says = inl (unread.2, record { none_pending = refl; nothing = refl; stays = (same, omega (arith, steps)) });
+    says = inl (unread.2, refl, refl, (same, omega (arith, steps)));
   };
   disk = disk;
 }
@@ -155,17 +154,17 @@ store_rows other saids s s' pending written is = absurd is
 
 pub store_import : (st : Status) (s s' : Stand) (pending : List Accepted) (left left' held held' : Option (List ℕ)) → Imports st s s' pending left left' held held' → s'.history.store ≡ s.history.store
 store_import st s s' pending left left' held held' is =
-    ⊎_elim (λ unread. ap (λ (h : History). h.store) unread.1.stays.0) (λ file. store_rows st file.2.saids s s' pending is.written file.2.rows) is.says
+    ⊎_elim (λ unread. ap (λ (h : History). h.store) unread.3.0) (λ file. store_rows st file.2.saids s s' pending is.written file.2.rows) is.says
 
 pub imported : {D : Type 0} (seen : D → Option (List ℕ)) (images : D → List ℕ → Type 0) (moment : D → ℕ) (images_since : D → ℕ → List ℕ → Type 0) (old mid new : D) (st : Status) (e : EngineState) (h : History)
     (steps begun steps' : ℕ) (left left' held held' : Option (List ℕ)) (log log' : Option (List Stamp))
     → IsOpened seen images moment images_since old mid steps begun (e.journal.size - lengths_of e.history) e.history → e.journal.limit ≡ journal_limit
     → Leaves images moment images_since mid new (λ pending. Imports st (stand (history_of e) begun) (stand h steps') pending left left' held held') (history_of e) h
-    → IsAcknowledged FileSays (moment new) (images_since new) h (history_of e) left left' held log log'
+    → IsAcknowledged (λ taken. AreReplies (FileSays taken) (history_of e)) (moment new) (images_since new) h left left' held log log'
     → IsImported seen images moment images_since old new st steps steps' left left' held held' log log'
 imported {D} seen images moment images_since old mid new st e h steps begun steps' left left' held held' log log' opening limit ends acked =
     run_over (λ s s' pending. Imports st s s' pending left left' held held'
-    × IsAcknowledged FileSays (moment new) (images_since new) s'.history s.history left left' held log log') seen images moment images_since old mid new e h steps begun steps' ends.pending opening limit
+    × IsAcknowledged (λ taken. AreReplies (FileSays taken) s.history) (moment new) (images_since new) s'.history left left' held log log') seen images moment images_since old mid new e h steps begun steps' ends.pending opening limit
     (store_import st (stand (history_of e) begun) (stand h steps') ends.pending left left' held held' ends.says_so) (ends.says_so, acked) ends.disk
 
 -- ---- completeness

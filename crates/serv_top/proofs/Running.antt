@@ -1,7 +1,7 @@
 -- A run in its course: what it has taken, accepted and written so far, and what that is where it ends.
 use Rattle.std.proofs.Common.{◌≡◌, ◌≢◌, ℕ, ◌+◌, ◌<◌, ◌≤◌, List, [], ◌∷◌, ◌++◌, length, refl, sym, subst, arith, inl, inr, ⊎_elim, append-nil, length-append}
 use Rattle.std.specs.Prelude.{Option}
-use Rattle.std.specs.Io.KnownBytes.{Consumes, IsAtEnd}
+use Rattle.std.specs.Io.KnownBytes.{Consumes, IsAtEnd, Appends}
 use Rattle.std.proofs.KnownBytes.{Consumes-nil, Consumes-trans, Appends-nil}
 use Rattle.svc_world.specs.World.{Accepted}
 use Rattle.svc_world.specs.Judging.{IsHistory}
@@ -19,7 +19,7 @@ use Rattle.serv_machine.proofs.SayingLemmas.{said_all}
 use Rattle.serv_machine.proofs.AnsweringLemmas.{first_all}
 use Rattle.serv_machine.proofs.GatheredLemmas.{all_gathered}
 use Rattle.serv_top.specs.Lines.{Says, lines_of, ended_lines}
-use Rattle.serv_top.specs.Outcome.{AllServed, AreStopped, Ended, Ran, Served}
+use Rattle.serv_top.specs.Outcome.{AreStopped, Ended, Ran, Served}
 use Rattle.serv_texts.specs.Input.{Exchanges, input_limit}
 use Rattle.serv_texts.specs.Status.{status_of}
 use Rattle.serv_top.proofs.ServedLemmas.{served_none}
@@ -89,13 +89,13 @@ module _ {D : Type 0} (images : D → List ℕ → Type 0) (moment : D → ℕ) 
 
   -- all lines are answered
   pub ends_done : count < input_limit → Consumes left' left'' [] → IsAtEnd left'' → OnDisk images moment images_since old mid s.history t.kept []
-      → OnDisk images moment images_since mid new t.kept s'.history [] → AllServed (lines_of run.taken) s s' held held''
+      → OnDisk images moment images_since mid new t.kept s'.history [] → (written : List ℕ) × Appends held held'' written × Answers (Say Says (lines_of run.taken)) s s' written
       → Leaves images moment images_since old new (λ pending. Ended waiting status.Done s s' pending left left'' held held'') s.history s'.history
   ends_done below took end first second all =
       let counted = run.count_is in
       record {
         pending = [];
-        says_so = record { taken = run.taken; written = all.written; took = end_took run left'' took; wrote = all.wrote; says = (refl, end, omega arith, all.answers) };
+        says_so = record { taken = run.taken; written = all.0; took = end_took run left'' took; wrote = all.1; says = (refl, end, omega arith, all.2) };
         disk = disk_more images moment images_since old mid new s.history t.kept s'.history [] first second;
       }
 

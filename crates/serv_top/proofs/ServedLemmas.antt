@@ -4,13 +4,14 @@ use Rattle.std.specs.Prelude.{Option}
 use Rattle.std.proofs.lemmas.List.{length-take-le, take_at, take_all, take-append-le}
 use Rattle.std.proofs.lemmas.Bool.{cases_lt}
 use Rattle.serv_top.specs.Lines.{IsPlain, Says, lines_of, ended_lines, open_line}
+use Rattle.std.specs.Io.KnownBytes.{Appends}
 use Rattle.serv_machine.specs.History.{Stand, stand, Running}
 use Rattle.serv_machine.specs.Sayings.{Saying, Say, SaidFirst, AreFirst}
-use Rattle.serv_machine.specs.Answering.{Gathered}
+use Rattle.serv_machine.specs.Answering.{Gathered, Answers}
 use Rattle.serv_machine.proofs.SayingLemmas.{say-push}
 use Rattle.serv_machine.proofs.AnsweringLemmas.{first_all, first_more, first_said}
 use Rattle.serv_machine.proofs.GatheredLemmas.{all_gathered, gathered_none}
-use Rattle.serv_top.specs.Outcome.{AllServed, Served}
+use Rattle.serv_top.specs.Outcome.{Served}
 use Rattle.serv_top.proofs.LineLemmas.{says_whole}
 use Rattle.serv_top.proofs.PlainLemmas.{ended_plain, open_plain}
 use Rattle.serv_top.proofs.Cutting.{unended, ended_from, open_from-push, ended_lines-push, ended_lines-append, lines_of-from}
@@ -114,10 +115,10 @@ module _ (waiting : ℕ) (bytes : List ℕ) {s : Stand} {t : Running} {held held
 
 -- all lines are answered
 pub all_served : (waiting : ℕ) (bytes : List ℕ) (s : Stand) (t : Running) (held held' : Option (List ℕ)) (line text : List ℕ) (lines : List (List ℕ)) → lines ≡ ended_lines bytes → t.kept ≡ t.held → text ≡ []
-    → Served waiting bytes s t held held' line text → AllServed lines s (stand t.kept t.steps) held held'
+    → Served waiting bytes s t held held' line text → (written : List ℕ) × Appends held held' written × Answers (Say Says lines) s (stand t.kept t.steps) written
 all_served waiting bytes s t held held' line text lines is all none run =
     let gathered = all_gathered waiting run.said s run.gathers all none in
-    record { written = run.gathers.written; wrote = run.gathers.wrote; answers = record { said = run.said; whole = subst (λ ls. Say Says ls run.said) (sym is) run.say; text = gathered.0; moved = gathered.1 } }
+    (run.gathers.written, run.gathers.wrote, record { said = run.said; whole = subst (λ ls. Say Says ls run.said) (sym is) run.say; text = gathered.0; moved = gathered.1 })
 
 -- nothing is left where no more than nothing is
 pub none_more : (text : List ℕ) → length text ≤ 0 → text ≡ []

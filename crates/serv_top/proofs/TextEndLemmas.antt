@@ -14,11 +14,11 @@ use Rattle.serv_texts.specs.declared.status.Status.{Status}
 use Rattle.serv_texts.specs.declared.status.Status.TheVariants as status
 use Rattle.serv_texts.specs.Journal.{IsUnopened}
 use Rattle.serv_texts.specs.Texts.{IsWrittenAs, HasNoReport, IsSaidAs, IsTextOf, IsTextOver}
-use Rattle.serv_top.specs.Ends.{Completes, Finishes, IsShort, MayEnd}
+use Rattle.serv_top.specs.Ends.{Completes, IsShort, MayEnd}
 use Rattle.serv_top.proofs.Applied.{unopened_ends}
 use Rattle.serv_top.proofs.ImportLemmas.{unread_ends}
 
-pub written_finishes : (st : Status) (T : List ℕ → Type 0) (written : List ℕ) → (st ≡ status.WriteFault → ⊥) → IsWrittenAs st T written → Finishes st
+pub written_finishes : (st : Status) (T : List ℕ → Type 0) (written : List ℕ) → (st ≡ status.WriteFault → ⊥) → IsWrittenAs st T written → (st ≡ status.Done) ⊎ (st ≡ status.OutOfMemory)
 written_finishes status.Done T written calm says = inl refl
 written_finishes status.WriteFault T written calm says = absurd (calm refl)
 written_finishes status.OutOfMemory T written calm says = inr refl

@@ -52,17 +52,14 @@ IsUndisturbed (Write text) left seen images reads writes disks nets =
     (reads_input text ≡ true → IsShort left × (¬ reads)) × IsGoodDisk seen images × (¬ writes) × (¬ disks)
 IsUndisturbed other left seen images reads writes disks nets = IsShort left × IsGoodDisk seen images × (¬ reads) × (¬ writes) × (¬ disks)
 
--- it is done, or memory was short; over a journal it may also be one that cannot be written anew
-abbrev pub Finishes : Status → Type 0
-Finishes status = (status ≡ Done) ⊎ (status ≡ OutOfMemory)
-
+-- it is done, or memory was short, or the journal cannot be written anew
 abbrev pub Completes : Status → Type 0
 Completes status = (status ≡ Done) ⊎ ((status ≡ OutOfMemory) ⊎ ((bytes : ℕ) × (status ≡ JournalFull bytes)))
 
 -- how it may end then
 abbrev pub MayEnd : Task → Status → Type 0
 MayEnd Init status = (status ≡ Done) ⊎ (status ≡ AlreadyThere)
-MayEnd Session status = Finishes status
-MayEnd (Drill loans number) status = Finishes status
+MayEnd Session status = (status ≡ Done) ⊎ (status ≡ OutOfMemory)
+MayEnd (Drill loans number) status = (status ≡ Done) ⊎ (status ≡ OutOfMemory)
 MayEnd (Write (Show q)) status = Completes status ⊎ ((last : Option ℕ) × (status ≡ NoReport last))
 MayEnd other status = Completes status

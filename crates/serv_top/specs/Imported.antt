@@ -10,12 +10,13 @@ use Rattle.serv_import.specs.declared.row.RowRequest.TheVariants as row
 use Rattle.serv_import.specs.Batches.{HasHeader, IsBatch}
 use Rattle.serv_texts.specs.declared.status.Status.{Status}
 use Rattle.serv_texts.specs.declared.status.Status.TheVariants.{Done, WriteFault, DiskFault, OutOfMemory}
+use Rattle.serv_machine.specs.OnDisk.{IsAcknowledged}
 use Rattle.serv_machine.specs.History.{Stand, Stays}
 use Rattle.serv_machine.specs.Sayings.{Saying, AreFirst, telling}
-use Rattle.serv_machine.specs.Answering.{Answers, IsStopped}
+use Rattle.serv_machine.specs.Answering.{Answers, IsStopped, AreReplies}
 use Rattle.serv_machine.specs.declared.faults.Stop.TheVariants as stop
 use Rattle.serv_rows.specs.Texts.{text_of_bad_row}
-use Rattle.serv_top.specs.Lines.{in_words, IsAcknowledged}
+use Rattle.serv_top.specs.Lines.{in_words}
 use Rattle.serv_texts.specs.Input.{Exchanges, IsUnread, input_limit}
 use Rattle.serv_top.specs.Journal.{IsRunOver}
 use Rattle.serv_disk.specs.Stamps.{Stamp}
@@ -53,12 +54,6 @@ IsRowsOutput other saids s s' pending written = ⊥
 
 -- ---- the file
 
--- no row is acted on, and nothing is written
-pub record IsIdle (s s' : Stand) (pending : List Accepted) (written : List ℕ) : Type 0 where
-  pub none_pending : pending ≡ []
-  pub nothing : written ≡ []
-  pub stays : Stays s s'
-
 -- the rows of a file are answered
 pub record IsFileOutput (status : Status) (bytes : List ℕ) (s s' : Stand) (pending : List Accepted) (written : List ℕ) : Type 0 where
   pub saids : List Saying
@@ -68,7 +63,7 @@ pub record IsFileOutput (status : Status) (bytes : List ℕ) (s s' : Stand) (pen
 -- the whole source is read first: then its rows are answered, or no row is acted on
 abbrev pub Imports : Status → Stand → Stand → List Accepted → Option (List ℕ) → Option (List ℕ) → Option (List ℕ) → Option (List ℕ) → Type 0
 Imports status s s' pending left left' held held' =
-    Exchanges (λ taken written. (IsUnread status taken × IsIdle s s' pending written)
+    Exchanges (λ taken written. (IsUnread status taken × (pending ≡ []) × (written ≡ []) × Stays s s')
     ⊎ (IsAtEnd left' × (length taken < input_limit) × IsFileOutput status taken s s' pending written)) left left' held held'
 
 -- a journal was opened, and then a file was imported over it; from the moment of each write on, and at exit, each image has
@@ -77,4 +72,4 @@ abbrev pub IsImported : {D : Type 0} → (D → Option (List ℕ)) → (D → Li
     → Option (List ℕ) → Option (List ℕ) → Option (List ℕ) → Option (List ℕ) → Option (List Stamp) → Option (List Stamp) → Type 0
 IsImported seen images moment images_since old new status steps steps' left left' held held' log log' =
     IsRunOver (λ s s' pending. Imports status s s' pending left left' held held'
-    × IsAcknowledged FileSays (moment new) (images_since new) s'.history s.history left left' held log log') seen images moment images_since old new steps steps'
+    × IsAcknowledged (λ taken. AreReplies (FileSays taken) s.history) (moment new) (images_since new) s'.history left left' held log log') seen images moment images_since old new steps steps'

@@ -2,13 +2,14 @@
 use Rattle.std.specs.Prelude.{ℕ, List, Option}
 use Rattle.svc_world.specs.World.{Accepted}
 use Rattle.serv_disk.specs.Stamps.{Stamp}
+use Rattle.serv_machine.specs.Answering.{AreReplies}
 use Rattle.serv_machine.specs.History.{in_journal, Stand, stand}
-use Rattle.serv_machine.specs.OnDisk.{OnDisk}
+use Rattle.serv_machine.specs.OnDisk.{OnDisk, IsAcknowledged}
 use Rattle.serv_machine.specs.Sayings.{SaidFirst}
 use Rattle.serv_texts.specs.declared.status.Status.{Status}
 use Rattle.serv_texts.specs.Journal.{IsOpened, journal_limit}
 use Rattle.serv_top.specs.Outcome.{Ended, StaySound}
-use Rattle.serv_top.specs.Lines.{Says, lines_of, IsAcknowledged}
+use Rattle.serv_top.specs.Lines.{Says, lines_of}
 
 -- a journal was opened, after which the disk was this one; and then requests were answered over it, which ends so
 pub record IsRunOver {D : Type 0} (Ends : Stand → Stand → List Accepted → Type 0) (seen : D → Option (List ℕ)) (images : D → List ℕ → Type 0) (moment : D → ℕ)
@@ -32,4 +33,4 @@ abbrev pub IsApplied : {D : Type 0} → (D → Option (List ℕ)) → (D → Lis
     → Option (List ℕ) → Option (List ℕ) → Option (List ℕ) → Option (List ℕ) → Option (List Stamp) → Option (List Stamp) → Type 0
 IsApplied seen images moment images_since old new status steps steps' left left' held held' log log' =
     IsRunOver (λ s s' pending. Ended 0 status s s' pending left left' held held'
-    × IsAcknowledged (λ taken. SaidFirst Says (lines_of taken)) (moment new) (images_since new) s'.history s.history left left' held log log') seen images moment images_since old new steps steps'
+    × IsAcknowledged (λ taken. AreReplies (SaidFirst Says (lines_of taken)) s.history) (moment new) (images_since new) s'.history left left' held log log') seen images moment images_since old new steps steps'

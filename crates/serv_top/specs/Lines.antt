@@ -1,5 +1,5 @@
 -- How a stream of bytes is cut into lines, at line feeds, and what a line says.
-use Rattle.std.specs.Prelude.{◌≡◌, ℕ, ◌==◌, ⊤, false, List, [], ◌∷◌, ◌++◌, if◌then◌else◌, Option}
+use Rattle.std.specs.Prelude.{◌≡◌, ℕ, ◌==◌, ⊤, false, List, [], ◌∷◌, ◌++◌, if◌then◌else◌}
 use Rattle.svc_types.specs.declared.requests.Request.{Request}
 use Rattle.serv_top.specs.declared.said.Said.{Said}
 use Rattle.serv_top.specs.declared.said.Said.TheVariants.{Asks, Faulty, Unfit}
@@ -10,10 +10,6 @@ use Rattle.serv_line.specs.Replies.{text_of_bad}
 use Rattle.serv_rows.specs.Texts.{text_of_bad_row}
 use Rattle.serv_machine.specs.Verdicts.{reply_to_request}
 use Rattle.serv_machine.specs.Sayings.{Saying, asking, telling}
-use Rattle.serv_machine.specs.Answering.{AreReplies}
-use Rattle.serv_disk.specs.Stamps.{Stamp}
-use Rattle.serv_machine.specs.History.{History}
-use Rattle.serv_machine.specs.OnDisk as upheld
 
 -- a byte in front of the first line; where there is no line, the byte is one, and has no line feed yet
 abbrev pub onto_first : ℕ → List (List ℕ) → List (List ℕ)
@@ -70,8 +66,3 @@ abbrev pub IsFormed : Said → Type 0
 IsFormed (Asks r) = IsRequest r
 IsFormed (Faulty place) = ⊤
 IsFormed (Unfit number column) = ⊤
-
--- of a run that took its requests from a source, over a history: each write that it noted is upheld
-abbrev pub IsAcknowledged : (List ℕ → List Saying → Type 0) → ℕ → (ℕ → List ℕ → Type 0) → History → History → Option (List ℕ) → Option (List ℕ) → Option (List ℕ) → Option (List Stamp) → Option (List Stamp) → Type 0
-IsAcknowledged First moment since now h left left' held log log' =
-    upheld.IsAcknowledged (λ taken. AreReplies (First taken) h) moment since now left left' held log log'

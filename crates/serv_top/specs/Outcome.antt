@@ -86,12 +86,6 @@ pub record Served (waiting : ℕ) (bytes : List ℕ) (s : Stand) (t : Running) (
   pub gathers : Gathered waiting said s t held held' text
   pub line_is : line ≡ take 513 (open_line bytes)
 
--- all lines were acted on, and the replies to them are written
-pub record AllServed (lines : List (List ℕ)) (s s' : Stand) (held held' : Option (List ℕ)) : Type 0 where
-  pub written : List ℕ
-  pub wrote : Appends held held' written
-  pub answers : Answers (Say Says lines) s s' written
-
 -- ---- lines of commands that are taken on
 
 -- a store has room for these commands and no others

@@ -1,13 +1,12 @@
 //! The rows of a file, answered over a journal.
 
-ghost use Rattle.std.specs.Prelude.{◌≡◌, ◌≤◌, ◌^◌, ◌⊎◌, map, length};
+ghost use Rattle.std.specs.Prelude.{◌≡◌, [], ◌≤◌, ◌^◌, ◌⊎◌, map, length};
 ghost use Rattle.serv_disk.specs.Faults.{HasRisen};
-ghost use Rattle.serv_machine.specs.OnDisk.{Upholds};
+ghost use Rattle.serv_machine.specs.OnDisk.{Upholds, IsAcknowledged};
 ghost use Rattle.serv_texts.specs.Journal.{HasFileFaults, IsUnopened};
-ghost use Rattle.serv_machine.specs.History.{stand};
+ghost use Rattle.serv_machine.specs.History.{stand, Stays};
 ghost use Rattle.serv_machine.specs.Answering.{AreReplies, Leaves, Writes};
-ghost use Rattle.serv_top.specs.Lines.{IsAcknowledged};
-ghost use Rattle.serv_top.specs.Imported.{AreRows, FileSays, Imports, IsFileOutput, IsIdle, IsImported, IsRowsOutput, said_of};
+ghost use Rattle.serv_top.specs.Imported.{AreRows, FileSays, Imports, IsFileOutput, IsImported, IsRowsOutput, said_of};
 
 use crate::said::said_of;
 use serv_disk::{Disk, Sink, Source};
@@ -60,8 +59,8 @@ fn import_by<D: Disk, M: Machine<D>, S: Source, K: Sink, L: Ledger>(
         (stand (M.history machine.old) steps.old) (stand (M.kept machine.new) steps.new) pending
         (S.left src.old) (S.left src.new) (K.held snk.old) (K.held snk.new))
         (M.history machine.old) (M.kept machine.new) }
-    ensures acknowledged { IsAcknowledged FileSays (D.moment disk.new) (D.images_since disk.new)
-        (M.kept machine.new) (M.history machine.old)
+    ensures acknowledged { IsAcknowledged (λ taken. AreReplies (FileSays taken) (M.history machine.old))
+        (D.moment disk.new) (D.images_since disk.new) (M.kept machine.new)
         (S.left src.old) (S.left src.new) (K.held snk.old) (K.log snk.old) (K.log snk.new) }
     ensures read { result ≡ Status.ReadFault → HasRisen (S.faults src.old) (S.faults src.new) }
     ensures write { result ≡ Status.WriteFault → HasRisen (K.faults snk.old) (K.faults snk.new) }
@@ -89,8 +88,8 @@ fn answer_file<D: Disk, M: Machine<D>, K: Sink, L: Ledger>(
     requires ready { M.ready machine.old disk.old }
     // Its rows are answered, or there is no memory for what they say.
     ensures ends { Writes D.images D.moment D.images_since disk.old disk.new (λ pending written.
-        ((result ≡ Status.OutOfMemory) × IsIdle (stand (M.history machine.old) steps.old)
-        (stand (M.kept machine.new) steps.new) pending written)
+        ((result ≡ Status.OutOfMemory) × (pending ≡ []) × (written ≡ [])
+        × Stays (stand (M.history machine.old) steps.old) (stand (M.kept machine.new) steps.new))
         ⊎ IsFileOutput result bytes.now (stand (M.history machine.old) steps.old)
         (stand (M.kept machine.new) steps.new) pending written)
         (M.history machine.old) (M.kept machine.new) (K.held snk.old) (K.held snk.new) }

@@ -3,11 +3,12 @@
 ghost use Rattle.std.specs.Prelude.{◌≡◌, ℕ, ◌+◌, ◌<◌, ◌≤◌, ◌==◌, ◌++◌, List, [], ◌∷◌, Option, Some, Err, false, true, OnErr, OnOk, IfErr, IfOk, length, take, vec_len};
 ghost use Rattle.std.specs.List.{position};
 ghost use Rattle.serv_disk.specs.Faults.{HasRisen};
+ghost use Rattle.std.specs.Io.KnownBytes.{Appends};
 ghost use Rattle.serv_machine.specs.OnDisk.{OnDisk, Upholds};
 ghost use Rattle.serv_machine.specs.History.{Stand, running, stand};
-ghost use Rattle.serv_top.specs.Outcome.{AllServed, Served};
-ghost use Rattle.serv_machine.specs.Answering.{AreReplies, IsStopped, Writes};
-ghost use Rattle.serv_machine.specs.Sayings.{AreFirst, SaidFirst};
+ghost use Rattle.serv_top.specs.Outcome.{Served};
+ghost use Rattle.serv_machine.specs.Answering.{AreReplies, IsStopped, Writes, Answers};
+ghost use Rattle.serv_machine.specs.Sayings.{AreFirst, SaidFirst, Say};
 ghost use Rattle.serv_top.specs.Lines.{IsPlain, Says, ended_lines, lines_of};
 
 use crate::said::said_in;
@@ -314,8 +315,8 @@ impl Serving {
             → Served self.old.replies.waiting bytes s
             (running (M.history machine.old) (M.kept machine.old) steps.old) held (K.held snk.old)
             self.old.line.items self.old.replies.text.items
-            → OnOk result (AllServed (lines_of bytes) s (stand (M.kept machine.new) steps.new)
-            held (K.held snk.new)) }
+            → OnOk result ((written : List ℕ) × Appends held (K.held snk.new) written
+            × Answers (Say Says (lines_of bytes)) s (stand (M.kept machine.new) steps.new) written) }
         ensures stopped { (bytes : List ℕ) (s : Stand) (held : Option (List ℕ))
             → Served self.old.replies.waiting bytes s
             (running (M.history machine.old) (M.kept machine.old) steps.old) held (K.held snk.old)

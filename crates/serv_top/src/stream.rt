@@ -2,10 +2,11 @@
 
 ghost use Rattle.std.specs.Prelude.{◌≡◌, ◌≤◌};
 ghost use Rattle.serv_disk.specs.Faults.{HasRisen};
+ghost use Rattle.serv_machine.specs.OnDisk.{IsAcknowledged};
 ghost use Rattle.serv_machine.specs.History.{stand};
-ghost use Rattle.serv_machine.specs.Answering.{Leaves};
+ghost use Rattle.serv_machine.specs.Answering.{Leaves, AreReplies};
 ghost use Rattle.serv_machine.specs.Sayings.{SaidFirst};
-ghost use Rattle.serv_top.specs.Lines.{IsAcknowledged, Says, lines_of};
+ghost use Rattle.serv_top.specs.Lines.{Says, lines_of};
 ghost use Rattle.serv_top.specs.Outcome.{Ended};
 
 use crate::serving::Serving;
@@ -35,8 +36,8 @@ pub(crate) fn serve<D: Disk, M: Machine<D>, S: Source, K: Sink, L: Ledger>(
         (stand (M.history machine.old) steps.old) (stand (M.kept machine.new) steps.new) pending
         (S.left src.old) (S.left src.new) (K.held snk.old) (K.held snk.new))
         (M.history machine.old) (M.kept machine.new) }
-    ensures acknowledged { IsAcknowledged (λ taken. SaidFirst Says (lines_of taken)) (D.moment disk.new)
-        (D.images_since disk.new) (M.kept machine.new) (M.history machine.old)
+    ensures acknowledged { IsAcknowledged (λ taken. AreReplies (SaidFirst Says (lines_of taken)) (M.history machine.old))
+        (D.moment disk.new) (D.images_since disk.new) (M.kept machine.new)
         (S.left src.old) (S.left src.new) (K.held snk.old) (K.log snk.old) (K.log snk.new) }
     ensures read { result ≡ Status.ReadFault → HasRisen (S.faults src.old) (S.faults src.new) }
     ensures write { result ≡ Status.WriteFault → HasRisen (K.faults snk.old) (K.faults snk.new) }

@@ -23,7 +23,7 @@ returns-in-Err-OutOfMemory-clause-ends g c = record {
   pending = [];
   written = [];
   wrote = Appends-nil _;
-  says_so = inl (refl, record { none_pending = refl; nothing = refl; stays = ((g.met.M.Machine.settled c.args.machine.now c.args.disk.now c.requires.ready).1, omega arith) });
+  says_so = inl (refl, refl, refl, ((g.met.M.Machine.settled c.args.machine.now c.args.disk.now c.requires.ready).1, omega arith));
   disk = disk_none g.D.Disk.images g.D.Disk.moment g.D.Disk.images_since c.args.disk.now _ _ (g.met.M.Machine.settled c.args.machine.now c.args.disk.now c.requires.ready).1
       (g.met.M.Machine.keeps c.args.machine.now c.args.disk.now c.requires.ready) (g.met.D.Disk.only_now c.args.disk.now);
 }
