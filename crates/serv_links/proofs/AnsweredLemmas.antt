@@ -1,5 +1,5 @@
 -- What is written to a link in answer to its requests, and the commands that these bring.
-use Rattle.std.proofs.Common.{◌≡◌, ℕ, ◌+◌, List, [], ◌++◌, length, refl, sym, ap, subst, ◌∙◌, inl, ⊎_elim, arith, append-nil, append_assoc, length-append}
+use Rattle.std.proofs.Common.{◌≡◌, ℕ, ◌+◌, List, [], ◌++◌, length, refl, sym, ap, subst, ◌∙◌, inl, ⊎_elim, arith, append-nil, append_assoc}
 use Rattle.std.specs.Prelude.{Option, Some}
 use Rattle.std.specs.Io.KnownBytes.{Appends}
 use Rattle.std.proofs.KnownBytes.{Appends-nil}
@@ -12,14 +12,13 @@ use Rattle.serv_http.proofs.StreamLemmas.{asks-grow}
 use Rattle.serv_machine.specs.Answering.{AreReplies, IsStopped, Writes}
 use Rattle.serv_machine.specs.History.{History, Stand}
 use Rattle.serv_machine.specs.OnDisk.{OnDisk, Upholds}
-use Rattle.serv_machine.specs.Sayings.{SaidFirst, history_after_all, replies_to}
+use Rattle.serv_machine.specs.Sayings.{SaidFirst}
 use Rattle.serv_machine.specs.declared.faults.Stop.{Stop}
 use Rattle.serv_machine.specs.declared.faults.Stop.TheVariants.{WriteFault, OutOfMemory}
-use Rattle.serv_machine.proofs.SayingLemmas.{history_after_all-append, replies_to-append}
+use Rattle.serv_machine.proofs.StoppedLemmas.{replies_then, stopped_covered}
 use Rattle.serv_machine.proofs.UpheldLemmas.{commands_left, upheld_none, upheld_wider, upheld_later, upheld_then, upheld_written}
 use Rattle.serv_links.specs.Meanings.{Says, last_text}
 use Rattle.serv_links.specs.Outcomes.{IsAnswered, ComeFirst, AreRead, AreInFront, AreAnswers, AreAnswersOf}
-use Rattle.serv_links.proofs.StoppedLemmas.{said_after, first_after, stopped_covered}
 use Rattle.serv_links.proofs.RoundLemmas.{none_stopped}
 
 -- ---- requests after others
@@ -50,24 +49,11 @@ answers_wider Known Wider then h bytes commands is = record { asks = is.asks; kn
 pub answers_alone : (asks : List Ask) (h : History) (bytes : ℕ) (commands : List Accepted) → AreReplies (SaidFirst Says asks) h bytes commands → AreAnswers asks h bytes commands
 answers_alone asks h bytes commands is = record { before = bytes; replies = is; why = WriteFault; bytes_are = omega arith }
 
-replies_then : (n : ℕ) (xs ys : List Ask) (s t : Stand) (wrote : List ℕ) (bytes : ℕ) (commands : List Accepted) → IsAnswered n xs s t wrote → AreReplies (SaidFirst Says ys) t.history bytes commands
-    → AreReplies (SaidFirst Says (xs ++ ys)) s.history (length wrote + bytes) commands
-replies_then n xs ys s t wrote bytes commands first is =
-    let a = first.answers in
-    let texts : replies_to s.history (a.said ++ is.said) ≡ wrote ++ replies_to t.history is.said =
-    replies_to-append s.history a.said is.said ∙ (ap (λ x. x ++ replies_to (history_after_all s.history a.said) is.said) (sym a.text) ∙ ap (λ h. wrote ++ replies_to h is.said) (sym a.moved.0)) in
-    record {
-      said = a.said ++ is.said;
-      first = first_after (SaidFirst Says ys) (SaidFirst Says (xs ++ ys)) a.said (λ saids. said_after Says xs ys a.said saids a.whole) is.said [] is.first;
-      bytes_are = ap (λ k. length wrote + k) is.bytes_are ∙ sym (ap (λ (l : List ℕ). length l) texts ∙ length-append wrote (replies_to t.history is.said));
-      commands_are = is.commands_are ∙ (ap (λ h. (history_after_all h is.said).commands) a.moved.0 ∙ ap (λ (h : History). h.commands) (sym (history_after_all-append s.history a.said is.said)));
-    }
-
 answers_then : (n : ℕ) (xs ys : List Ask) (s t : Stand) (wrote : List ℕ) (bytes : ℕ) (commands : List Accepted) → IsAnswered n xs s t wrote → AreAnswers ys t.history bytes commands
     → AreAnswers (xs ++ ys) s.history (length wrote + bytes) commands
 answers_then n xs ys s t wrote bytes commands first is = record {
   before = length wrote + is.before;
-  replies = replies_then n xs ys s t wrote is.before commands first is.replies;
+  replies = replies_then Says xs ys s t wrote is.before commands first.answers is.replies;
   why = is.why;
   bytes_are = (let all = is.bytes_are in omega (arith, all));
 }

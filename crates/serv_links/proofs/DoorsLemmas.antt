@@ -17,7 +17,7 @@ use Rattle.serv_disk.specs.Faults.{HasRisen}
 use Rattle.serv_machine.specs.Answering.{Writes}
 use Rattle.serv_machine.specs.declared.faults.Stop.TheVariants.{WriteFault, OutOfMemory}
 use Rattle.serv_links.specs.Outcomes.{AreInFront, AreAnswersOf, ComeFirst}
-use Rattle.serv_links.proofs.StoppedLemmas.{nothing_begun}
+use Rattle.serv_machine.proofs.StoppedLemmas.{nothing_begun}
 use Rattle.serv_links.specs.Links.{IsDiskEnd, Serves, number_in}
 use Rattle.serv_links.specs.Doors.{ServedLink, AreServed, AreTaken, AreBack, HasServed, NoDisk, IsSummary, ServesDoors, as_broken, as_cut, as_memory}
 

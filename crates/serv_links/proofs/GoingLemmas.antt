@@ -25,8 +25,7 @@ use Rattle.serv_machine.proofs.UpheldLemmas.{upheld_none}
 use Rattle.serv_links.proofs.AnsweredLemmas.{asks_none, front_none, front_grows, piece_upheld, unread_upheld}
 use Rattle.serv_links.specs.Links.{IsAll, IsReadOn, IsServed, Serves, link_limit, read_limit}
 use Rattle.serv_links.proofs.RoundLemmas.{answered_none, answered_more, ended_more, cut_off_weaker, unread_ended}
-use Rattle.serv_links.proofs.StoppedLemmas.{writes_more}
-use Rattle.serv_machine.proofs.GatheredLemmas.{writes_as}
+use Rattle.serv_machine.proofs.GatheredLemmas.{writes_as, writes_more}
 
 -- all requests of the bytes taken are answered, and the connection stands for what is left of them; and of what so many bytes
 -- answer, which writes are upheld

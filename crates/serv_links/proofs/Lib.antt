@@ -1,5 +1,4 @@
 pub mod VerdictLemmas
-pub mod StoppedLemmas
 pub mod RoundLemmas
 pub mod AskLemmas
 pub mod OneLemmas

@@ -18,10 +18,9 @@ use Rattle.serv_links.specs.declared.meaning.Meaning.TheVariants.{Asks, Faulty}
 use Rattle.serv_links.specs.Meanings.{Means, Says, means, saying_of}
 use Rattle.serv_machine.specs.History.{History, Stand}
 use Rattle.serv_machine.specs.Sayings.{Saying, Say, history_after_all, replies_to}
-use Rattle.serv_machine.proofs.SayingLemmas.{replies_to-append, say_one}
+use Rattle.serv_machine.proofs.SayingLemmas.{replies_to-append, say_one, say_parted}
 use Rattle.serv_machine.specs.declared.faults.Stop.TheVariants.{WriteFault}
 use Rattle.serv_links.specs.Outcomes.{AreInFront, IsCutOff}
-use Rattle.serv_links.proofs.StoppedLemmas.{say_parted}
 use Rattle.svc_world.specs.World.{Accepted}
 use Rattle.serv_disk.specs.Faults.{HasRisen, IsProperPrefix}
 use Rattle.serv_links.specs.Links.{IsAll}

@@ -16,12 +16,12 @@ use Rattle.serv_machine.specs.OnDisk.{OnDisk}
 use Rattle.serv_machine.specs.Sayings.{Saying, Say, SaidFirst, replies_to}
 use Rattle.serv_machine.specs.declared.faults.Stop.{Stop}
 use Rattle.serv_machine.specs.declared.faults.Stop.TheVariants.{OutOfMemory}
-use Rattle.serv_machine.proofs.SayingLemmas.{replies_to-append, moves_all-append, say-append, said_all}
-use Rattle.serv_machine.proofs.AnsweringLemmas.{first_more}
+use Rattle.serv_machine.proofs.SayingLemmas.{replies_to-append, moves_all-append, say-append, say_length, said_after, said_all, said_none}
+use Rattle.serv_machine.proofs.AnsweringLemmas.{first_after, first_more}
 use Rattle.serv_machine.proofs.GatheredLemmas.{stops_after}
+use Rattle.serv_machine.proofs.StoppedLemmas.{stopped_at, stopped_after}
 use Rattle.serv_links.specs.Meanings.{Says, last_text}
 use Rattle.serv_links.specs.Outcomes.{IsFront, AppendsFront, IsAnswered, ComeFirst, IsEnded, IsRound, IsCutOff, IsPiece}
-use Rattle.serv_links.proofs.StoppedLemmas.{say_length, said_none, said_after, first_after, stopped_at, stopped_after}
 
 -- ---- which of them come first
 

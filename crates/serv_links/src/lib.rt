@@ -3,7 +3,6 @@
 
 mod answering;
 mod closing;
-mod deciding;
 mod doors;
 mod laws;
 mod link_end;

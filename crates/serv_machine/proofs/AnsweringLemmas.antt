@@ -46,6 +46,24 @@ first_push said last done ahead is = record {
 pub first_exact : (said : List Saying) (done ahead : List Saying) → said ≡ done ++ ahead → AreFirst (λ all. all ≡ said) done ahead
 first_exact said done ahead is = record { saids = said; whole = refl; others = []; saids_are = is ∙ ap (λ l. done ++ l) (sym (append-nil ahead)) }
 
+-- after others
+pub first_after : (Whole Wider : List Saying → Type 0) (front : List Saying) → ((saids : List Saying) → Whole saids → Wider (front ++ saids)) → (done ahead : List Saying) → AreFirst Whole done ahead
+    → AreFirst Wider (front ++ done) ahead
+first_after Whole Wider front then done ahead is = record {
+  saids = front ++ is.saids;
+  whole = then is.saids is.whole;
+  others = is.others;
+  saids_are = ap (λ l. front ++ l) is.saids_are ∙ sym (append_assoc front done (ahead ++ is.others));
+}
+
+-- with what comes next
+pub first_with : (Whole : List Saying → Type 0) (done ahead : List Saying) → AreFirst Whole done ahead → AreFirst Whole (done ++ ahead) []
+first_with Whole done ahead is = record { saids = is.saids; whole = is.whole; others = is.others; saids_are = is.saids_are ∙ sym (append_assoc done ahead is.others) }
+
+-- and without it
+pub first_done : (Whole : List Saying → Type 0) (done ahead : List Saying) → AreFirst Whole done ahead → AreFirst Whole done []
+first_done Whole done ahead is = record { saids = is.saids; whole = is.whole; others = ahead ++ is.others; saids_are = is.saids_are }
+
 -- ---- what is answered
 
 -- where one thing is said, it has one answer, and one history after it

@@ -28,6 +28,18 @@ module _ {D : Type 0} (images : D → List ℕ → Type 0) (moment : D → ℕ) 
   writes_after old mid new P h h1 h2 held held' first w =
       record { pending = w.pending; written = w.written; wrote = w.wrote; says_so = w.says_so; disk = disk_more images moment images_since old mid new h h1 h2 w.pending first w.disk }
 
+  -- what was written, and then more
+  pub writes_more : (old mid new : D) (P Q R : List Accepted → List ℕ → Type 0) (h h1 h2 : History) (held held1 held2 : Option (List ℕ))
+      (first : Writes images moment images_since old mid P h h1 held held1) → first.pending ≡ [] → (second : Writes images moment images_since mid new Q h1 h2 held1 held2)
+      → R second.pending (first.written ++ second.written) → Writes images moment images_since old new R h h2 held held2
+  writes_more old mid new P Q R h h1 h2 held held1 held2 first none second says = record {
+    pending = second.pending;
+    written = first.written ++ second.written;
+    wrote = Appends-trans held held1 held2 first.written second.written first.wrote second.wrote;
+    says_so = says;
+    disk = disk_more images moment images_since old mid new h h1 h2 second.pending (subst (λ p. OnDisk images moment images_since old mid h h1 p) none first.disk) second.disk;
+  }
+
 -- ---- where less is known of what comes first
 
 module _ (First Wider : List Saying → List Saying → Type 0) (then : (done ahead : List Saying) → First done ahead → Wider done ahead) (waiting : ℕ) (s s' : Stand) where

@@ -6,3 +6,4 @@ pub mod UpheldLemmas
 pub mod SayingLemmas
 pub mod GatheredLemmas
 pub mod AnsweringLemmas
+pub mod StoppedLemmas

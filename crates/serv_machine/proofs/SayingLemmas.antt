@@ -1,5 +1,5 @@
 -- What is said in order, and a command that is fresh, which is one more and the next one of a history that goes on.
-use Rattle.std.proofs.Common.{◌≡◌, ◌+◌, ◌≤◌, List, [], ◌∷◌, ◌++◌, refl, sym, ap, ◌∙◌, ⊎_elim, arith, append-nil, append_assoc}
+use Rattle.std.proofs.Common.{◌≡◌, ◌+◌, ◌≤◌, List, [], ◌∷◌, ◌++◌, length, refl, sym, ap, ◌∙◌, ⊎_elim, arith, append-nil, append_assoc}
 use Rattle.std.specs.Prelude.{Option, Some, None, option_map, unwrap_or, IsSomeAnd}
 use Rattle.svc_types.specs.declared.requests.Request.{Request}
 use Rattle.svc_types.specs.declared.requests.Request.TheVariants as request
@@ -136,3 +136,27 @@ said_more Says items more saids is = record { acted = is.acted; others = is.othe
 
 pub said_all : {A : Type 0} (Says : A → Saying → Type 0) (items : List A) (saids : List Saying) → Say Says items saids → SaidFirst Says items saids
 said_all Says items saids say = record { acted = items; others = []; items_are = sym (append-nil items); say = say }
+
+module _ {A : Type 0} (Says : A → Saying → Type 0) where
+  pub say_length : (xs : List A) (ms : List Saying) → Say Says xs ms → length ms ≡ length xs
+  say_length [] [] p = refl
+  say_length [] (m ∷ ms) p = absurd p
+  say_length (x ∷ xs) [] p = absurd p
+  say_length (x ∷ xs) (m ∷ ms) p = let rest = say_length xs ms p.1 in omega (arith, rest)
+
+  -- those of the first things come first
+  pub say_parted : (xs ys : List A) (saids : List Saying) → Say Says (xs ++ ys) saids → (front : List Saying) × (back : List Saying) × Say Says xs front × (saids ≡ front ++ back)
+  say_parted [] ys saids all = ([], saids, tt, refl)
+  say_parted (x ∷ xs) ys [] all = absurd all
+  say_parted (x ∷ xs) ys (m ∷ saids) all = let p = say_parted xs ys saids all.1 in (m ∷ p.0, p.1, (all.0, p.2), ap (λ l. m ∷ l) p.3)
+
+  pub said_none : (xs : List A) → SaidFirst Says xs []
+  said_none xs = record { acted = []; others = xs; items_are = refl; say = tt }
+
+  pub said_after : (xs ys : List A) (front ms : List Saying) → Say Says xs front → SaidFirst Says ys ms → SaidFirst Says (xs ++ ys) (front ++ ms)
+  said_after xs ys front ms first is = record {
+    acted = xs ++ is.acted;
+    others = is.others;
+    items_are = ap (λ l. xs ++ l) is.items_are ∙ sym (append_assoc xs is.acted is.others);
+    say = say-append Says xs is.acted front ms first is.say;
+  }

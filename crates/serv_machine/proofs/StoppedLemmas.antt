@@ -1,66 +1,18 @@
--- What is said one after the other, where nothing further is answered: it holds of more that is said, and after what was answered
--- before.
-use Rattle.std.proofs.Common.{◌≡◌, ℕ, ◌≤◌, List, [], ◌∷◌, ◌++◌, length, refl, sym, ap, subst, ◌∙◌, inl, inr, arith, append-nil, append_assoc, length-append}
+-- Where nothing further is answered: it holds of more that is said, and after what was answered before; and the commands behind what
+-- is written.
+use Rattle.std.proofs.Common.{◌≡◌, ℕ, ◌+◌, ◌≤◌, List, [], ◌∷◌, ◌++◌, length, refl, sym, ap, subst, ◌∙◌, inl, inr, arith, append-nil, append_assoc, length-append}
 use Rattle.std.specs.Prelude.{Option, Some, None, option_map, unwrap_or}
-use Rattle.std.proofs.KnownBytes.{Appends-trans}
 use Rattle.svc_types.specs.declared.requests.Request.{Request}
 use Rattle.svc_types.specs.declared.requests.Request.TheVariants as request
 use Rattle.svc_world.specs.World.{Accepted, accepted}
 use Rattle.serv_machine.specs.declared.faults.Stop.{Stop}
 use Rattle.serv_machine.specs.declared.faults.Stop.TheVariants.{WriteFault, DiskFault, OutOfMemory}
-use Rattle.serv_machine.specs.Answering.{Answers, IsCutIn, NextHasNone, AnsweredBut, IsStopped, AreReplies, Writes}
+use Rattle.serv_machine.specs.Answering.{Answers, IsCutIn, NextHasNone, AnsweredBut, IsStopped, AreReplies}
 use Rattle.serv_machine.specs.History.{History, Stand, Decision, Kept, Refused, Full, Fresh, after_decision, decided}
-use Rattle.serv_machine.specs.OnDisk.{OnDisk}
 use Rattle.serv_machine.specs.Sayings.{Saying, Say, SaidFirst, AreFirst, history_after_all, replies_to, MovesAll}
 use Rattle.serv_machine.specs.Verdicts.{history_after_request}
-use Rattle.serv_machine.proofs.OnDiskLemmas.{disk_more}
-use Rattle.serv_machine.proofs.SayingLemmas.{replies_to-append, moves_all-append, say-append}
-
--- ---- what things say
-
-module _ {A : Type 0} (Says : A → Saying → Type 0) where
-  pub say_length : (xs : List A) (ms : List Saying) → Say Says xs ms → length ms ≡ length xs
-  say_length [] [] p = refl
-  say_length [] (m ∷ ms) p = absurd p
-  say_length (x ∷ xs) [] p = absurd p
-  say_length (x ∷ xs) (m ∷ ms) p = let rest = say_length xs ms p.1 in omega (arith, rest)
-
-  -- those of the first things come first
-  pub say_parted : (xs ys : List A) (saids : List Saying) → Say Says (xs ++ ys) saids → (front : List Saying) × (back : List Saying) × Say Says xs front × (saids ≡ front ++ back)
-  say_parted [] ys saids all = ([], saids, tt, refl)
-  say_parted (x ∷ xs) ys [] all = absurd all
-  say_parted (x ∷ xs) ys (m ∷ saids) all = let p = say_parted xs ys saids all.1 in (m ∷ p.0, p.1, (all.0, p.2), ap (λ l. m ∷ l) p.3)
-
-  pub said_none : (xs : List A) → SaidFirst Says xs []
-  said_none xs = record { acted = []; others = xs; items_are = refl; say = tt }
-
-  pub said_after : (xs ys : List A) (front ms : List Saying) → Say Says xs front → SaidFirst Says ys ms → SaidFirst Says (xs ++ ys) (front ++ ms)
-  said_after xs ys front ms first is = record {
-    acted = xs ++ is.acted;
-    others = is.others;
-    items_are = ap (λ l. xs ++ l) is.items_are ∙ sym (append_assoc xs is.acted is.others);
-    say = say-append Says xs is.acted front ms first is.say;
-  }
-
--- ---- which come first
-
--- after others
-pub first_after : (Whole Wider : List Saying → Type 0) (front : List Saying) → ((saids : List Saying) → Whole saids → Wider (front ++ saids)) → (done ahead : List Saying) → AreFirst Whole done ahead
-    → AreFirst Wider (front ++ done) ahead
-first_after Whole Wider front then done ahead is = record {
-  saids = front ++ is.saids;
-  whole = then is.saids is.whole;
-  others = is.others;
-  saids_are = ap (λ l. front ++ l) is.saids_are ∙ sym (append_assoc front done (ahead ++ is.others));
-}
-
--- with what comes next
-first_with : (Whole : List Saying → Type 0) (done ahead : List Saying) → AreFirst Whole done ahead → AreFirst Whole (done ++ ahead) []
-first_with Whole done ahead is = record { saids = is.saids; whole = is.whole; others = is.others; saids_are = is.saids_are ∙ sym (append_assoc done ahead is.others) }
-
--- and without it
-first_done : (Whole : List Saying → Type 0) (done ahead : List Saying) → AreFirst Whole done ahead → AreFirst Whole done []
-first_done Whole done ahead is = record { saids = is.saids; whole = is.whole; others = ahead ++ is.others; saids_are = is.saids_are }
+use Rattle.serv_machine.proofs.AnsweringLemmas.{first_after, first_with, first_done}
+use Rattle.serv_machine.proofs.SayingLemmas.{history_after_all-append, replies_to-append, moves_all-append, said_after}
 
 -- ---- of more that is said it holds too
 
@@ -124,6 +76,21 @@ module _ (Whole : List Saying → Type 0) (First Wider : List Saying → List Sa
   stopped_after WriteFault is = (is.0, cut_after is.1)
   stopped_after DiskFault is = but_after DiskFault is
   stopped_after OutOfMemory is = but_after OutOfMemory is
+
+-- ---- what is answered of more
+
+-- so many bytes are the replies to what comes first, after what was answered before
+pub replies_then : {A : Type 0} (Says : A → Saying → Type 0) (xs ys : List A) (s t : Stand) (wrote : List ℕ) (bytes : ℕ) (commands : List Accepted) → Answers (Say Says xs) s t wrote → AreReplies (SaidFirst Says ys) t.history bytes commands
+    → AreReplies (SaidFirst Says (xs ++ ys)) s.history (length wrote + bytes) commands
+replies_then Says xs ys s t wrote bytes commands a is =
+    let texts : replies_to s.history (a.said ++ is.said) ≡ wrote ++ replies_to t.history is.said =
+    replies_to-append s.history a.said is.said ∙ (ap (λ x. x ++ replies_to (history_after_all s.history a.said) is.said) (sym a.text) ∙ ap (λ h. wrote ++ replies_to h is.said) (sym a.moved.0)) in
+    record {
+      said = a.said ++ is.said;
+      first = first_after (SaidFirst Says ys) (SaidFirst Says (xs ++ ys)) a.said (λ saids. said_after Says xs ys a.said saids a.whole) is.said [] is.first;
+      bytes_are = ap (λ k. length wrote + k) is.bytes_are ∙ sym (ap (λ (l : List ℕ). length l) texts ∙ length-append wrote (replies_to t.history is.said));
+      commands_are = is.commands_are ∙ (ap (λ h. (history_after_all h is.said).commands) a.moved.0 ∙ ap (λ (h : History). h.commands) (sym (history_after_all-append s.history a.said is.said)));
+    }
 
 -- ---- the command that was being appended
 
@@ -205,17 +172,3 @@ module _ (Whole : List Saying → Type 0) (First : List Saying → List Saying �
   stopped_covered WriteFault is = cut_covered is.1
   stopped_covered DiskFault is = but_covered DiskFault is
   stopped_covered OutOfMemory is = but_covered OutOfMemory is
-
--- ---- with what is left on a disk
-
--- what was written, and then more
-pub writes_more : {D : Type 0} (images : D → List ℕ → Type 0) (moment : D → ℕ) (images_since : D → ℕ → List ℕ → Type 0) (old mid new : D) (P Q R : List Accepted → List ℕ → Type 0) (h h1 h2 : History) (held held1 held2 : Option (List ℕ))
-    (first : Writes images moment images_since old mid P h h1 held held1) → first.pending ≡ [] → (second : Writes images moment images_since mid new Q h1 h2 held1 held2)
-    → R second.pending (first.written ++ second.written) → Writes images moment images_since old new R h h2 held held2
-writes_more images moment images_since old mid new P Q R h h1 h2 held held1 held2 first none second says = record {
-  pending = second.pending;
-  written = first.written ++ second.written;
-  wrote = Appends-trans held held1 held2 first.written second.written first.wrote second.wrote;
-  says_so = says;
-  disk = disk_more images moment images_since old mid new h h1 h2 second.pending (subst (λ p. OnDisk images moment images_since old mid h h1 p) none first.disk) second.disk;
-}
