@@ -23,15 +23,27 @@ After step old c = (d : List ℕ) × old d × step d c
 abbrev pub Only : Option (List ℕ) → (List ℕ → Type 0) → Type 0
 Only told images = Each images (λ c. told ≡ Some c)
 
+-- What is seen of a disk: what reads give, where it tells it; what a crash may leave at this moment, which has a number; and at some
+-- moment from one on, during a call or between two.
+pub record View : Type 1 where
+  pub seen : Option (List ℕ)
+  pub images : List ℕ → Type 0
+  pub moment : ℕ
+  pub since : ℕ → List ℕ → Type 0
+
+-- of a disk that tells nothing
+abbrev pub nothing_seen : View
+nothing_seen = record { seen = None; images = λ c. ⊥; moment = 0; since = λ t c. ⊥ }
+
 -- Time goes on: a crash since t might have left what it might have left before, or what it may leave now.
-pub record Elapses (before now : ℕ) (past since : ℕ → List ℕ → Type 0) (images : List ℕ → Type 0) : Type 0 where
-  pub later : before ≤ now
-  pub nothing_else : (t : ℕ) (c : List ℕ) → t ≤ before → since t c → past t c ⊎ images c
-  pub keeps : (t : ℕ) (c : List ℕ) → t ≤ before → past t c → since t c
+pub record Elapses (old new : View) : Type 0 where
+  pub later : old.moment ≤ new.moment
+  pub nothing_else : (t : ℕ) (c : List ℕ) → t ≤ old.moment → new.since t c → old.since t c ⊎ new.images c
+  pub keeps : (t : ℕ) (c : List ℕ) → t ≤ old.moment → old.since t c → new.since t c
 
 -- a crash at any moment since old leaves an image that has P
-pub record LeavesOnly {D : Type 0} (moment : D → ℕ) (images_since : D → ℕ → List ℕ → Type 0) (old new : D) (P : List ℕ → Type 0) : Type 0 where
-  pub later : moment old ≤ moment new
-  pub each : (c : List ℕ) → images_since new (moment old) c → P c
+pub record LeavesOnly {D : Type 0} (view : D → View) (old new : D) (P : List ℕ → Type 0) : Type 0 where
+  pub later : (view old).moment ≤ (view new).moment
+  pub each : (c : List ℕ) → (view new).since (view old).moment c → P c
   -- for a run that began earlier
-  pub before : (t : ℕ) (c : List ℕ) → t ≤ moment old → images_since new t c → images_since old t c ⊎ P c
+  pub before : (t : ℕ) (c : List ℕ) → t ≤ (view old).moment → (view new).since t c → (view old).since t c ⊎ P c

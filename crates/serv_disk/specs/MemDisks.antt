@@ -1,7 +1,7 @@
 -- What contracts see of a disk in memory.
 use Rattle.std.specs.Prelude.{ℕ, ◌<◌, ◌⊎◌, List, Option, Some, MatchOption, Contains, length}
 use Rattle.serv_images.specs.DiskCalls.{DiskCall, now_of, IsImage, IsSince}
-use Rattle.serv_disk.specs.Disks.{Elapses}
+use Rattle.serv_disk.specs.Disks.{View}
 
 -- the content at first and the calls that were made, the newest first; the room that is reserved for further calls
 -- and bytes; the numbers of the calls that fail, and after which number all fail; how many calls there were, how
@@ -29,10 +29,9 @@ told disk = Some (content_of disk)
 abbrev pub images_of : DiskState → List ℕ → Type 0
 images_of disk = IsImage disk.first disk.made
 
--- time goes on by one call
-abbrev pub TimeElapses : DiskState → DiskState → Type 0
-TimeElapses old new =
-    Elapses (length old.made) (length new.made) (IsSince old.first old.made) (IsSince new.first new.made) (images_of new)
+-- all that is seen of it: a moment is the number of calls that were made
+abbrev pub view_of : DiskState → View
+view_of disk = record { seen = told disk; images = images_of disk; moment = length disk.made; since = IsSince disk.first disk.made }
 
 -- the list or the stop lets the newest call fail
 abbrev pub IsLetFail : DiskState → Type 0

@@ -141,14 +141,9 @@ where
     R::File: Hold,
 {
     ghost use Rattle.serv_disk.specs.DiskLaws.{untold};
+    ghost use Rattle.serv_disk.specs.Disks.{nothing_seen};
 
-    ghost seen = { λ _. None };
-
-    ghost images = { λ _ _. ⊥ };
-
-    ghost moment = { λ _. 0 };
-
-    ghost images_since = { λ _ _ _. ⊥ };
+    ghost view = { λ _. nothing_seen };
 
     ghost faults = { λ d. d.faults };
 

@@ -4,10 +4,10 @@ ghost use Rattle.std.specs.Prelude.{◌≡◌, ℕ, ◌+◌, ◌-◌, ◌^◌, �
 ghost use Rattle.serv_images.specs.DiskCalls.{DiskCall, Wrote, Shortened, Synced};
 ghost use Rattle.serv_images.specs.CutShort.{TornAt, Cut};
 ghost use Rattle.serv_images.specs.Crashes.{crashed};
-ghost use Rattle.serv_disk.specs.Disks.{Holds, Told, Each, After, Only};
+ghost use Rattle.serv_disk.specs.Disks.{Elapses, Holds, Told, Each, After, Only};
 ghost use Rattle.serv_disk.specs.Faults.{HasCause, HasRisen};
 ghost use Rattle.serv_disk.specs.Objects.{raised};
-ghost use Rattle.serv_disk.specs.MemDisks.{DiskState, IsLetFail, TimeElapses, content_of, images_of, told};
+ghost use Rattle.serv_disk.specs.MemDisks.{DiskState, IsLetFail, content_of, images_of, told, view_of};
 
 use crate::disk::Disk;
 use crate::failed::{Failed, is_among};
@@ -158,17 +158,11 @@ impl MemDisk {
 impl Disk for MemDisk {
     ghost use Rattle.std.specs.Prelude.{ℕ, length, Some, List, refl};
     ghost use Rattle.serv_images.specs.DiskCalls.{IsImage, IsSince, now_of};
-    ghost use Rattle.serv_disk.specs.MemDisks.{IsLetFail, TimeElapses, content_of, images_of, told};
+    ghost use Rattle.serv_disk.specs.MemDisks.{IsLetFail, content_of, images_of, told, view_of};
     ghost use Rattle.serv_disk.specs.Objects.{raised};
     ghost use Rattle.serv_disk.specs.DiskLaws.{since_now, now_only, now_image, some_image};
 
-    ghost seen = { λ d. told d };
-
-    ghost images = { λ d. images_of d };
-
-    ghost moment = { λ d. length d.made };
-
-    ghost images_since = { λ d t c. IsSince d.first d.made t c };
+    ghost view = { λ d. view_of d };
 
     ghost faults = { λ d. d.faults };
 
@@ -182,7 +176,7 @@ impl Disk for MemDisk {
         ensures number { IfOk result (λ n. (s : List ℕ) → told self.old ≡ Some s → n ≡ length s) }
         ensures kept { told self.new ≡ told self.old }
         ensures crash { Each (images_of self.new) (images_of self.old) }
-        ensures time { TimeElapses self.old self.new }
+        ensures time { Elapses (view_of self.old) (view_of self.new) }
         ensures cause { HasCause self.old.faults self.new.faults result }
 
         // It fails exactly where its number is in the list or past the stop.
@@ -202,7 +196,7 @@ impl Disk for MemDisk {
         ensures bytes { OnOk result ((s : List ℕ) → told self.old ≡ Some s → buf.new ≡ take (length buf.old) (drop at s)) }
         ensures kept { told self.new ≡ told self.old }
         ensures crash { Each (images_of self.new) (images_of self.old) }
-        ensures time { TimeElapses self.old self.new }
+        ensures time { Elapses (view_of self.old) (view_of self.new) }
         ensures cause { HasCause self.old.faults self.new.faults result }
 
         // It fails exactly where its number is in the list or past the stop.
@@ -231,7 +225,7 @@ impl Disk for MemDisk {
         ensures written { OnOk result (Told (told self.old) (told self.new) (Holds at bytes.now)) }
         ensures failed { OnErr result (Told (told self.old) (told self.new) (TornAt at (length bytes.now))) }
         ensures crash { Each (images_of self.new) (After (TornAt at (length bytes.now)) (images_of self.old)) }
-        ensures time { TimeElapses self.old self.new }
+        ensures time { Elapses (view_of self.old) (view_of self.new) }
         ensures cause { HasCause self.old.faults self.new.faults result }
 
         // With room it fails exactly where its number is in the list or past the stop, and is made.
@@ -264,7 +258,7 @@ impl Disk for MemDisk {
         ensures cut { OnOk result (Told (told self.old) (told self.new) (λ old new. new ≡ take len old)) }
         ensures failed { OnErr result (Told (told self.old) (told self.new) (Cut len)) }
         ensures crash { Each (images_of self.new) (After (Cut len) (images_of self.old)) }
-        ensures time { TimeElapses self.old self.new }
+        ensures time { Elapses (view_of self.old) (view_of self.new) }
         ensures cause { HasCause self.old.faults self.new.faults result }
 
         // With room it fails exactly where its number is in the list or past the stop, and is made.
@@ -296,7 +290,7 @@ impl Disk for MemDisk {
         ensures durable { OnOk result (Only (told self.new) (images_of self.new)) }
         ensures kept { told self.new ≡ told self.old }
         ensures crash { Each (images_of self.new) (images_of self.old) }
-        ensures time { TimeElapses self.old self.new }
+        ensures time { Elapses (view_of self.old) (view_of self.new) }
         ensures cause { HasCause self.old.faults self.new.faults result }
 
         // With room it fails exactly where its number is in the list or past the stop.

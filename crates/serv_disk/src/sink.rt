@@ -31,7 +31,8 @@ pub trait Sink {
 
     /// Sees the disk as it is now: what is written from here on counts from this moment. Writes nothing.
     fn show<D: Disk>(&mut self, disk: &D)
-        ensures marked { (stamps : List Stamp) → log self.old ≡ Some stamps → mark self.new ≡ D.moment disk.now }
+        ensures marked { (stamps : List Stamp) → log self.old ≡ Some stamps
+            → mark self.new ≡ (D.view disk.now).moment }
         ensures log { log self.new ≡ log self.old }
         ensures held { held self.new ≡ held self.old }
         ensures beside { beside self.new ≡ beside self.old }
@@ -272,7 +273,7 @@ pub fn write_beside<D: Disk, K: Sink>(snk: &mut K, disk: &D, text: &[u8]) -> Res
     ensures cause { HasCause (K.faults snk.old) (K.faults snk.new) result }
     ensures beside { K.beside snk.new ≡ K.beside snk.old }
     ensures noted { (s : List ℕ) → K.held snk.old ≡ Some s
-        → Notes (D.moment disk.now) (length s + length text.now) (K.log snk.old) (K.log snk.new) }
+        → Notes (D.view disk.now).moment (length s + length text.now) (K.log snk.old) (K.log snk.new) }
 {
     snk.show(disk);
     write_whole(snk, text)

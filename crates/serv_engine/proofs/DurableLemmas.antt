@@ -1,6 +1,6 @@
 -- What a call leaves on the disk.
 use Rattle.std.proofs.Common.{ℕ, ◌≤◌, List}
-use Rattle.serv_disk.specs.Disks.{Each, LeavesOnly}
+use Rattle.serv_disk.specs.Disks.{Each, LeavesOnly, View}
 use Rattle.serv_journal.specs.Format.{Form}
 use Rattle.serv_engine.specs.Engines.{EngineState, IsDurableIn, IsDurable, IsRunningIn, IsRunning}
 
@@ -12,6 +12,6 @@ pub running_in : (form : Form) (images : List ℕ → Type 0) (e : EngineState) 
 running_in form images e r = record { form = form; kept = r }
 
 -- what is good at each moment is so at the end
-pub good_now : {D : Type 0} (moment : D → ℕ) (images : D → List ℕ → Type 0) (images_since : D → ℕ → List ℕ → Type 0) (old new : D) (P : List ℕ → Type 0)
-    → ((d : D) (t : ℕ) (c : List ℕ) → t ≤ moment d → images d c → images_since d t c) → LeavesOnly moment images_since old new P → Each (images new) P
-good_now moment images images_since old new P counts run c image = run.each c (counts new (moment old) c run.later image)
+pub good_now : {D : Type 0} (view : D → View) (old new : D) (P : List ℕ → Type 0)
+    → ((d : D) (t : ℕ) (c : List ℕ) → t ≤ (view d).moment → (view d).images c → (view d).since t c) → LeavesOnly view old new P → Each (view new).images P
+good_now view old new P counts run c image = run.each c (counts new (view old).moment c run.later image)

@@ -2,7 +2,7 @@
 use Rattle.std.proofs.Common.{◌≡◌, ℕ, List, [], ◌∷◌, ◌++◌, None, inl, refl, sym, ap, subst, ◌∙◌}
 use Rattle.std.proofs.lemmas.List.{map-append}
 use Rattle.svc_world.specs.World.{Accepted}
-use Rattle.serv_disk.specs.Disks.{Each, LeavesOnly}
+use Rattle.serv_disk.specs.Disks.{Each, LeavesOnly, View}
 use Rattle.serv_disk.proofs.Moments.{started}
 use Rattle.serv_journal.specs.Format.{Form}
 use Rattle.serv_journal.specs.States.{JournalState}
@@ -58,24 +58,24 @@ put_with until images form h begun a line journal is kept =
     subst (λ x. IsKept form images journal x (lines_of_history (begun_after until a))) (ap (λ x. kept_after until (lines_of_history h ++ lines_of_history begun) x) is ∙ sym (kept_lines until h begun a))
     (subst (λ x. IsKept form images journal (kept_after until (lines_of_history h ++ lines_of_history begun) line) x) (ap (λ x. begun_after until x) is ∙ sym (begun_lines until a)) kept)
 
-module _ {D : Type 0} (moment : D → ℕ) (images : D → List ℕ → Type 0) (images_since : D → ℕ → List ℕ → Type 0) where
+module _ {D : Type 0} (view : D → View) where
   pub moments_with : (until : Until) (old new : D) (form : Form) (h begun : List Accepted) (a : Accepted) (line : List ℕ) → line ≡ line_of_command a
-      → LeavesOnly moment images_since old new (IsAround form (lines_of_history h) (risked until (lines_of_history begun) line)) → LeavesOnly moment images_since old new (IsAroundFor form h (risked until begun a))
+      → LeavesOnly view old new (IsAround form (lines_of_history h) (risked until (lines_of_history begun) line)) → LeavesOnly view old new (IsAroundFor form h (risked until begun a))
   moments_with until old new form h begun a line is run =
-      subst (λ x. LeavesOnly moment images_since old new (IsAround form (lines_of_history h) x)) (ap (λ x. risked until (lines_of_history begun) x) is ∙ sym (risked_lines until begun a)) run
+      subst (λ x. LeavesOnly view old new (IsAround form (lines_of_history h) x)) (ap (λ x. risked until (lines_of_history begun) x) is ∙ sym (risked_lines until begun a)) run
 
   -- no call
   pub idle_with : (until : Until) (disk : D) (form : Form) (journal : JournalState) (h begun : List Accepted) (a : Accepted) → (until ≡ Kept → journal.begun ≡ None)
-      → ((c : List ℕ) → images_since disk (moment disk) c → images disk c) → IsKept form (images disk) journal (lines_of_history h) (lines_of_history begun)
-      → LeavesOnly moment images_since disk disk (IsAroundFor form h (risked until begun a))
+      → ((c : List ℕ) → (view disk).since (view disk).moment c → (view disk).images c) → IsKept form (view disk).images journal (lines_of_history h) (lines_of_history begun)
+      → LeavesOnly view disk disk (IsAroundFor form h (risked until begun a))
   idle_with until disk form journal h begun a none only kept =
       moments_with until disk disk form h begun a (line_of_command a) refl
-      (started moment images_since disk (IsAround form (lines_of_history h) (risked until (lines_of_history begun) (line_of_command a)))
-      (λ c left. rest_at_risk until form (images disk) journal (lines_of_history h) (lines_of_history begun) (line_of_command a) none kept c (only c left)))
+      (started view disk (IsAround form (lines_of_history h) (risked until (lines_of_history begun) (line_of_command a)))
+      (λ c left. rest_at_risk until form (view disk).images journal (lines_of_history h) (lines_of_history begun) (line_of_command a) none kept c (only c left)))
 
   pub idle_risked : (until : Until) (disk : D) (form : Form) (e : EngineState) (a : Accepted) → (until ≡ Kept → e.journal.begun ≡ None)
-      → ((c : List ℕ) → images_since disk (moment disk) c → images disk c) → IsRunningIn form (images disk) e
-      → LeavesOnly moment images_since disk disk (IsAroundFor form (kept_of e) (risked until (begun_of e) a))
+      → ((c : List ℕ) → (view disk).since (view disk).moment c → (view disk).images c) → IsRunningIn form (view disk).images e
+      → LeavesOnly view disk disk (IsAroundFor form (kept_of e) (risked until (begun_of e) a))
   idle_risked until disk form e a none only r = idle_with until disk form e.journal (kept_of e) (begun_of e) a none only r
 
 -- ---- of an engine

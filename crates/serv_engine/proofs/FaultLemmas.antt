@@ -3,7 +3,7 @@ use Rattle.std.proofs.Common.{◌≡◌, ◌⊎◌, ℕ, ◌+◌, ◌<◌, ◌�
 use Rattle.std.specs.Prelude.{Result, Err}
 use Rattle.std.proofs.lemmas.Bool.{cases_lt}
 use Rattle.svc_world.specs.World.{Accepted}
-use Rattle.svc_world.specs.Judging.{Judgement, Refused, Fresh, IsHistory}
+use Rattle.svc_world.specs.Judging.{Judgement, Fresh, IsHistory}
 use Rattle.svc_core.specs.declared.fault.CoreFault.{CoreFault}
 use Rattle.svc_core.specs.declared.fault.CoreFault.TheVariants as core
 use Rattle.svc_core.specs.Core.{IsFault}

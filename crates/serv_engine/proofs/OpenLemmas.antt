@@ -3,7 +3,7 @@ use Rattle.std.proofs.Common.{◌≡◌, ◌⊎◌, ℕ, ◌+◌, ◌<◌, ◌�
 use Rattle.std.specs.Prelude.{Option, Some}
 use Rattle.svc_world.specs.World.{Accepted}
 use Rattle.svc_world.specs.Judging.{IsHistory}
-use Rattle.serv_disk.specs.Disks.{LeavesOnly}
+use Rattle.serv_disk.specs.Disks.{LeavesOnly, View}
 use Rattle.serv_disk.proofs.Moments.{weaker, joined}
 use Rattle.serv_journal.specs.declared.format.Version.TheVariants.{One, Two}
 use Rattle.serv_journal.specs.declared.faults.JournalFault.{JournalFault}
@@ -168,12 +168,12 @@ only_full limit bytes old new s (fault.Refused why) long is = absurd is
 pub closed_as : (told : Option (List ℕ)) (j : JournalState) (frames : List (ℕ × List ℕ)) (s : List ℕ) → IsOpened told j frames s → IsClosed s told
 closed_as told j frames s o = record { form = o.form; lines = lines_in frames; commit = o.commit; rest = o.rest; read = o.read; closes = o.closes }
 
-pub taken_kept : {D : Type 0} (seen : D → Option (List ℕ)) (f : EngineFault) (j : JournalState) (frames : List (ℕ × List ℕ)) (old mid new : D)
-    → ((s : List ℕ) → seen old ≡ Some s → IsOpened (seen mid) j frames s) → (f ≡ fault.DiskFault) ⊎ (new ≡ mid)
-    → (f ≡ fault.DiskFault) ⊎ ((seen new ≡ seen old) ⊎ ((s : List ℕ) → seen old ≡ Some s → IsClosed s (seen new)))
-taken_kept seen f j frames old mid new opened which =
+pub taken_kept : {D : Type 0} (view : D → View) (f : EngineFault) (j : JournalState) (frames : List (ℕ × List ℕ)) (old mid new : D)
+    → ((s : List ℕ) → (view old).seen ≡ Some s → IsOpened (view mid).seen j frames s) → (f ≡ fault.DiskFault) ⊎ (new ≡ mid)
+    → (f ≡ fault.DiskFault) ⊎ (((view new).seen ≡ (view old).seen) ⊎ ((s : List ℕ) → (view old).seen ≡ Some s → IsClosed s (view new).seen))
+taken_kept view f j frames old mid new opened which =
     ⊎_elim (λ disk. inl disk)
-    (λ same. inr (inr (λ s is. subst (λ d. IsClosed s (seen d)) (sym same) (closed_as (seen mid) j frames s (opened s is)))))
+    (λ same. inr (inr (λ s is. subst (λ d. IsClosed s (view d).seen) (sym same) (closed_as (view mid).seen j frames s (opened s is)))))
     which
 
 -- ---- it is taken over
@@ -195,9 +195,9 @@ found_as told j frames s limit size h o limit_is are room long = record {
 
 -- ---- a crash while it is taken over
 
-pub moments_taken : {D : Type 0} (moment : D → ℕ) (images_since : D → ℕ → List ℕ → Type 0) (old mid new : D) (lines : List (List ℕ)) (h : List Accepted) (a : Accepted)
+pub moments_taken : {D : Type 0} (view : D → View) (old mid new : D) (lines : List (List ℕ)) (h : List Accepted) (a : Accepted)
     → (lines ≡ lines_of_history h) ⊎ (lines ≡ lines_of_history h ++ line_of_command a ∷ [])
-    → LeavesOnly moment images_since old mid (IsGoodFound h a) → LeavesOnly moment images_since mid new (IsWhole lines) → LeavesOnly moment images_since old new (IsGoodFound h a)
-moments_taken moment images_since old mid new lines h a which first second =
-    joined moment images_since old mid new (IsGoodFound h a) first
-    (weaker moment images_since mid new (IsWhole lines) (IsGoodFound h a) second (λ c whole. whole_good lines (lines_of_history h) (line_of_command a) c which whole))
+    → LeavesOnly view old mid (IsGoodFound h a) → LeavesOnly view mid new (IsWhole lines) → LeavesOnly view old new (IsGoodFound h a)
+moments_taken view old mid new lines h a which first second =
+    joined view old mid new (IsGoodFound h a) first
+    (weaker view mid new (IsWhole lines) (IsGoodFound h a) second (λ c whole. whole_good lines (lines_of_history h) (line_of_command a) c which whole))

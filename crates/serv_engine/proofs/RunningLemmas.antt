@@ -1,5 +1,5 @@
 -- An engine of whose history the last command may be begun.
-use Rattle.std.proofs.Common.{◌≡◌, ℕ, ◌+◌, ◌-◌, ◌≤◌, List, [], ◌∷◌, ◌++◌, Option, None, Some, length, sym, ap, subst, ◌∙◌, arith, length-append}
+use Rattle.std.proofs.Common.{◌≡◌, ℕ, ◌-◌, ◌≤◌, List, [], ◌∷◌, ◌++◌, Option, None, Some, length, sym, ap, subst, ◌∙◌, arith, length-append}
 use Rattle.std.proofs.lemmas.List.{append-nil, take_at, drop_at, take-append-drop, map-append}
 use Rattle.serv_journal.specs.Format.{Form}
 use Rattle.serv_journal.specs.States.{StandsFor}

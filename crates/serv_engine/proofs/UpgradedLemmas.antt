@@ -2,7 +2,7 @@
 use Rattle.std.proofs.Common.{◌≡◌, ℕ, ◌<◌, ◌≤◌, List, Bool, true, false, None, refl, ⊎_elim}
 use Rattle.std.specs.Prelude.{Result, Ok, Err}
 use Rattle.std.proofs.lemmas.Bool.{cases_lt}
-use Rattle.serv_disk.specs.Disks.{Each, LeavesOnly}
+use Rattle.serv_disk.specs.Disks.{Each, LeavesOnly, View}
 use Rattle.serv_disk.proofs.Moments.{started}
 use Rattle.serv_journal.specs.declared.format.Version.TheVariants.{One, Two}
 use Rattle.serv_journal.specs.declared.faults.JournalFault.{JournalFault}
@@ -12,10 +12,10 @@ use Rattle.serv_journal.specs.Disks.{IsWholeIn, IsWhole, IsDurableFor}
 use Rattle.serv_journal.proofs.BegunLemmas.{durable_kept}
 
 -- nothing is called: the lines are whole at this moment
-pub whole_now : {D : Type 0} (moment : D → ℕ) (images : D → List ℕ → Type 0) (images_since : D → ℕ → List ℕ → Type 0) (disk : D) (j : JournalState) (lines : List (List ℕ))
-    → ((c : List ℕ) → images_since disk (moment disk) c → images disk c) → IsDurableFor (images disk) j lines → LeavesOnly moment images_since disk disk (IsWhole lines)
-whole_now moment images images_since disk j lines only durable =
-    started moment images_since disk (IsWhole lines) (λ c left. record { form = durable.form; is_form = durable.kept.stands.is_form; whole = durable.kept.each c (only c left) })
+pub whole_now : {D : Type 0} (view : D → View) (disk : D) (j : JournalState) (lines : List (List ℕ))
+    → ((c : List ℕ) → (view disk).since (view disk).moment c → (view disk).images c) → IsDurableFor (view disk).images j lines → LeavesOnly view disk disk (IsWhole lines)
+whole_now view disk j lines only durable =
+    started view disk (IsWhole lines) (λ c left. record { form = durable.form; is_form = durable.kept.stands.is_form; whole = durable.kept.each c (only c left) })
 
 -- the disk keeps the lines in the form of the upgrade
 pub upgraded_durable : (form : Form) (images : List ℕ → Type 0) (j : JournalState) (lines : List (List ℕ)) → StandsFor (upgraded_form form lines) lines j → (j.begun ≡ None) × (j.laid ≡ None)

@@ -53,14 +53,15 @@ fn put_line<D: Disk>(
     requires line { IsLine line.now }
     requires version { journal.old.version ≡ Version.Two }
     requires unspent { journal.old.spent ≡ false }
-    requires reaches { Reaches (D.seen disk.old) journal.old.size }
+    requires reaches { Reaches (D.view disk.old).seen journal.old.size }
     requires alone { until ≡ Until.Kept → journal.old.begun ≡ None }
     ensures moments { (form : Form) (lines begun : List (List ℕ))
-        → IsKept form (D.images disk.old) journal.old lines begun
-        → LeavesOnly D.moment D.images_since disk.old disk.new (IsAround form lines (risked until begun line.now)) }
+        → IsKept form (D.view disk.old).images journal.old lines begun
+        → LeavesOnly D.view disk.old disk.new (IsAround form lines (risked until begun line.now)) }
     ensures put { (form : Form) (lines begun : List (List ℕ))
-        → IsKept form (D.images disk.old) journal.old lines begun
-        → OnOk result (IsKept form (D.images disk.new) journal.new (kept_after until (lines ++ begun) line.now)
+        → IsKept form (D.view disk.old).images journal.old lines begun
+        → OnOk result (IsKept form (D.view disk.new).images journal.new
+        (kept_after until (lines ++ begun) line.now)
         (begun_after until line.now)) }
     ensures full { IsErrOf result (JournalFault.Full journal.old.size) ↔
         (journal.old.limit < journal.old.size + 7 + length line.now) }
@@ -93,16 +94,16 @@ pub(crate) fn put_command<D: Disk>(
     requires command { IsCommand command.now }
     requires version { journal.old.version ≡ Version.Two }
     requires unspent { journal.old.spent ≡ false }
-    requires reaches { Reaches (D.seen disk.old) journal.old.size }
+    requires reaches { Reaches (D.view disk.old).seen journal.old.size }
     requires alone { until ≡ Until.Kept → journal.old.begun ≡ None }
     // A crash at any moment leaves the history, with the command that is at risk or without, or torn with it.
     ensures moments { (form : Form) (h begun : List Accepted)
-        → IsKept form (D.images disk.old) journal.old (lines_of_history h) (lines_of_history begun)
-        → LeavesOnly D.moment D.images_since disk.old disk.new
+        → IsKept form (D.view disk.old).images journal.old (lines_of_history h) (lines_of_history begun)
+        → LeavesOnly D.view disk.old disk.new
         (IsAroundFor form h (risked until begun (accepted key.now command.now))) }
     ensures put { (form : Form) (h begun : List Accepted)
-        → IsKept form (D.images disk.old) journal.old (lines_of_history h) (lines_of_history begun)
-        → OnOk result (IsKept form (D.images disk.new) journal.new
+        → IsKept form (D.view disk.old).images journal.old (lines_of_history h) (lines_of_history begun)
+        → OnOk result (IsKept form (D.view disk.new).images journal.new
         (lines_of_history (kept_after until (h ++ begun) (accepted key.now command.now)))
         (lines_of_history (begun_after until (accepted key.now command.now)))) }
     ensures room { OnOk result (HasRoom journal.old (accepted key.now command.now)) }

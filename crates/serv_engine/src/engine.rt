@@ -69,33 +69,36 @@ impl<B: LoanBooks> Engine<B> {
     ) -> Result<Engine<B>, EngineFault>
         requires { limit ≤ 2 ^ 32 }
         // The history is that of the file, with its journal's length, and each image of the disk has it.
-        ensures found { IfOk result (λ e. (s : List ℕ) → D.seen disk.old ≡ Some s
+        ensures found { IfOk result (λ e. (s : List ℕ) → (D.view disk.old).seen ≡ Some s
             → IsFound limit e.journal.size e.history s) }
         ensures history { IfOk result (λ e. IsHistory e.history) }
-        ensures durable { IfOk result (λ e. IsDurable (D.images disk.new) e) }
+        ensures durable { IfOk result (λ e. IsDurable (D.view disk.new).images e) }
         ensures fresh { IfOk result (λ e. (e.journal.limit ≡ limit) × (e.journal.spent ≡ false)) }
         ensures version { IfOk result (λ e. e.journal.version ≡ Version.Two) }
         // A crash at any moment leaves a disk that was good for a history and a command as good, and the
         // engine has that history, or that and the command.
-        ensures moments { (s : List ℕ) → D.seen disk.old ≡ Some s → (h : List Accepted) (a : Accepted)
-            → IsHistory (h ++ a ∷ []) → Each (D.images disk.old) (IsGoodFound h a)
-            → LeavesOnly D.moment D.images_since disk.old disk.new (IsGoodFound h a) }
-        ensures either { (s : List ℕ) → D.seen disk.old ≡ Some s → (h : List Accepted) (a : Accepted)
-            → IsHistory (h ++ a ∷ []) → Each (D.images disk.old) (IsGoodFound h a)
+        ensures moments { (s : List ℕ) → (D.view disk.old).seen ≡ Some s → (h : List Accepted) (a : Accepted)
+            → IsHistory (h ++ a ∷ []) → Each (D.view disk.old).images (IsGoodFound h a)
+            → LeavesOnly D.view disk.old disk.new (IsGoodFound h a) }
+        ensures either { (s : List ℕ) → (D.view disk.old).seen ≡ Some s → (h : List Accepted) (a : Accepted)
+            → IsHistory (h ++ a ∷ []) → Each (D.view disk.old).images (IsGoodFound h a)
             → IfOk result (λ e. (e.history ≡ h) ⊎ (e.history ≡ h ++ a ∷ [])) }
         // Each fault comes exactly by its cause.
-        ensures fault { IfErr result (λ f. (s : List ℕ) → D.seen disk.old ≡ Some s
+        ensures fault { IfErr result (λ f. (s : List ℕ) → (D.view disk.old).seen ≡ Some s
             → IsOpenFault limit s (D.faults disk.old) (D.faults disk.new) f) }
         ensures cause { IfErr result (IsOpenCause (D.faults disk.old) (D.faults disk.new)) }
-        ensures exactly_not_journal { (s : List ℕ) → D.seen disk.old ≡ Some s → IsNoJournal s
+        ensures exactly_not_journal { (s : List ℕ) → (D.view disk.old).seen ≡ Some s → IsNoJournal s
             → IsOnlyFault EngineFault.NotJournal (D.faults disk.old) (D.faults disk.new) result }
-        ensures exactly_damaged { (s : List ℕ) (place : ℕ) → D.seen disk.old ≡ Some s → IsDamagedAt place s
+        ensures exactly_damaged { (s : List ℕ) (place : ℕ)
+            → (D.view disk.old).seen ≡ Some s → IsDamagedAt place s
             → IsOnlyFault (EngineFault.Damaged place) (D.faults disk.old) (D.faults disk.new) result }
-        ensures exactly_full { (s : List ℕ) (bytes : ℕ) → D.seen disk.old ≡ Some s → IsTooLong limit bytes s
+        ensures exactly_full { (s : List ℕ) (bytes : ℕ)
+            → (D.view disk.old).seen ≡ Some s → IsTooLong limit bytes s
             → IsOnlyFault (EngineFault.JournalFull bytes) (D.faults disk.old) (D.faults disk.new) result }
         // Another fault than the disk's leaves what reads give, but for the closed commit byte.
-        ensures kept { IfErr result (λ f. (f ≡ EngineFault.DiskFault) ⊎ ((D.seen disk.new ≡ D.seen disk.old)
-            ⊎ ((s : List ℕ) → D.seen disk.old ≡ Some s → IsClosed s (D.seen disk.new)))) }
+        ensures kept { IfErr result
+            (λ f. (f ≡ EngineFault.DiskFault) ⊎ (((D.view disk.new).seen ≡ (D.view disk.old).seen)
+            ⊎ ((s : List ℕ) → (D.view disk.old).seen ≡ Some s → IsClosed s (D.view disk.new).seen))) }
         ensures faults { D.faults disk.old ≤ D.faults disk.new }
         ensures bound { ((a : Account) (m : ℕ) → B.cost a m ≤ cost_of_month a m)
             → ((a : Account) (m : ℕ) → B.month_cost a m ≡ 0)
@@ -103,7 +106,8 @@ impl<B: LoanBooks> Engine<B> {
         // At a fault there was no step, or those of the commands before it and of the one that it comes with.
         ensures bound_err { ((a : Account) (m : ℕ) → B.cost a m ≤ cost_of_month a m)
             → ((a : Account) (m : ℕ) → B.month_cost a m ≡ 0)
-            → OnErr result ((steps.new ≡ steps.old) ⊎ IsFoundWithin (D.seen disk.old) steps.old steps.new) }
+            → OnErr result ((steps.new ≡ steps.old)
+            ⊎ IsFoundWithin (D.view disk.old).seen steps.old steps.new) }
     {
         match Journal::open(alloc, disk, limit) {
             Ok((mut journal, frames)) => match take_over(
@@ -136,7 +140,7 @@ impl<B: LoanBooks> Engine<B> {
     ) -> Result<Reply, EngineFault>
         requires command { IsCommand command.now }
         requires unspent { self.old.journal.spent ≡ false }
-        requires durable { IsDurable (D.images disk.old) self.old }
+        requires durable { IsDurable (D.view disk.old).images self.old }
         ensures reply { IfOk result
             (IsReplyTo self.old.history command.now (judged self.old.history key.now command.now)) }
         ensures history { OnOk result (self.new.history ≡ history_after self.old.history key.now command.now
@@ -144,15 +148,15 @@ impl<B: LoanBooks> Engine<B> {
         // A kept reply changes nothing; after another one each image of the disk has the command.
         ensures repeated { OnOk result ((reply : Reply) → judged self.old.history key.now command.now
             ≡ Judgement.Kept reply → (self.new ≡ self.old) × (disk.new ≡ disk.old)) }
-        ensures durable { OnOk result (IsDurable (D.images disk.new) self.new) }
-        ensures durable_in { (form : Form) → IsDurableIn form (D.images disk.old) self.old
-            → OnOk result (IsDurableIn form (D.images disk.new) self.new) }
+        ensures durable { OnOk result (IsDurable (D.view disk.new).images self.new) }
+        ensures durable_in { (form : Form) → IsDurableIn form (D.view disk.old).images self.old
+            → OnOk result (IsDurableIn form (D.view disk.new).images self.new) }
         // A crash at any moment leaves the history, with the command or without, or torn with it.
-        ensures moments { (form : Form) → IsDurableIn form (D.images disk.old) self.old
-            → LeavesOnly D.moment D.images_since disk.old disk.new
+        ensures moments { (form : Form) → IsDurableIn form (D.view disk.old).images self.old
+            → LeavesOnly D.view disk.old disk.new
             (IsGoodFor form self.old.history (accepted key.now command.now)) }
-        ensures good { (form : Form) → IsDurableIn form (D.images disk.old) self.old
-            → Each (D.images disk.new) (IsGoodFor form self.old.history (accepted key.now command.now)) }
+        ensures good { (form : Form) → IsDurableIn form (D.view disk.old).images self.old
+            → Each (D.view disk.new).images (IsGoodFor form self.old.history (accepted key.now command.now)) }
         // `Refused` comes exactly where a rule refuses, `JournalFull` where a fresh command has no room;
         // only a fresh one can want memory.
         ensures fault { IfErr result (IsSubmitFault (judged self.old.history key.now command.now)
@@ -192,7 +196,7 @@ impl<B: LoanBooks> Engine<B> {
     ) -> Result<Taken, EngineFault>
         requires command { IsCommand command.now }
         requires unspent { self.old.journal.spent ≡ false }
-        requires running { IsRunning (D.images disk.old) self.old }
+        requires running { IsRunning (D.view disk.old).images self.old }
         ensures reply { IfOk result (λ taken. IsReplyTo self.old.history command.now
             (judged self.old.history key.now command.now) (reply_of taken)) }
         ensures history { OnOk result (self.new.history ≡ history_after self.old.history key.now command.now
@@ -201,16 +205,15 @@ impl<B: LoanBooks> Engine<B> {
         ensures taken { IfOk result (λ taken. WasTaken (judged self.old.history key.now command.now) taken
             ((self.new ≡ self.old) × (disk.new ≡ disk.old))
             ((kept_of self.new ≡ self.old.history) × (begun_of self.new ≡ accepted key.now command.now ∷ []))) }
-        ensures running { OnOk result (IsRunning (D.images disk.new) self.new) }
-        ensures running_in { (form : Form) → IsRunningIn form (D.images disk.old) self.old
-            → OnOk result (IsRunningIn form (D.images disk.new) self.new) }
+        ensures running { OnOk result (IsRunning (D.view disk.new).images self.new) }
+        ensures running_in { (form : Form) → IsRunningIn form (D.view disk.old).images self.old
+            → OnOk result (IsRunningIn form (D.view disk.new).images self.new) }
         // A crash at any moment leaves what was kept, with the command that was begun before or without, or torn
         // with it.
-        ensures moments { (form : Form) → IsRunningIn form (D.images disk.old) self.old
-            → LeavesOnly D.moment D.images_since disk.old disk.new
-            (IsAroundFor form (kept_of self.old) (begun_of self.old)) }
-        ensures good { (form : Form) → IsRunningIn form (D.images disk.old) self.old
-            → Each (D.images disk.new) (IsAroundFor form (kept_of self.old) (begun_of self.old)) }
+        ensures moments { (form : Form) → IsRunningIn form (D.view disk.old).images self.old
+            → LeavesOnly D.view disk.old disk.new (IsAroundFor form (kept_of self.old) (begun_of self.old)) }
+        ensures good { (form : Form) → IsRunningIn form (D.view disk.old).images self.old
+            → Each (D.view disk.new).images (IsAroundFor form (kept_of self.old) (begun_of self.old)) }
         // `Refused` comes exactly where a rule refuses, `JournalFull` where a fresh command has no room;
         // only a fresh one can want memory.
         ensures fault { IfErr result (IsSubmitFault (judged self.old.history key.now command.now)
@@ -248,7 +251,7 @@ impl<B: LoanBooks> Engine<B> {
     ) -> Result<Taken, EngineFault>
         requires command { IsCommand command.now }
         requires unspent { self.old.journal.spent ≡ false }
-        requires running { IsRunning (D.images disk.old) self.old }
+        requires running { IsRunning (D.view disk.old).images self.old }
         requires alone { until ≡ Until.Kept → self.old.journal.begun ≡ None }
         ensures reply { IfOk result (λ taken. IsReplyTo self.old.history command.now
             (judged self.old.history key.now command.now) (reply_of taken)) }
@@ -260,16 +263,15 @@ impl<B: LoanBooks> Engine<B> {
             ((kept_of self.new ≡ kept_after until self.old.history (accepted key.now command.now))
             × (begun_of self.new ≡ begun_after until (accepted key.now command.now)))) }
         ensures none { OnOk result (until ≡ Until.Kept → self.new.journal.begun ≡ None) }
-        ensures running { OnOk result (IsRunning (D.images disk.new) self.new) }
-        ensures running_in { (form : Form) → IsRunningIn form (D.images disk.old) self.old
-            → OnOk result (IsRunningIn form (D.images disk.new) self.new) }
+        ensures running { OnOk result (IsRunning (D.view disk.new).images self.new) }
+        ensures running_in { (form : Form) → IsRunningIn form (D.view disk.old).images self.old
+            → OnOk result (IsRunningIn form (D.view disk.new).images self.new) }
         // A crash at any moment leaves what was kept, with the command that is at risk or without, or torn with it.
-        ensures moments { (form : Form) → IsRunningIn form (D.images disk.old) self.old
-            → LeavesOnly D.moment D.images_since disk.old disk.new
-            (IsAroundFor form (kept_of self.old)
+        ensures moments { (form : Form) → IsRunningIn form (D.view disk.old).images self.old
+            → LeavesOnly D.view disk.old disk.new (IsAroundFor form (kept_of self.old)
             (risked until (begun_of self.old) (accepted key.now command.now))) }
-        ensures good { (form : Form) → IsRunningIn form (D.images disk.old) self.old
-            → Each (D.images disk.new) (IsAroundFor form (kept_of self.old)
+        ensures good { (form : Form) → IsRunningIn form (D.view disk.old).images self.old
+            → Each (D.view disk.new).images (IsAroundFor form (kept_of self.old)
             (risked until (begun_of self.old) (accepted key.now command.now))) }
         // `Refused` comes exactly where a rule refuses, `JournalFull` where a fresh command has no room;
         // only a fresh one can want memory.
@@ -319,17 +321,16 @@ impl<B: LoanBooks> Engine<B> {
     ) -> Result<(), Failed>
         requires next { IfSome next (λ c. IsCommand c.1.now) }
         requires unspent { self.old.journal.spent ≡ false }
-        requires running { IsRunning (D.images disk.old) self.old }
+        requires running { IsRunning (D.view disk.old).images self.old }
         ensures history { self.new.history ≡ self.old.history }
-        ensures durable { OnOk result (IsDurable (D.images disk.new) self.new) }
-        ensures durable_in { (form : Form) → IsRunningIn form (D.images disk.old) self.old
-            → OnOk result (IsDurableIn form (D.images disk.new) self.new) }
+        ensures durable { OnOk result (IsDurable (D.view disk.new).images self.new) }
+        ensures durable_in { (form : Form) → IsRunningIn form (D.view disk.old).images self.old
+            → OnOk result (IsDurableIn form (D.view disk.new).images self.new) }
         // A crash at any moment leaves what was kept, with the command that is begun or without, or torn with it.
-        ensures moments { (form : Form) → IsRunningIn form (D.images disk.old) self.old
-            → LeavesOnly D.moment D.images_since disk.old disk.new
-            (IsAroundFor form (kept_of self.old) (begun_of self.old)) }
-        ensures good { (form : Form) → IsRunningIn form (D.images disk.old) self.old
-            → Each (D.images disk.new) (IsAroundFor form (kept_of self.old) (begun_of self.old)) }
+        ensures moments { (form : Form) → IsRunningIn form (D.view disk.old).images self.old
+            → LeavesOnly D.view disk.old disk.new (IsAroundFor form (kept_of self.old) (begun_of self.old)) }
+        ensures good { (form : Form) → IsRunningIn form (D.view disk.old).images self.old
+            → Each (D.view disk.new).images (IsAroundFor form (kept_of self.old) (begun_of self.old)) }
         // Where none is begun nothing is called.
         ensures idle { self.old.journal.begun ≡ None
             → IsOk result × (self.new ≡ self.old) × (disk.new ≡ disk.old) }

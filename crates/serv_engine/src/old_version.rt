@@ -19,15 +19,15 @@ pub(crate) fn upgrade_old<D: Disk>(
     frames: &Frames,
 ) -> Result<(), EngineFault>
     requires unspent { journal.old.spent ≡ false }
-    requires durable { IsDurableFor (D.images disk.old) journal.old (lines_in frames.now) }
-    ensures durable { OnOk result (IsDurableFor (D.images disk.new) journal.new (lines_in frames.now)) }
+    requires durable { IsDurableFor (D.view disk.old).images journal.old (lines_in frames.now) }
+    ensures durable { OnOk result (IsDurableFor (D.view disk.new).images journal.new (lines_in frames.now)) }
     ensures version { OnOk result (journal.new.version ≡ Version.Two) }
     ensures size { (form : Form) → StandsFor form (lines_in frames.now) journal.old
         → OnOk result (journal.new.size
         ≡ base_length form (lines_in frames.now) + length (records Version.Two 1 (lines_in frames.now))) }
     ensures unspent { OnOk result (journal.new.spent ≡ false) }
     // A crash at any moment leaves the same lines.
-    ensures moments { LeavesOnly D.moment D.images_since disk.old disk.new (IsWhole (lines_in frames.now)) }
+    ensures moments { LeavesOnly D.view disk.old disk.new (IsWhole (lines_in frames.now)) }
     ensures room { OnOk result (journal.old.version ≡ Version.One
         → length_upgraded journal.old.size (lines_in frames.now) ≤ journal.old.limit) }
     ensures fault { IfErr result (IsUpgradeFault journal.old (lines_in frames.now)

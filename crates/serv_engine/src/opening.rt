@@ -32,18 +32,18 @@ pub(crate) fn take_over<B: LoanBooks, D: Disk, L: Ledger>(
     steps: &mut Steps<L>,
 ) -> Result<Core<B>, EngineFault>
     requires unspent { journal.old.spent ≡ false }
-    requires durable { IsDurableFor (D.images disk.old) journal.old (lines_in frames.now) }
+    requires durable { IsDurableFor (D.view disk.old).images journal.old (lines_in frames.now) }
     ensures lines { IfOk result (λ core. lines_of_history core.history ≡ lines_in frames.now) }
     ensures history { IfOk result (λ core. IsHistory core.history) }
     ensures durable { IfOk result (λ core.
-        IsDurableFor (D.images disk.new) journal.new (lines_of_history core.history)) }
+        IsDurableFor (D.view disk.new).images journal.new (lines_of_history core.history)) }
     ensures version { IfOk result (λ core. journal.new.version ≡ Version.Two) }
     ensures size { (form : Form) → StandsFor form (lines_in frames.now) journal.old
         → OnOk result (journal.new.size
         ≡ base_length form (lines_in frames.now) + length (records Version.Two 1 (lines_in frames.now))) }
     ensures unspent { IfOk result (λ core. journal.new.spent ≡ false) }
     // A crash at any moment leaves the same lines.
-    ensures moments { LeavesOnly D.moment D.images_since disk.old disk.new (IsWhole (lines_in frames.now)) }
+    ensures moments { LeavesOnly D.view disk.old disk.new (IsWhole (lines_in frames.now)) }
     ensures room { IfOk result (λ core. journal.old.version ≡ Version.One
         → length_upgraded journal.old.size (lines_in frames.now) ≤ journal.old.limit) }
     ensures fault { IfErr result (IsTakingFault journal.old frames.now

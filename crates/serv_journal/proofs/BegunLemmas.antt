@@ -1,7 +1,7 @@
 -- Lines of which the last may be begun.
 use Rattle.std.proofs.Common.{◌≡◌, ℕ, ◌+◌, ◌-◌, ◌≤◌, List, [], ◌∷◌, ◌++◌, Option, None, Some, length, refl, sym, ap, subst, ◌∙◌, inl, arith, append_assoc, length-append}
 use Rattle.std.proofs.lemmas.List.{append-nil}
-use Rattle.serv_disk.specs.Disks.{Each, LeavesOnly}
+use Rattle.serv_disk.specs.Disks.{Each, LeavesOnly, View}
 use Rattle.serv_disk.proofs.Moments.{started, weaker, joined}
 use Rattle.serv_journal.specs.declared.format.Version.TheVariants.{Two}
 use Rattle.serv_journal.specs.Bytes.{Starts, Between}
@@ -129,49 +129,49 @@ laid_kept form images old new lines begun line is two version count size gate no
 
 -- ---- moments
 
-module _ {D : Type 0} (moment : D → ℕ) (images_since : D → ℕ → List ℕ → Type 0) where
-  putting_around : (form : Form) (lines begun : List (List ℕ)) (size : ℕ) (images : List ℕ → Type 0) (old new : D) → length begun ≤ 1 → size ≡ length (base form (lines ++ begun)) + 1
-      → Each images (IsAtRest form lines begun) → IsPutting moment images_since (gate_of form lines begun) size images old new → LeavesOnly moment images_since old new (IsAround form lines begun)
-  putting_around form lines [] size images old new one size_is each putting =
+module _ {D : Type 0} (view : D → View) where
+  putting_around : (form : Form) (lines begun : List (List ℕ)) (size : ℕ) (old new : D) → length begun ≤ 1 → size ≡ length (base form (lines ++ begun)) + 1
+      → Each (view old).images (IsAtRest form lines begun) → IsPutting view (gate_of form lines begun) size old new → LeavesOnly view old new (IsAround form lines begun)
+  putting_around form lines [] size old new one size_is each putting =
       putting (base form lines ++ 0 ∷ []) (length_closed (base form lines) size (sym (size_is ∙ ap (λ x. length (base form x) + 1) (append-nil lines)))) each
-  putting_around form lines (b ∷ []) size images old new one size_is each putting =
-      weaker moment images_since old new _ _ (putting (base form lines) (body form.version (length lines + 1) b ++ 0 ∷ []) refl (rest_length form lines b size size_is) each)
+  putting_around form lines (b ∷ []) size old new one size_is each putting =
+      weaker view old new _ _ (putting (base form lines) (body form.version (length lines + 1) b ++ 0 ∷ []) refl (rest_length form lines b size size_is) each)
       (λ c h. between_good form lines b c h)
-  putting_around form lines (b ∷ other ∷ more) size images old new one size_is each putting = absurd (omega (arith, one))
+  putting_around form lines (b ∷ other ∷ more) size old new one size_is each putting = absurd (omega (arith, one))
 
-  pub begin_around : (form : Form) (images : List ℕ → Type 0) (journal : JournalState) (lines begun : List (List ℕ)) (old new : D) → IsPutting moment images_since journal.begun journal.size images old new
-      → IsKept form images journal lines begun → LeavesOnly moment images_since old new (IsAround form lines begun)
-  begin_around form images journal lines begun old new putting kept =
-      putting_around form lines begun journal.size images old new kept.at_most_one kept.stands.size kept.each
-      (subst (λ g. IsPutting moment images_since g journal.size images old new) kept.gate putting)
+  pub begin_around : (form : Form) (journal : JournalState) (lines begun : List (List ℕ)) (old new : D) → IsPutting view journal.begun journal.size old new
+      → IsKept form (view old).images journal lines begun → LeavesOnly view old new (IsAround form lines begun)
+  begin_around form journal lines begun old new putting kept =
+      putting_around form lines begun journal.size old new kept.at_most_one kept.stands.size kept.each
+      (subst (λ g. IsPutting view g journal.size old new) kept.gate putting)
 
   -- a line is begun, and then committed
   pub push_around : (form : Form) (lines : List (List ℕ)) (line : List ℕ) (old mid new : D)
-      → LeavesOnly moment images_since old mid (IsWholeIn form lines) → LeavesOnly moment images_since mid new (IsGoodIn form (lines ++ []) line)
-      → LeavesOnly moment images_since old new (IsGoodIn form lines line)
+      → LeavesOnly view old mid (IsWholeIn form lines) → LeavesOnly view mid new (IsGoodIn form (lines ++ []) line)
+      → LeavesOnly view old new (IsGoodIn form lines line)
   push_around form lines line old mid new begun committed =
-      joined moment images_since old mid new _ (weaker moment images_since old mid _ _ begun (λ c h. inl h))
-      (subst (λ x. LeavesOnly moment images_since mid new (IsGoodIn form x line)) (append-nil lines) committed)
+      joined view old mid new _ (weaker view old mid _ _ begun (λ c h. inl h))
+      (subst (λ x. LeavesOnly view mid new (IsGoodIn form x line)) (append-nil lines) committed)
 
   -- no call
-  pub idle_around : (form : Form) (images : List ℕ → Type 0) (journal : JournalState) (lines begun : List (List ℕ)) (disk : D) → ((c : List ℕ) → images_since disk (moment disk) c → images c)
-      → IsKept form images journal lines begun → LeavesOnly moment images_since disk disk (IsAround form lines begun)
-  idle_around form images journal lines begun disk only kept = started moment images_since disk (IsAround form lines begun) (λ c left. rest_around form lines begun c (kept.each c (only c left)))
+  pub idle_around : (form : Form) (images : List ℕ → Type 0) (journal : JournalState) (lines begun : List (List ℕ)) (disk : D) → ((c : List ℕ) → (view disk).since (view disk).moment c → images c)
+      → IsKept form images journal lines begun → LeavesOnly view disk disk (IsAround form lines begun)
+  idle_around form images journal lines begun disk only kept = started view disk (IsAround form lines begun) (λ c left. rest_around form lines begun c (kept.each c (only c left)))
 
   -- the commit byte is set
   set_around : (form : Form) (lines begun : List (List ℕ)) (gate : ℕ) (images : List ℕ → Type 0) (old new : D) → Some gate ≡ gate_of form lines begun → Each images (IsAtRest form lines begun)
-      → ((front rest : List ℕ) → length front ≡ gate → Each images (Between front rest) → LeavesOnly moment images_since old new (Between front rest))
-      → LeavesOnly moment images_since old new (IsAround form lines begun)
+      → ((front rest : List ℕ) → length front ≡ gate → Each images (Between front rest) → LeavesOnly view old new (Between front rest))
+      → LeavesOnly view old new (IsAround form lines begun)
   set_around form lines [] gate images old new at each moments = absurd (let e : ⊥ = cc in e)
   set_around form lines (b ∷ more) gate images old new at each moments =
       let long : length (base form lines) ≡ gate = cc in
-      weaker moment images_since old new _ _
+      weaker view old new _ _
       (moments (base form lines) (body form.version (length lines + 1) b ++ 0 ∷ []) long (λ c h. record { byte = 0; starts = each c h }))
       (λ c h. between_good form lines b c h)
 
   pub commit_around : (form : Form) (images : List ℕ → Type 0) (journal : JournalState) (lines begun : List (List ℕ)) (gate : ℕ) (old new : D) → journal.begun ≡ Some gate
-      → ((front rest : List ℕ) → length front ≡ gate → Each images (Between front rest) → LeavesOnly moment images_since old new (Between front rest))
-      → IsKept form images journal lines begun → LeavesOnly moment images_since old new (IsAround form lines begun)
+      → ((front rest : List ℕ) → length front ≡ gate → Each images (Between front rest) → LeavesOnly view old new (Between front rest))
+      → IsKept form images journal lines begun → LeavesOnly view old new (IsAround form lines begun)
   commit_around form images journal lines begun gate old new at moments kept = set_around form lines begun gate images old new (sym at ∙ kept.gate) kept.each moments
 
 -- ---- the line that is begun is committed

@@ -1,7 +1,7 @@
 -- Bytes put behind a commit byte that waits.
 use Rattle.std.proofs.Common.{◌≡◌, ℕ, ◌+◌, ◌≤◌, List, [], ◌∷◌, ◌++◌, Option, Some, None, length, take, drop, refl, ap, subst, arith, append_assoc, length-append, length-take-le}
 use Rattle.std.proofs.lemmas.List.{length-drop}
-use Rattle.serv_disk.specs.Disks.{Holds, Told, Each, Only, LeavesOnly}
+use Rattle.serv_disk.specs.Disks.{Holds, Told, Each, Only, LeavesOnly, View}
 use Rattle.serv_disk.proofs.Moments.{weaker, joined}
 use Rattle.serv_journal.specs.Bytes.{Starts, Between}
 use Rattle.serv_journal.specs.Puts.{IsPut, IsPutting}
@@ -68,21 +68,21 @@ put_opened seen_old seen_mid seen_new images images' gate at bytes reads laid se
     })
     set c (only c h)
 
-module _ {D : Type 0} (images : D → List ℕ → Type 0) (moment : D → ℕ) (images_since : D → ℕ → List ℕ → Type 0) where
+module _ {D : Type 0} (view : D → View) where
   -- while the bytes are laid, and then while the commit byte is set
   pub laying_around : (gate at : ℕ) (old mid : D)
-      → ((front : List ℕ) → length front ≤ at → Each (images old) (Starts front) → LeavesOnly moment images_since old mid (Starts front))
-      → IsPutting moment images_since (Some gate) at (images old) old mid
+      → ((front : List ℕ) → length front ≤ at → Each (view old).images (Starts front) → LeavesOnly view old mid (Starts front))
+      → IsPutting view (Some gate) at old mid
   laying_around gate at old mid moments = λ front rest long size each.
-      weaker moment images_since old mid _ _ (moments (front ++ 0 ∷ rest) (omega (arith, long_behind front rest gate at long size)) each) (λ c h. record { byte = 0; starts = h })
+      weaker view old mid _ _ (moments (front ++ 0 ∷ rest) (omega (arith, long_behind front rest gate at long size)) each) (λ c h. record { byte = 0; starts = h })
 
   pub opening_around : (gate at : ℕ) (old mid new : D)
-      → ((front : List ℕ) → length front ≤ at → Each (images old) (Starts front) → Each (images mid) (Starts front))
-      → ((front : List ℕ) → length front ≤ at → Each (images old) (Starts front) → LeavesOnly moment images_since old mid (Starts front))
-      → ((front rest : List ℕ) → length front ≡ gate → Each (images mid) (Between front rest) → LeavesOnly moment images_since mid new (Between front rest))
-      → IsPutting moment images_since (Some gate) at (images old) old new
+      → ((front : List ℕ) → length front ≤ at → Each (view old).images (Starts front) → Each (view mid).images (Starts front))
+      → ((front : List ℕ) → length front ≤ at → Each (view old).images (Starts front) → LeavesOnly view old mid (Starts front))
+      → ((front rest : List ℕ) → length front ≡ gate → Each (view mid).images (Between front rest) → LeavesOnly view mid new (Between front rest))
+      → IsPutting view (Some gate) at old new
   opening_around gate at old mid new crash moments set = λ front rest long size each.
-      joined moment images_since old mid new _ (laying_around gate at old mid moments front rest long size each)
+      joined view old mid new _ (laying_around gate at old mid moments front rest long size each)
       (set front rest long (λ c h. record { byte = 0; starts = crash (front ++ 0 ∷ rest) (omega (arith, long_behind front rest gate at long size)) each c h }))
 
 -- bytes laid before that leave what the file begins with
@@ -92,20 +92,20 @@ put_later None at bytes images mid new crash put = λ front long each. put front
 put_later (Some gate) at bytes images mid new crash put = λ front rest long size each.
     put front rest long size (crash (front ++ 0 ∷ rest) (omega (arith, long_behind front rest gate at long size)) each)
 
-module _ {D : Type 0} (images : D → List ℕ → Type 0) (moment : D → ℕ) (images_since : D → ℕ → List ℕ → Type 0) where
+module _ {D : Type 0} (view : D → View) where
   -- while they are laid
   pub before_putting : (gate : Option ℕ) (at : ℕ) (old mid : D)
-      → ((front : List ℕ) → length front ≤ at → Each (images old) (Starts front) → LeavesOnly moment images_since old mid (Starts front))
-      → IsPutting moment images_since gate at (images old) old mid
+      → ((front : List ℕ) → length front ≤ at → Each (view old).images (Starts front) → LeavesOnly view old mid (Starts front))
+      → IsPutting view gate at old mid
   before_putting None at old mid moments = λ front long each. moments front (omega (arith, long)) each
-  before_putting (Some gate) at old mid moments = laying_around images moment images_since gate at old mid moments
+  before_putting (Some gate) at old mid moments = laying_around view gate at old mid moments
 
   pub putting_later : (gate : Option ℕ) (at : ℕ) (old mid new : D)
-      → ((front : List ℕ) → length front ≤ at → Each (images old) (Starts front) → Each (images mid) (Starts front))
-      → ((front : List ℕ) → length front ≤ at → Each (images old) (Starts front) → LeavesOnly moment images_since old mid (Starts front))
-      → IsPutting moment images_since gate at (images mid) mid new → IsPutting moment images_since gate at (images old) old new
+      → ((front : List ℕ) → length front ≤ at → Each (view old).images (Starts front) → Each (view mid).images (Starts front))
+      → ((front : List ℕ) → length front ≤ at → Each (view old).images (Starts front) → LeavesOnly view old mid (Starts front))
+      → IsPutting view gate at mid new → IsPutting view gate at old new
   putting_later None at old mid new crash moments putting = λ front long each.
-      joined moment images_since old mid new _ (moments front (omega (arith, long)) each) (putting front long (crash front (omega (arith, long)) each))
+      joined view old mid new _ (moments front (omega (arith, long)) each) (putting front long (crash front (omega (arith, long)) each))
   putting_later (Some gate) at old mid new crash moments putting = λ front rest long size each.
-      joined moment images_since old mid new _ (laying_around images moment images_since gate at old mid moments front rest long size each)
+      joined view old mid new _ (laying_around view gate at old mid moments front rest long size each)
       (putting front rest long size (crash (front ++ 0 ∷ rest) (omega (arith, long_behind front rest gate at long size)) each))

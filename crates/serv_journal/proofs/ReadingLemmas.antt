@@ -13,16 +13,17 @@ use Rattle.serv_journal.specs.Windows.{WindowState, Shows, ShowsTold, IsReading}
 use Rattle.serv_journal.proofs.ByteLemmas.{taken_starts, starts_fits}
 use Rattle.serv_journal.proofs.UniqueLemmas.{four_same}
 use Rattle.serv_journal.proofs.StaysLemmas.{stays_here, stays_on}
+use Rattle.serv_disk.specs.Disks.{View}
 
-module _ {D : Type 0} (seen : D → Option (List ℕ)) (images : D → List ℕ → Type 0) (moment : D → ℕ) (images_since : D → ℕ → List ℕ → Type 0) (faults : D → ℕ) where
-  pub reading_here : (old : D) (window : WindowState) → ((c : List ℕ) → images_since old (moment old) c → images old c) → ShowsTold (seen old) window
-      → IsReading seen images moment images_since faults old old window window
-  reading_here old window here shows = record { stays = stays_here seen images moment images_since old here; later = omega arith; size = refl; shows = shows }
+module _ {D : Type 0} (view : D → View) (faults : D → ℕ) where
+  pub reading_here : (old : D) (window : WindowState) → ((c : List ℕ) → (view old).since (view old).moment c → (view old).images c) → ShowsTold (view old).seen window
+      → IsReading view faults old old window window
+  reading_here old window here shows = record { stays = stays_here view old here; later = omega arith; size = refl; shows = shows }
 
-  pub reading_on : (old mid new : D) (before between after : WindowState) → IsReading seen images moment images_since faults old mid before between
-      → IsReading seen images moment images_since faults mid new between after → IsReading seen images moment images_since faults old new before after
+  pub reading_on : (old mid new : D) (before between after : WindowState) → IsReading view faults old mid before between
+      → IsReading view faults mid new between after → IsReading view faults old new before after
   reading_on old mid new before between after first second = record {
-    stays = stays_on seen images moment images_since old mid new first.stays second.stays;
+    stays = stays_on view old mid new first.stays second.stays;
     later = omega (arith, first.later, second.later);
     size = second.size ∙ first.size;
     shows = second.shows;

@@ -1,8 +1,8 @@
 -- Records of version 2, written after a part of version 1.
-use Rattle.std.proofs.Common.{◌≡◌, ◌≢◌, ◌⊎◌, ℕ, ◌+◌, ◌<◌, ◌≤◌, List, [], ◌∷◌, ◌++◌, Option, Some, length, get_or, take, refl, sym, ap, subst, ◌∙◌, inl, inr, ⊎_elim, arith, append_assoc, length-append, zero, suc}
+use Rattle.std.proofs.Common.{◌≡◌, ◌≢◌, ◌⊎◌, ℕ, ◌+◌, ◌<◌, ◌≤◌, List, [], ◌∷◌, ◌++◌, Some, length, get_or, take, refl, sym, ap, subst, ◌∙◌, inl, inr, ⊎_elim, arith, append_assoc, length-append, zero, suc}
 use Rattle.std.proofs.lemmas.Bool.Decides.{nat_tests}
 use Rattle.std.proofs.lemmas.List.{append-nil, take_more, length-take-le}
-use Rattle.serv_disk.specs.Disks.{Holds, Told, Each, LeavesOnly}
+use Rattle.serv_disk.specs.Disks.{Holds, Told, Each, LeavesOnly, View}
 use Rattle.serv_disk.proofs.Moments.{joined}
 use Rattle.serv_journal.specs.declared.format.Version.{Version}
 use Rattle.serv_journal.specs.declared.format.Version.TheVariants.{One, Two}
@@ -139,40 +139,39 @@ too_long lines i total start next limit less so_far next_is past =
     omega (arith, past, total_more lines i total start next less so_far next_is, records_part lines 1 (i + 1))
 
 -- a disk that has so many bytes of a part of version 2 laid, as the loop that lays them keeps it
-pub record IsLaying {D : Type 0} (seen : D → Option (List ℕ)) (images : D → List ℕ → Type 0) (moment : D → ℕ) (images_since : D → ℕ → List ℕ → Type 0) (faults : D → ℕ)
-    (size : ℕ) (old new : D) (at : ℕ) (written : List ℕ) : Type 0 where
-  pub told : (front : List ℕ) → length front ≡ size → ((s : List ℕ) → seen old ≡ Some s → Starts front s) → (s : List ℕ) → seen new ≡ Some s → Starts (front ++ written) s
-  pub reach : (s : List ℕ) → seen new ≡ Some s → at ≤ length s
-  pub crash : (front : List ℕ) → length front ≡ size → Each (images old) (Starts front) → Each (images new) (Starts front)
-  pub moments : (front : List ℕ) → length front ≡ size → Each (images old) (Starts front) → LeavesOnly moment images_since old new (Starts front)
+pub record IsLaying {D : Type 0} (view : D → View) (faults : D → ℕ) (size : ℕ) (old new : D) (at : ℕ) (written : List ℕ) : Type 0 where
+  pub told : (front : List ℕ) → length front ≡ size → ((s : List ℕ) → (view old).seen ≡ Some s → Starts front s) → (s : List ℕ) → (view new).seen ≡ Some s → Starts (front ++ written) s
+  pub reach : (s : List ℕ) → (view new).seen ≡ Some s → at ≤ length s
+  pub crash : (front : List ℕ) → length front ≡ size → Each (view old).images (Starts front) → Each (view new).images (Starts front)
+  pub moments : (front : List ℕ) → length front ≡ size → Each (view old).images (Starts front) → LeavesOnly view old new (Starts front)
   pub later : faults old ≤ faults new
 
-module _ {D : Type 0} (seen : D → Option (List ℕ)) (images : D → List ℕ → Type 0) (moment : D → ℕ) (images_since : D → ℕ → List ℕ → Type 0) (faults : D → ℕ) where
+module _ {D : Type 0} (view : D → View) (faults : D → ℕ) where
   -- the first piece
-  pub laying_first : (size at : ℕ) (old new : D) (bytes : List ℕ) → ((s : List ℕ) → seen old ≡ Some s → size ≤ length s) → Told (seen old) (seen new) (Holds size bytes)
-      → ((front : List ℕ) → length front ≤ size → Each (images old) (Starts front) → Each (images new) (Starts front))
-      → ((front : List ℕ) → length front ≤ size → Each (images old) (Starts front) → LeavesOnly moment images_since old new (Starts front))
-      → faults old ≤ faults new → at ≤ size + length bytes → IsLaying seen images moment images_since faults size old new at bytes
+  pub laying_first : (size at : ℕ) (old new : D) (bytes : List ℕ) → ((s : List ℕ) → (view old).seen ≡ Some s → size ≤ length s) → Told (view old).seen (view new).seen (Holds size bytes)
+      → ((front : List ℕ) → length front ≤ size → Each (view old).images (Starts front) → Each (view new).images (Starts front))
+      → ((front : List ℕ) → length front ≤ size → Each (view old).images (Starts front) → LeavesOnly view old new (Starts front))
+      → faults old ≤ faults new → at ≤ size + length bytes → IsLaying view faults size old new at bytes
   laying_first size at old new bytes reach told crash moments later less = record {
-    told = λ front long starts. told_after (seen old) (seen new) front bytes size long starts told;
-    reach = told_reaches (seen old) (seen new) bytes size at reach told less;
+    told = λ front long starts. told_after (view old).seen (view new).seen front bytes size long starts told;
+    reach = told_reaches (view old).seen (view new).seen bytes size at reach told less;
     crash = λ front long each. crash front (omega arith) each;
     moments = λ front long each. moments front (omega arith) each;
     later = later;
   }
 
   -- a further piece
-  pub laying_more : (size at next : ℕ) (old mid new : D) (written bytes : List ℕ) → IsLaying seen images moment images_since faults size old mid at written
-      → at ≡ size + length written → Told (seen mid) (seen new) (Holds at bytes)
-      → ((front : List ℕ) → length front ≤ at → Each (images mid) (Starts front) → Each (images new) (Starts front))
-      → ((front : List ℕ) → length front ≤ at → Each (images mid) (Starts front) → LeavesOnly moment images_since mid new (Starts front))
-      → faults mid ≤ faults new → next ≤ at + length bytes → IsLaying seen images moment images_since faults size old new next (written ++ bytes)
+  pub laying_more : (size at next : ℕ) (old mid new : D) (written bytes : List ℕ) → IsLaying view faults size old mid at written
+      → at ≡ size + length written → Told (view mid).seen (view new).seen (Holds at bytes)
+      → ((front : List ℕ) → length front ≤ at → Each (view mid).images (Starts front) → Each (view new).images (Starts front))
+      → ((front : List ℕ) → length front ≤ at → Each (view mid).images (Starts front) → LeavesOnly view mid new (Starts front))
+      → faults mid ≤ faults new → next ≤ at + length bytes → IsLaying view faults size old new next (written ++ bytes)
   laying_more size at next old mid new written bytes so_far place told crash moments later less = record {
     told = λ front long starts s is. subst (λ x. Starts x s) (append_assoc front written bytes)
-        (told_after (seen mid) (seen new) (front ++ written) bytes at (omega (arith, long, place, length-append front written)) (so_far.told front long starts) told s is);
-    reach = told_reaches (seen mid) (seen new) bytes at next so_far.reach told less;
+        (told_after (view mid).seen (view new).seen (front ++ written) bytes at (omega (arith, long, place, length-append front written)) (so_far.told front long starts) told s is);
+    reach = told_reaches (view mid).seen (view new).seen bytes at next so_far.reach told less;
     crash = λ front long each. crash front (omega (arith, long, place)) (so_far.crash front long each);
-    moments = λ front long each. joined moment images_since old mid new (Starts front) (so_far.moments front long each) (moments front (omega (arith, long, place)) (so_far.crash front long each));
+    moments = λ front long each. joined view old mid new (Starts front) (so_far.moments front long each) (moments front (omega (arith, long, place)) (so_far.crash front long each));
     later = omega (arith, so_far.later, later);
   }
 

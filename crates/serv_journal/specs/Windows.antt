@@ -1,6 +1,7 @@
 -- A window on a file, and reading through it.
 use Rattle.std.specs.Prelude.{◌≡◌, ℕ, ◌+◌, ◌≤◌, List, Option, Some, length, take, drop}
 use Rattle.serv_journal.specs.Stays.{Stays}
+use Rattle.serv_disk.specs.Disks.{View}
 
 -- how long the file is, and the bytes that the window holds from a place on
 pub record WindowState : Type 0 where
@@ -22,10 +23,8 @@ ShowsTold told window = (s : List ℕ) → told ≡ Some s → Shows window s
 
 -- a run of reads through a window: the disk stays as it was, its count of faults does not fall, and the
 -- window shows it
-pub record IsReading {D : Type 0} (seen : D → Option (List ℕ)) (images : D → List ℕ → Type 0) (moment : D
-    → ℕ) (images_since : D → ℕ → List ℕ → Type 0)
-    (faults : D → ℕ) (old new : D) (before after : WindowState) : Type 0 where
-  pub stays : Stays seen images moment images_since old new
+pub record IsReading {D : Type 0} (view : D → View) (faults : D → ℕ) (old new : D) (before after : WindowState) : Type 0 where
+  pub stays : Stays view old new
   pub later : faults old ≤ faults new
   pub size : after.size ≡ before.size
-  pub shows : ShowsTold (seen new) after
+  pub shows : ShowsTold (view new).seen after

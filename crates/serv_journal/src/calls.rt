@@ -9,8 +9,8 @@ use serv_disk::{Disk, Failed};
 
 /// The length of the file.
 pub(crate) fn length_of<D: Disk>(disk: &mut D) -> Result<u64, Failed>
-    ensures number { IfOk result (λ n. (s : List ℕ) → D.seen disk.old ≡ Some s → n ≡ length s) }
-    ensures stays { Stays D.seen D.images D.moment D.images_since disk.old disk.new }
+    ensures number { IfOk result (λ n. (s : List ℕ) → (D.view disk.old).seen ≡ Some s → n ≡ length s) }
+    ensures stays { Stays D.view disk.old disk.new }
     ensures cause { HasCause (D.faults disk.old) (D.faults disk.new) result }
 {
     disk.len()
@@ -18,8 +18,8 @@ pub(crate) fn length_of<D: Disk>(disk: &mut D) -> Result<u64, Failed>
 
 /// Makes what reads give the only thing that a crash leaves.
 pub(crate) fn sync_all<D: Disk>(disk: &mut D) -> Result<(), Failed>
-    ensures only { OnOk result (Only (D.seen disk.new) (D.images disk.new)) }
-    ensures stays { Stays D.seen D.images D.moment D.images_since disk.old disk.new }
+    ensures only { OnOk result (Only (D.view disk.new).seen (D.view disk.new).images) }
+    ensures stays { Stays D.view disk.old disk.new }
     ensures cause { HasCause (D.faults disk.old) (D.faults disk.new) result }
 {
     disk.sync()

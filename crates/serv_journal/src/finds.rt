@@ -35,16 +35,16 @@ fn find_two<D: Disk>(
     from: u64,
 ) -> Result<Found, JournalFault>
     requires within { from ≤ window.old.size }
-    requires shows { ShowsTold (D.seen disk.old) window.old }
-    requires front { (s : List ℕ) → D.seen disk.old ≡ Some s → IsFront Version.Two (take from s) }
+    requires shows { ShowsTold (D.view disk.old).seen window.old }
+    requires front { (s : List ℕ) → (D.view disk.old).seen ≡ Some s → IsFront Version.Two (take from s) }
     requires form { (front : List ℕ) × IsFront Version.Two front × (length front ≡ from) }
-    ensures found { IfOk result (λ r. (s : List ℕ) → D.seen disk.old ≡ Some s
+    ensures found { IfOk result (λ r. (s : List ℕ) → (D.view disk.old).seen ≡ Some s
         → IsFound r.version r.frames r.place r.commit s) }
     ensures form { IfOk result (λ r. HasForm r.version r.frames r.place) }
     ensures fits { IfOk result (λ r. r.place + 1 ≤ window.old.size) }
-    ensures reading { IsReading D.seen D.images D.moment D.images_since D.faults disk.old disk.new
-        window.old window.new }
-    ensures fault { IfErr result (IsFindFault (D.seen disk.old) (D.faults disk.old) (D.faults disk.new)) }
+    ensures reading { IsReading D.view D.faults disk.old disk.new window.old window.new }
+    ensures fault { IfErr result
+        (IsFindFault (D.view disk.old).seen (D.faults disk.old) (D.faults disk.new)) }
 {
     let scan = scan_from(alloc, window, disk, Version::Two, from)?;
     match scan.end {
@@ -67,15 +67,15 @@ fn find_one<D: Disk>(
     disk: &mut D,
 ) -> Result<Found, JournalFault>
     requires within { 8 ≤ window.old.size }
-    requires shows { ShowsTold (D.seen disk.old) window.old }
-    requires front { (s : List ℕ) → D.seen disk.old ≡ Some s → IsFront Version.One (take 8 s) }
-    ensures found { IfOk result (λ r. (s : List ℕ) → D.seen disk.old ≡ Some s
+    requires shows { ShowsTold (D.view disk.old).seen window.old }
+    requires front { (s : List ℕ) → (D.view disk.old).seen ≡ Some s → IsFront Version.One (take 8 s) }
+    ensures found { IfOk result (λ r. (s : List ℕ) → (D.view disk.old).seen ≡ Some s
         → IsFound r.version r.frames r.place r.commit s) }
     ensures form { IfOk result (λ r. HasForm r.version r.frames r.place) }
     ensures fits { IfOk result (λ r. r.place + 1 ≤ window.old.size) }
-    ensures reading { IsReading D.seen D.images D.moment D.images_since D.faults disk.old disk.new
-        window.old window.new }
-    ensures fault { IfErr result (IsFindFault (D.seen disk.old) (D.faults disk.old) (D.faults disk.new)) }
+    ensures reading { IsReading D.view D.faults disk.old disk.new window.old window.new }
+    ensures fault { IfErr result
+        (IsFindFault (D.view disk.old).seen (D.faults disk.old) (D.faults disk.new)) }
 {
     let _size = window.size();
     let scan = scan_from(alloc, window, disk, Version::One, 8)?;
@@ -98,14 +98,14 @@ pub(crate) fn find<D: Disk>(
     window: &mut Window,
     disk: &mut D,
 ) -> Result<Found, JournalFault>
-    requires shows { ShowsTold (D.seen disk.old) window.old }
-    ensures found { IfOk result (λ r. (s : List ℕ) → D.seen disk.old ≡ Some s
+    requires shows { ShowsTold (D.view disk.old).seen window.old }
+    ensures found { IfOk result (λ r. (s : List ℕ) → (D.view disk.old).seen ≡ Some s
         → IsFound r.version r.frames r.place r.commit s) }
     ensures form { IfOk result (λ r. HasForm r.version r.frames r.place) }
     ensures fits { IfOk result (λ r. r.place + 1 ≤ window.old.size) }
-    ensures reading { IsReading D.seen D.images D.moment D.images_since D.faults disk.old disk.new
-        window.old window.new }
-    ensures fault { IfErr result (IsFindFault (D.seen disk.old) (D.faults disk.old) (D.faults disk.new)) }
+    ensures reading { IsReading D.view D.faults disk.old disk.new window.old window.new }
+    ensures fault { IfErr result
+        (IsFindFault (D.view disk.old).seen (D.faults disk.old) (D.faults disk.new)) }
 {
     let is_two = window.has_text(disk, 0, &HEADER_TWO)?;
     if is_two {

@@ -125,14 +125,14 @@ impl Journal {
         requires line { IsLine line.now }
         requires version { self.old.version ≡ Version.Two }
         requires unspent { self.old.spent ≡ false }
-        requires reaches { Reaches (D.seen disk.old) self.old.size }
+        requires reaches { Reaches (D.view disk.old).seen self.old.size }
         // A crash at any moment leaves the lines, with this one or without, or torn with it.
         ensures moments { (form : Form) (lines : List (List ℕ))
-            → IsKept form (D.images disk.old) self.old lines []
-            → LeavesOnly D.moment D.images_since disk.old disk.new (IsGoodIn form lines line.now) }
+            → IsKept form (D.view disk.old).images self.old lines []
+            → LeavesOnly D.view disk.old disk.new (IsGoodIn form lines line.now) }
         ensures added { (form : Form) (lines : List (List ℕ))
-            → IsKept form (D.images disk.old) self.old lines []
-            → OnOk result (IsKept form (D.images disk.new) self.new (lines ++ line.now ∷ []) []) }
+            → IsKept form (D.view disk.old).images self.old lines []
+            → OnOk result (IsKept form (D.view disk.new).images self.new (lines ++ line.now ∷ []) []) }
         // `Full` comes exactly where the length would pass the limit, and then nothing is written.
         ensures full { IsErrOf result (JournalFault.Full self.old.size) ↔
             (self.old.limit < self.old.size + 7 + length line.now) }
@@ -168,15 +168,15 @@ impl Journal {
         requires line { IsLine line.now }
         requires version { self.old.version ≡ Version.Two }
         requires unspent { self.old.spent ≡ false }
-        requires reaches { Reaches (D.seen disk.old) self.old.size }
+        requires reaches { Reaches (D.view disk.old).seen self.old.size }
         // After Ok each crash leaves the lines and the one that was begun before.
         ensures begun { (form : Form) (lines begun : List (List ℕ))
-            → IsKept form (D.images disk.old) self.old lines begun
-            → OnOk result (IsKept form (D.images disk.new) self.new (lines ++ begun) (line.now ∷ [])) }
+            → IsKept form (D.view disk.old).images self.old lines begun
+            → OnOk result (IsKept form (D.view disk.new).images self.new (lines ++ begun) (line.now ∷ [])) }
         // A crash at any moment leaves the lines, with the one that was begun before or without, or torn with it.
         ensures moments { (form : Form) (lines begun : List (List ℕ))
-            → IsKept form (D.images disk.old) self.old lines begun
-            → LeavesOnly D.moment D.images_since disk.old disk.new (IsAround form lines begun) }
+            → IsKept form (D.view disk.old).images self.old lines begun
+            → LeavesOnly D.view disk.old disk.new (IsAround form lines begun) }
         // `Full` comes exactly where the length would pass the limit, and then nothing is written.
         ensures full { IsErrOf result (JournalFault.Full self.old.size) ↔
             (self.old.limit < self.old.size + 7 + length line.now) }
@@ -192,7 +192,7 @@ impl Journal {
         ensures same_begun { OnErr result (self.new.begun ≡ self.old.begun) }
         ensures limit { self.new.limit ≡ self.old.limit }
         ensures same_version { self.new.version ≡ self.old.version }
-        ensures reach { self.old.laid ≡ None → OnOk result (Reaches (D.seen disk.new) self.new.size) }
+        ensures reach { self.old.laid ≡ None → OnOk result (Reaches (D.view disk.new).seen self.new.size) }
         ensures none_laid { OnOk result (self.new.laid ≡ None) }
     {
         let Some(added) = self.room_for(line) else {
@@ -228,14 +228,14 @@ impl Journal {
     pub fn commit<D: Disk>(&mut self, disk: &mut D, next: Option<Vec<u8>>) -> Result<(), Failed>
         requires next { IfSome next (λ line. IsLine line.items × (self.old.version ≡ Version.Two)) }
         requires unspent { self.old.spent ≡ false }
-        requires reaches { Reaches (D.seen disk.old) self.old.size }
+        requires reaches { Reaches (D.view disk.old).seen self.old.size }
         ensures committed { (form : Form) (lines begun : List (List ℕ))
-            → IsKept form (D.images disk.old) self.old lines begun
-            → OnOk result (IsKept form (D.images disk.new) self.new (lines ++ begun) []) }
+            → IsKept form (D.view disk.old).images self.old lines begun
+            → OnOk result (IsKept form (D.view disk.new).images self.new (lines ++ begun) []) }
         // A crash at any moment leaves the lines, with the one that is begun or without, or torn with it.
         ensures moments { (form : Form) (lines begun : List (List ℕ))
-            → IsKept form (D.images disk.old) self.old lines begun
-            → LeavesOnly D.moment D.images_since disk.old disk.new (IsAround form lines begun) }
+            → IsKept form (D.view disk.old).images self.old lines begun
+            → LeavesOnly D.view disk.old disk.new (IsAround form lines begun) }
         // Where none is begun nothing is called.
         ensures idle { self.old.begun ≡ None → IsOk result × (self.new ≡ self.old) × (disk.new ≡ disk.old) }
         ensures cause { HasCause (D.faults disk.old) (D.faults disk.new) result }
@@ -275,13 +275,13 @@ impl Journal {
         requires version { self.old.version ≡ Version.Two }
         requires room { self.old.size + 7 + length line.items ≤ self.old.limit }
         requires unspent { self.old.spent ≡ false }
-        requires reaches { Reaches (D.seen disk.old) self.old.size }
+        requires reaches { Reaches (D.view disk.old).seen self.old.size }
         ensures committed { (form : Form) (lines begun : List (List ℕ))
-            → IsKept form (D.images disk.old) self.old lines begun
-            → OnOk result (IsKept form (D.images disk.new) self.new (lines ++ begun) []) }
+            → IsKept form (D.view disk.old).images self.old lines begun
+            → OnOk result (IsKept form (D.view disk.new).images self.new (lines ++ begun) []) }
         ensures moments { (form : Form) (lines begun : List (List ℕ))
-            → IsKept form (D.images disk.old) self.old lines begun
-            → LeavesOnly D.moment D.images_since disk.old disk.new (IsAround form lines begun) }
+            → IsKept form (D.view disk.old).images self.old lines begun
+            → LeavesOnly D.view disk.old disk.new (IsAround form lines begun) }
         ensures cause { HasCause (D.faults disk.old) (D.faults disk.new) result }
         ensures spent { IsErr result ↔ (self.new.spent ≡ true) }
         ensures size { self.new.size ≡ self.old.size }

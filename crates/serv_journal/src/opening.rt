@@ -29,8 +29,8 @@ const MARK: u64 = 9;
 /// Writes so many bytes before a place again, 520 at most.
 #[tactic(auto, using(crate::proofs::StaysLemmas::stays_once))]
 fn renew_to<D: Disk>(disk: &mut D, to: u64, count: u64) -> Result<(), Failed>
-    requires { Reaches (D.seen disk.old) to }
-    ensures stays { Stays D.seen D.images D.moment D.images_since disk.old disk.new }
+    requires { Reaches (D.view disk.old).seen to }
+    ensures stays { Stays D.view disk.old disk.new }
     ensures cause { HasCause (D.faults disk.old) (D.faults disk.new) result }
 {
     let from = to - count.min(MOST_AGAIN).min(to);
@@ -41,9 +41,9 @@ fn renew_to<D: Disk>(disk: &mut D, to: u64, count: u64) -> Result<(), Failed>
 /// upgrade leaves its mark. A sync that failed in an earlier run may have left them in the system's memory alone, and the
 /// next one is to answer for them.
 fn renew<D: Disk>(disk: &mut D, found: &Found) -> Result<(), Failed>
-    requires reaches { Reaches (D.seen disk.old) (found.now.place + 1) }
+    requires reaches { Reaches (D.view disk.old).seen (found.now.place + 1) }
     requires small { found.now.place + 1 < 2 ^ 64 }
-    ensures stays { Stays D.seen D.images D.moment D.images_since disk.old disk.new }
+    ensures stays { Stays D.view disk.old disk.new }
     ensures cause { HasCause (D.faults disk.old) (D.faults disk.new) result }
 {
     let end = found.place + 1;
@@ -68,15 +68,16 @@ fn place_or(frames: &Frames, i: usize, other: u64) -> u64 {
 
 /// Reads the records of the part that is in force, and syncs what it has read.
 fn read_all<D: Disk>(alloc: Global, disk: &mut D) -> Result<Found, JournalFault>
-    ensures found { IfOk result (λ r. (s : List ℕ) → D.seen disk.old ≡ Some s
+    ensures found { IfOk result (λ r. (s : List ℕ) → (D.view disk.old).seen ≡ Some s
         → IsFound r.version r.frames r.place r.commit s) }
     ensures form { IfOk result (λ r. HasForm r.version r.frames r.place) }
-    ensures reach { IfOk result (λ r. Reaches (D.seen disk.old) (r.place + 1)) }
+    ensures reach { IfOk result (λ r. Reaches (D.view disk.old).seen (r.place + 1)) }
     ensures small { IfOk result (λ r. r.place + 1 < 2 ^ 64) }
-    ensures only { OnOk result (Only (D.seen disk.new) (D.images disk.new)) }
-    ensures stays { Stays D.seen D.images D.moment D.images_since disk.old disk.new }
+    ensures only { OnOk result (Only (D.view disk.new).seen (D.view disk.new).images) }
+    ensures stays { Stays D.view disk.old disk.new }
     ensures faults { D.faults disk.old ≤ D.faults disk.new }
-    ensures fault { IfErr result (IsFindFault (D.seen disk.old) (D.faults disk.old) (D.faults disk.new)) }
+    ensures fault { IfErr result
+        (IsFindFault (D.view disk.old).seen (D.faults disk.old) (D.faults disk.new)) }
 {
     let size = length_of(disk)?;
     let mut window = Window::new(size);
@@ -96,30 +97,32 @@ impl Journal {
     ) -> Result<(Journal, Frames), JournalFault>
         requires { limit ≤ 2 ^ 32 }
         // What it gives is what the file has.
-        ensures opened { IfOk result (λ r. (s : List ℕ) → D.seen disk.old ≡ Some s
-            → IsOpened (D.seen disk.new) r.0 r.1 s) }
+        ensures opened { IfOk result (λ r. (s : List ℕ) → (D.view disk.old).seen ≡ Some s
+            → IsOpened (D.view disk.new).seen r.0 r.1 s) }
         // Each image of the disk has these lines, whether the disk tells what it holds or not.
-        ensures durable { IfOk result (λ r. IsDurableFor (D.images disk.new) r.0 (lines_in r.1)) }
-        ensures only { OnOk result (Only (D.seen disk.new) (D.images disk.new)) }
+        ensures durable { IfOk result (λ r. IsDurableFor (D.view disk.new).images r.0 (lines_in r.1)) }
+        ensures only { OnOk result (Only (D.view disk.new).seen (D.view disk.new).images) }
         ensures fresh { IfOk result (λ r. (r.0.limit ≡ limit) × (r.0.spent ≡ false)) }
         // A crash at any moment leaves a disk that was good for some lines and one line more as good.
-        ensures moments { (s : List ℕ) → D.seen disk.old ≡ Some s → (lines : List (List ℕ)) (line : List ℕ)
+        ensures moments { (s : List ℕ) → (D.view disk.old).seen ≡ Some s → (lines : List (List ℕ))
+            (line : List ℕ)
             → AreLines lines → IsLine line
-            → Each (D.images disk.old) (IsGood lines line)
-            → LeavesOnly D.moment D.images_since disk.old disk.new (IsGood lines line) }
+            → Each (D.view disk.old).images (IsGood lines line)
+            → LeavesOnly D.view disk.old disk.new (IsGood lines line) }
         // `NotJournal` comes exactly where the file begins with no header.
         ensures not_journal { IsErrOf result JournalFault.NotJournal → (s : List ℕ)
-            → D.seen disk.old ≡ Some s → IsNoJournal s }
-        ensures exactly_not_journal { (s : List ℕ) → D.seen disk.old ≡ Some s → IsNoJournal s
+            → (D.view disk.old).seen ≡ Some s → IsNoJournal s }
+        ensures exactly_not_journal { (s : List ℕ) → (D.view disk.old).seen ≡ Some s → IsNoJournal s
             → IsOnlyFault JournalFault.NotJournal (D.faults disk.old) (D.faults disk.new) result }
         // `Damaged` comes exactly where the file is damaged, with the place.
         ensures damaged { IfErr result (λ fault. (place : ℕ) → fault ≡ JournalFault.Damaged place
-            → (s : List ℕ) → D.seen disk.old ≡ Some s → IsDamaged place s) }
-        ensures exactly_damaged { (s : List ℕ) (place : ℕ) → D.seen disk.old ≡ Some s → IsDamaged place s
+            → (s : List ℕ) → (D.view disk.old).seen ≡ Some s → IsDamaged place s) }
+        ensures exactly_damaged { (s : List ℕ) (place : ℕ)
+            → (D.view disk.old).seen ≡ Some s → IsDamaged place s
             → IsOnlyFault (JournalFault.Damaged place) (D.faults disk.old) (D.faults disk.new) result }
         // Another fault than the disk's leaves what reads give.
         ensures kept { IfErr result (λ fault. (fault ≡ JournalFault.DiskFault)
-            ⊎ (D.seen disk.new ≡ D.seen disk.old)) }
+            ⊎ ((D.view disk.new).seen ≡ (D.view disk.old).seen)) }
         ensures fault { IfErr result (IsOpenFault (D.faults disk.old) (D.faults disk.new)) }
         ensures faults { D.faults disk.old ≤ D.faults disk.new }
     {

@@ -52,11 +52,11 @@ fn begin_in<D: Disk>(
     requires line { IsLine line.now }
     requires room { length room.old ≡ 7 + length line.now }
     requires gate { IfSome gate (λ place. place < size) }
-    requires reaches { Reaches (D.seen disk.old) size }
+    requires reaches { Reaches (D.view disk.old).seen size }
     ensures put { OnOk result (IsPut gate size (body Version.Two number line.now ++ 0 ∷ [])
-        (D.images disk.old) (D.images disk.new)) }
-    ensures moments { IsPutting D.moment D.images_since gate size (D.images disk.old) disk.old disk.new }
-    ensures reach { OnOk result (Reaches (D.seen disk.new) (size + 7 + length line.now)) }
+        (D.view disk.old).images (D.view disk.new).images) }
+    ensures moments { IsPutting D.view gate size disk.old disk.new }
+    ensures reach { OnOk result (Reaches (D.view disk.new).seen (size + 7 + length line.now)) }
     ensures cause { HasCause (D.faults disk.old) (D.faults disk.new) result }
 {
     lay_out(number, line, 0, room);
@@ -74,11 +74,11 @@ pub(crate) fn begin_record<D: Disk>(
 ) -> Result<(), Failed>
     requires line { IsLine line.now }
     requires gate { IfSome gate (λ place. place < size) }
-    requires reaches { Reaches (D.seen disk.old) size }
+    requires reaches { Reaches (D.view disk.old).seen size }
     ensures put { OnOk result (IsPut gate size (body Version.Two number line.now ++ 0 ∷ [])
-        (D.images disk.old) (D.images disk.new)) }
-    ensures moments { IsPutting D.moment D.images_since gate size (D.images disk.old) disk.old disk.new }
-    ensures reach { OnOk result (Reaches (D.seen disk.new) (size + 7 + length line.now)) }
+        (D.view disk.old).images (D.view disk.new).images) }
+    ensures moments { IsPutting D.view gate size disk.old disk.new }
+    ensures reach { OnOk result (Reaches (D.view disk.new).seen (size + 7 + length line.now)) }
     ensures cause { HasCause (D.faults disk.old) (D.faults disk.new) result }
 {
     let mut room = [0; ROOM];
@@ -98,11 +98,11 @@ pub(crate) fn begin_within<D: Disk>(
     requires line { IsLine line.now }
     requires gate { IfSome gate (λ place. place < size) }
     requires small { size ≤ 2 ^ 32 }
-    requires reaches { Reaches (D.seen disk.old) size }
+    requires reaches { Reaches (D.view disk.old).seen size }
     ensures put { OnOk result (IsPut gate size (body Version.Two number line.now ++ 0 ∷ [])
-        (D.images disk.old) (D.images disk.new)) }
-    ensures moments { IsPutting D.moment D.images_since gate size (D.images disk.old) disk.old disk.new }
-    ensures reach { OnOk result (Reaches (D.seen disk.new) (size + 7 + length line.now)) }
+        (D.view disk.old).images (D.view disk.new).images) }
+    ensures moments { IsPutting D.view gate size disk.old disk.new }
+    ensures reach { OnOk result (Reaches (D.view disk.new).seen (size + 7 + length line.now)) }
     ensures cause { HasCause (D.faults disk.old) (D.faults disk.new) result }
 {
     let reach = reach_to(disk, reach, size, size + 7 + line.len() as u64)?;

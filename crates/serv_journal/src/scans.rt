@@ -43,15 +43,14 @@ pub(crate) fn scan_from<D: Disk>(
     from: u64,
 ) -> Result<Scan, JournalFault>
     requires within { from ≤ window.old.size }
-    requires shows { ShowsTold (D.seen disk.old) window.old }
+    requires shows { ShowsTold (D.view disk.old).seen window.old }
     ensures placed { IfOk result (λ r. IsPlaced version from r.frames r.place) }
     ensures fits { IfOk result (λ r. EndFits version r.place window.old.size r.end) }
-    ensures scanned { IfOk result (λ r. (s : List ℕ) → D.seen disk.old ≡ Some s
+    ensures scanned { IfOk result (λ r. (s : List ℕ) → (D.view disk.old).seen ≡ Some s
         → IsScanned version from r.frames r.place s) }
-    ensures end { IfOk result (λ r. (s : List ℕ) → D.seen disk.old ≡ Some s
+    ensures end { IfOk result (λ r. (s : List ℕ) → (D.view disk.old).seen ≡ Some s
         → IsEnd version (length r.frames + 1) (drop r.place s) r.end) }
-    ensures reading { IsReading D.seen D.images D.moment D.images_since D.faults disk.old disk.new
-        window.old window.new }
+    ensures reading { IsReading D.view D.faults disk.old disk.new window.old window.new }
     ensures fault { IfErr result (IsPassing (D.faults disk.old) (D.faults disk.new)) }
 {
     let _size = window.size();

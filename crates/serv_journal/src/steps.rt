@@ -38,11 +38,10 @@ pub(crate) enum Step {
 #[tactic(auto, using(crate::proofs::ReadingLemmas::reading_on, crate::proofs::ReadingLemmas::passing_from, crate::proofs::ReadingLemmas::two_found))]
 fn two_at<D: Disk>(window: &mut Window, disk: &mut D, place: u64) -> Result<u16, JournalFault>
     requires within { place + 2 ≤ window.old.size }
-    requires shows { ShowsTold (D.seen disk.old) window.old }
-    ensures number { IfOk result (λ n. (s : List ℕ) → D.seen disk.old ≡ Some s
+    requires shows { ShowsTold (D.view disk.old).seen window.old }
+    ensures number { IfOk result (λ n. (s : List ℕ) → (D.view disk.old).seen ≡ Some s
         → Starts (two_bytes n) (drop place s)) }
-    ensures reading { IsReading D.seen D.images D.moment D.images_since D.faults disk.old disk.new
-        window.old window.new }
+    ensures reading { IsReading D.view D.faults disk.old disk.new window.old window.new }
     ensures fault { IfErr result (IsPassing (D.faults disk.old) (D.faults disk.new)) }
 {
     window.bring(disk, place, 2)?;
@@ -61,11 +60,10 @@ fn two_of(high: u8, low: u8) -> u16
 #[tactic(auto, using(crate::proofs::ReadingLemmas::reading_on, crate::proofs::ReadingLemmas::passing_from, crate::proofs::ReadingLemmas::four_found))]
 fn four_at<D: Disk>(window: &mut Window, disk: &mut D, place: u64) -> Result<u32, JournalFault>
     requires within { place + 4 ≤ window.old.size }
-    requires shows { ShowsTold (D.seen disk.old) window.old }
-    ensures number { IfOk result (λ n. (s : List ℕ) → D.seen disk.old ≡ Some s
+    requires shows { ShowsTold (D.view disk.old).seen window.old }
+    ensures number { IfOk result (λ n. (s : List ℕ) → (D.view disk.old).seen ≡ Some s
         → Starts (four_bytes n) (drop place s)) }
-    ensures reading { IsReading D.seen D.images D.moment D.images_since D.faults disk.old disk.new
-        window.old window.new }
+    ensures reading { IsReading D.view D.faults disk.old disk.new window.old window.new }
     ensures fault { IfErr result (IsPassing (D.faults disk.old) (D.faults disk.new)) }
 {
     window.bring(disk, place, 4)?;
@@ -88,16 +86,14 @@ fn line_at<D: Disk>(
     place: u64,
 ) -> Result<Option<usize>, JournalFault>
     requires within { place ≤ window.old.size }
-    requires shows { ShowsTold (D.seen disk.old) window.old }
+    requires shows { ShowsTold (D.view disk.old).seen window.old }
     ensures line { IfOk result (λ found. IfSome found (λ count. IsLength count
         × (place + 2 + count ≤ window.old.size))) }
     ensures has { IfOk result (λ found. IfSome found (Has window.new (place + 2))) }
-    ensures found { IfOk result (λ found. (s : List ℕ) → D.seen disk.old ≡ Some s
-        → MatchOption found (IsBadLine (drop place s))
-        (λ count. (let line = piece 2 count (drop place s) in
+    ensures found { IfOk result (λ found. (s : List ℕ) → (D.view disk.old).seen ≡ Some s
+        → MatchOption found (IsBadLine (drop place s)) (λ count. (let line = piece 2 count (drop place s) in
         Starts (two_bytes (length line) ++ line) (drop place s)))) }
-    ensures reading { IsReading D.seen D.images D.moment D.images_since D.faults disk.old disk.new
-        window.old window.new }
+    ensures reading { IsReading D.view D.faults disk.old disk.new window.old window.new }
     ensures fault { IfErr result (IsPassing (D.faults disk.old) (D.faults disk.new)) }
 {
     if window.size() - place < 2 {
@@ -121,15 +117,14 @@ fn numbered_at<D: Disk>(
     place: u64,
 ) -> Result<Option<usize>, JournalFault>
     requires within { place ≤ window.old.size }
-    requires shows { ShowsTold (D.seen disk.old) window.old }
+    requires shows { ShowsTold (D.view disk.old).seen window.old }
     ensures line { IfOk result (λ found. IfSome found (λ count. IsLength count
         × (place + 6 + count ≤ window.old.size))) }
     ensures has { IfOk result (λ found. IfSome found (Has window.new (place + 6))) }
-    ensures found { IfOk result (λ found. (s : List ℕ) → D.seen disk.old ≡ Some s
+    ensures found { IfOk result (λ found. (s : List ℕ) → (D.view disk.old).seen ≡ Some s
         → MatchOption found (IsBadRecord Version.Two number (drop place s))
         (λ count. Starts (body Version.Two number (piece 6 count (drop place s))) (drop place s))) }
-    ensures reading { IsReading D.seen D.images D.moment D.images_since D.faults disk.old disk.new
-        window.old window.new }
+    ensures reading { IsReading D.view D.faults disk.old disk.new window.old window.new }
     ensures fault { IfErr result (IsPassing (D.faults disk.old) (D.faults disk.new)) }
 {
     if window.size() - place < 6 {
@@ -152,18 +147,17 @@ fn record_at<D: Disk>(
     place: u64,
 ) -> Result<Option<usize>, JournalFault>
     requires within { place ≤ window.old.size }
-    requires shows { ShowsTold (D.seen disk.old) window.old }
-    requires unmarked { version ≡ Version.One → (s : List ℕ) → D.seen disk.old ≡ Some s
+    requires shows { ShowsTold (D.view disk.old).seen window.old }
+    requires unmarked { version ≡ Version.One → (s : List ℕ) → (D.view disk.old).seen ≡ Some s
         → Starts (header Version.Two) (drop place s) → ⊥ }
     ensures line { IfOk result (λ found. IfSome found (λ count. IsLength count
         × (place + head_size version + count ≤ window.old.size))) }
     ensures has { IfOk result (λ found. IfSome found (Has window.new (place + head_size version))) }
-    ensures found { IfOk result (λ found. (s : List ℕ) → D.seen disk.old ≡ Some s
+    ensures found { IfOk result (λ found. (s : List ℕ) → (D.view disk.old).seen ≡ Some s
         → MatchOption found (IsBadRecord version number (drop place s))
         (λ count. Starts (body version number (piece (head_size version) count (drop place s)))
         (drop place s))) }
-    ensures reading { IsReading D.seen D.images D.moment D.images_since D.faults disk.old disk.new
-        window.old window.new }
+    ensures reading { IsReading D.view D.faults disk.old disk.new window.old window.new }
     ensures fault { IfErr result (IsPassing (D.faults disk.old) (D.faults disk.new)) }
 {
     match version {
@@ -182,15 +176,14 @@ fn ends_part<D: Disk>(
     place: u64,
 ) -> Result<bool, JournalFault>
     requires within { place ≤ window.old.size }
-    requires shows { ShowsTold (D.seen disk.old) window.old }
+    requires shows { ShowsTold (D.view disk.old).seen window.old }
     ensures fits { IfOk result (λ b. IsTrue b
         → (version ≡ Version.One) × (commit ≢ 0) × (place + 8 ≤ window.old.size)) }
-    ensures mark { IfOk result (λ b. (s : List ℕ) → D.seen disk.old ≡ Some s → IsTrue b
+    ensures mark { IfOk result (λ b. (s : List ℕ) → (D.view disk.old).seen ≡ Some s → IsTrue b
         → Starts (header Version.Two) (drop place s)) }
-    ensures unmarked { IfOk result (λ b. (s : List ℕ) → D.seen disk.old ≡ Some s → b ≡ false
+    ensures unmarked { IfOk result (λ b. (s : List ℕ) → (D.view disk.old).seen ≡ Some s → b ≡ false
         → version ≡ Version.One → IsMark commit (drop place s) → ⊥) }
-    ensures reading { IsReading D.seen D.images D.moment D.images_since D.faults disk.old disk.new
-        window.old window.new }
+    ensures reading { IsReading D.view D.faults disk.old disk.new window.old window.new }
     ensures fault { IfErr result (IsPassing (D.faults disk.old) (D.faults disk.new)) }
 {
     if commit == 0 {
@@ -212,13 +205,12 @@ pub(crate) fn step_at<D: Disk>(
     place: u64,
 ) -> Result<Step, JournalFault>
     requires within { place ≤ window.old.size }
-    requires shows { ShowsTold (D.seen disk.old) window.old }
+    requires shows { ShowsTold (D.view disk.old).seen window.old }
     ensures fits { IfOk result (StepFits version place window.old.size) }
     ensures has { IfOk result (HasLine version place window.new) }
-    ensures step { IfOk result (λ step. (s : List ℕ) → D.seen disk.old ≡ Some s
+    ensures step { IfOk result (λ step. (s : List ℕ) → (D.view disk.old).seen ≡ Some s
         → IsStep version number (drop place s) step) }
-    ensures reading { IsReading D.seen D.images D.moment D.images_since D.faults disk.old disk.new
-        window.old window.new }
+    ensures reading { IsReading D.view D.faults disk.old disk.new window.old window.new }
     ensures fault { IfErr result (IsPassing (D.faults disk.old) (D.faults disk.new)) }
 {
     if place == window.size() {

@@ -87,13 +87,13 @@ fn lay_in<D: Disk>(
 ) -> Result<(), Failed>
     requires line { IsLine line.now }
     requires room { length room.old ≡ 7 + length line.now }
-    requires reaches { Reaches (D.seen disk.old) at }
-    ensures told { OnOk result (Told (D.seen disk.old) (D.seen disk.new)
+    requires reaches { Reaches (D.view disk.old).seen at }
+    ensures told { OnOk result (Told (D.view disk.old).seen (D.view disk.new).seen
         (Holds at (body Version.Two number line.now ++ next ∷ []))) }
-    ensures crash { (front : List ℕ) → length front ≤ at → Each (D.images disk.old) (Starts front)
-        → Each (D.images disk.new) (Starts front) }
-    ensures moments { (front : List ℕ) → length front ≤ at → Each (D.images disk.old) (Starts front)
-        → LeavesOnly D.moment D.images_since disk.old disk.new (Starts front) }
+    ensures crash { (front : List ℕ) → length front ≤ at → Each (D.view disk.old).images (Starts front)
+        → Each (D.view disk.new).images (Starts front) }
+    ensures moments { (front : List ℕ) → length front ≤ at → Each (D.view disk.old).images (Starts front)
+        → LeavesOnly D.view disk.old disk.new (Starts front) }
     ensures cause { HasCause (D.faults disk.old) (D.faults disk.new) result }
 {
     lay_out(number, line, next, room);
@@ -109,13 +109,13 @@ fn lay_record<D: Disk>(
     next: u8,
 ) -> Result<(), Failed>
     requires line { IsLine line.now }
-    requires reaches { Reaches (D.seen disk.old) at }
-    ensures told { OnOk result (Told (D.seen disk.old) (D.seen disk.new)
+    requires reaches { Reaches (D.view disk.old).seen at }
+    ensures told { OnOk result (Told (D.view disk.old).seen (D.view disk.new).seen
         (Holds at (body Version.Two number line.now ++ next ∷ []))) }
-    ensures crash { (front : List ℕ) → length front ≤ at → Each (D.images disk.old) (Starts front)
-        → Each (D.images disk.new) (Starts front) }
-    ensures moments { (front : List ℕ) → length front ≤ at → Each (D.images disk.old) (Starts front)
-        → LeavesOnly D.moment D.images_since disk.old disk.new (Starts front) }
+    ensures crash { (front : List ℕ) → length front ≤ at → Each (D.view disk.old).images (Starts front)
+        → Each (D.view disk.new).images (Starts front) }
+    ensures moments { (front : List ℕ) → length front ≤ at → Each (D.view disk.old).images (Starts front)
+        → LeavesOnly D.view disk.old disk.new (Starts front) }
     ensures cause { HasCause (D.faults disk.old) (D.faults disk.new) result }
 {
     let mut room = [0; ROOM];
@@ -126,16 +126,16 @@ fn lay_record<D: Disk>(
 fn lay_all<D: Disk>(disk: &mut D, size: u64, frames: &Frames) -> Result<(), Failed>
     requires lines { AreLines (lines_in frames.now) }
     requires small { size + 9 + length (records Version.Two 1 (lines_in frames.now)) ≤ 2 ^ 32 }
-    requires reaches { Reaches (D.seen disk.old) size }
+    requires reaches { Reaches (D.view disk.old).seen size }
     ensures told { (front : List ℕ) → length front ≡ size
-        → ((s : List ℕ) → D.seen disk.old ≡ Some s → Starts front s)
-        → OnOk result ((s : List ℕ) → D.seen disk.new ≡ Some s
+        → ((s : List ℕ) → (D.view disk.old).seen ≡ Some s → Starts front s)
+        → OnOk result ((s : List ℕ) → (D.view disk.new).seen ≡ Some s
         → Starts (front ++ rewritten (lines_in frames.now)) s) }
-    ensures reach { OnOk result (Reaches (D.seen disk.new) size) }
-    ensures crash { (front : List ℕ) → length front ≡ size → Each (D.images disk.old) (Starts front)
-        → Each (D.images disk.new) (Starts front) }
-    ensures moments { (front : List ℕ) → length front ≡ size → Each (D.images disk.old) (Starts front)
-        → LeavesOnly D.moment D.images_since disk.old disk.new (Starts front) }
+    ensures reach { OnOk result (Reaches (D.view disk.new).seen size) }
+    ensures crash { (front : List ℕ) → length front ≡ size → Each (D.view disk.old).images (Starts front)
+        → Each (D.view disk.new).images (Starts front) }
+    ensures moments { (front : List ℕ) → length front ≡ size → Each (D.view disk.old).images (Starts front)
+        → LeavesOnly D.view disk.old disk.new (Starts front) }
     ensures cause { HasCause (D.faults disk.old) (D.faults disk.new) result }
 {
     let count = frames.len();
@@ -154,14 +154,14 @@ fn write_upgrade<D: Disk>(disk: &mut D, size: u64, frames: &Frames) -> Result<()
     requires some { 1 ≤ size }
     requires lines { AreLines (lines_in frames.now) }
     requires small { size + 9 + length (records Version.Two 1 (lines_in frames.now)) ≤ 2 ^ 32 }
-    requires reaches { Reaches (D.seen disk.old) size }
+    requires reaches { Reaches (D.view disk.old).seen size }
     ensures durable { (front : List ℕ) → length front + 1 ≡ size
-        → Each (D.images disk.old) (Starts (front ++ 0 ∷ []))
-        → OnOk result (Each (D.images disk.new) (Starts (front ++ 2 ∷ rewritten (lines_in frames.now)))) }
+        → Each (D.view disk.old).images (Starts (front ++ 0 ∷ []))
+        → OnOk result (Each (D.view disk.new).images
+        (Starts (front ++ 2 ∷ rewritten (lines_in frames.now)))) }
     ensures moments { (front : List ℕ) → length front + 1 ≡ size
-        → Each (D.images disk.old) (Starts (front ++ 0 ∷ []))
-        → LeavesOnly D.moment D.images_since disk.old disk.new
-        (IsOpening front (rewritten (lines_in frames.now))) }
+        → Each (D.view disk.old).images (Starts (front ++ 0 ∷ []))
+        → LeavesOnly D.view disk.old disk.new (IsOpening front (rewritten (lines_in frames.now))) }
     ensures cause { HasCause (D.faults disk.old) (D.faults disk.new) result }
 {
     lay_all(disk, size, frames)?;
@@ -176,17 +176,17 @@ impl Journal {
         requires version { self.old.version ≡ Version.One }
         requires unspent { self.old.spent ≡ false }
         requires lines { AreLines (lines_in frames.now) }
-        requires reaches { Reaches (D.seen disk.old) self.old.size }
+        requires reaches { Reaches (D.view disk.old).seen self.old.size }
         // A crash at any moment leaves the same lines, in one version or the other.
         ensures moments { (form : Form) → StandsFor form (lines_in frames.now) self.old
-            → Each (D.images disk.old) (IsWholeIn form (lines_in frames.now))
-            → LeavesOnly D.moment D.images_since disk.old disk.new (IsWhole (lines_in frames.now)) }
+            → Each (D.view disk.old).images (IsWholeIn form (lines_in frames.now))
+            → LeavesOnly D.view disk.old disk.new (IsWhole (lines_in frames.now)) }
         ensures upgraded { (form : Form) → StandsFor form (lines_in frames.now) self.old
             → OnOk result (StandsFor (upgraded_form form (lines_in frames.now))
             (lines_in frames.now) self.new) }
         ensures durable { (form : Form) → StandsFor form (lines_in frames.now) self.old
-            → Each (D.images disk.old) (IsWholeIn form (lines_in frames.now))
-            → OnOk result (Each (D.images disk.new)
+            → Each (D.view disk.old).images (IsWholeIn form (lines_in frames.now))
+            → OnOk result (Each (D.view disk.new).images
             (IsWholeIn (upgraded_form form (lines_in frames.now)) (lines_in frames.now))) }
         ensures none_begun { OnOk result ((self.new.begun ≡ None) × (self.new.laid ≡ None)) }
         // `Full` comes exactly where the length would pass the limit, and then nothing is written.

@@ -57,11 +57,10 @@ impl Window {
     /// Reads from this place on: 4,096 bytes, or as many as there are.
     fn load<D: Disk>(&mut self, disk: &mut D, place: u64) -> Result<(), Failed>
         requires within { place < self.old.size }
-        requires shows { ShowsTold (D.seen disk.old) self.old }
+        requires shows { ShowsTold (D.view disk.old).seen self.old }
         ensures at { OnOk result (self.new.at ≡ place) }
         ensures count { OnOk result (length self.new.bytes ≡ min (self.old.size - place) 4096) }
-        ensures reading { IsReading D.seen D.images D.moment D.images_since D.faults disk.old disk.new
-            self.old self.new }
+        ensures reading { IsReading D.view D.faults disk.old disk.new self.old self.new }
         ensures cause { HasCause (D.faults disk.old) (D.faults disk.new) result }
     {
         let count = (self.size - place).min(SPAN as u64) as usize;
@@ -92,11 +91,10 @@ impl Window {
         requires within { place + count ≤ self.old.size }
         requires some { 1 ≤ count }
         requires few { count ≤ 4096 }
-        requires shows { ShowsTold (D.seen disk.old) self.old }
+        requires shows { ShowsTold (D.view disk.old).seen self.old }
         ensures from { OnOk result (self.new.at ≤ place) }
         ensures to { OnOk result (place + count ≤ self.new.at + length self.new.bytes) }
-        ensures reading { IsReading D.seen D.images D.moment D.images_since D.faults disk.old disk.new
-            self.old self.new }
+        ensures reading { IsReading D.view D.faults disk.old disk.new self.old self.new }
         ensures fault { IfErr result (IsPassing (D.faults disk.old) (D.faults disk.new)) }
     {
         if self.has(place, count) {
@@ -129,10 +127,10 @@ impl Window {
     /// The byte at a place of the file.
     pub(crate) fn byte_at<D: Disk>(&mut self, disk: &mut D, place: u64) -> Result<u8, JournalFault>
         requires within { place < self.old.size }
-        requires shows { ShowsTold (D.seen disk.old) self.old }
-        ensures byte { IfOk result (λ b. (s : List ℕ) → D.seen disk.old ≡ Some s → b ≡ slice_index s place) }
-        ensures reading { IsReading D.seen D.images D.moment D.images_since D.faults disk.old disk.new
-            self.old self.new }
+        requires shows { ShowsTold (D.view disk.old).seen self.old }
+        ensures byte { IfOk result
+            (λ b. (s : List ℕ) → (D.view disk.old).seen ≡ Some s → b ≡ slice_index s place) }
+        ensures reading { IsReading D.view D.faults disk.old disk.new self.old self.new }
         ensures fault { IfErr result (IsPassing (D.faults disk.old) (D.faults disk.new)) }
     {
         self.bring(disk, place, 1)?;
@@ -148,12 +146,11 @@ impl Window {
         text: &[u8; 8],
     ) -> Result<bool, JournalFault>
         requires within { place ≤ self.old.size }
-        requires shows { ShowsTold (D.seen disk.old) self.old }
+        requires shows { ShowsTold (D.view disk.old).seen self.old }
         ensures found { IfOk result (λ b. IsTrue b → place + 8 ≤ self.old.size) }
-        ensures text { IfOk result (λ b. (s : List ℕ) → D.seen disk.old ≡ Some s
+        ensures text { IfOk result (λ b. (s : List ℕ) → (D.view disk.old).seen ≡ Some s
             → (IsTrue b ↔ Starts text.now (drop place s))) }
-        ensures reading { IsReading D.seen D.images D.moment D.images_since D.faults disk.old disk.new
-            self.old self.new }
+        ensures reading { IsReading D.view D.faults disk.old disk.new self.old self.new }
         ensures fault { IfErr result (IsPassing (D.faults disk.old) (D.faults disk.new)) }
     {
         if self.size() - place < 8 {

@@ -13,13 +13,13 @@ use serv_disk::{Disk, Failed};
 
 /// Writes, and syncs.
 pub(crate) fn put<D: Disk>(disk: &mut D, at: u64, bytes: &[u8]) -> Result<(), Failed>
-    requires { Reaches (D.seen disk.old) at }
-    ensures told { OnOk result (Told (D.seen disk.old) (D.seen disk.new) (Holds at bytes.now)) }
-    ensures durable { OnOk result (Each (D.images disk.new)
-        (After (Holds at bytes.now) (D.images disk.old))) }
-    ensures only { OnOk result (Only (D.seen disk.new) (D.images disk.new)) }
-    ensures moments { LeavesOnly D.moment D.images_since disk.old disk.new
-        (After (TornAt at (length bytes.now)) (D.images disk.old)) }
+    requires { Reaches (D.view disk.old).seen at }
+    ensures told { OnOk result (Told (D.view disk.old).seen (D.view disk.new).seen (Holds at bytes.now)) }
+    ensures durable { OnOk result (Each (D.view disk.new).images
+        (After (Holds at bytes.now) (D.view disk.old).images)) }
+    ensures only { OnOk result (Only (D.view disk.new).seen (D.view disk.new).images) }
+    ensures moments { LeavesOnly D.view disk.old disk.new
+        (After (TornAt at (length bytes.now)) (D.view disk.old).images) }
     ensures cause { HasCause (D.faults disk.old) (D.faults disk.new) result }
 {
     disk.write_at(at, bytes)?;
@@ -28,13 +28,13 @@ pub(crate) fn put<D: Disk>(disk: &mut D, at: u64, bytes: &[u8]) -> Result<(), Fa
 
 /// Puts bytes after all that is of account.
 fn stage<D: Disk>(disk: &mut D, at: u64, bytes: &[u8]) -> Result<(), Failed>
-    requires { Reaches (D.seen disk.old) at }
-    ensures told { OnOk result (Told (D.seen disk.old) (D.seen disk.new) (Holds at bytes.now)) }
-    ensures durable { (front : List ℕ) → length front ≡ at → Each (D.images disk.old) (Starts front)
-        → OnOk result (Each (D.images disk.new) (Starts (front ++ bytes.now))) }
-    ensures moments { (front : List ℕ) → length front ≡ at → Each (D.images disk.old) (Starts front)
-        → LeavesOnly D.moment D.images_since disk.old disk.new (Starts front) }
-    ensures reach { OnOk result (Reaches (D.seen disk.new) (at + length bytes.now)) }
+    requires { Reaches (D.view disk.old).seen at }
+    ensures told { OnOk result (Told (D.view disk.old).seen (D.view disk.new).seen (Holds at bytes.now)) }
+    ensures durable { (front : List ℕ) → length front ≡ at → Each (D.view disk.old).images (Starts front)
+        → OnOk result (Each (D.view disk.new).images (Starts (front ++ bytes.now))) }
+    ensures moments { (front : List ℕ) → length front ≡ at → Each (D.view disk.old).images (Starts front)
+        → LeavesOnly D.view disk.old disk.new (Starts front) }
+    ensures reach { OnOk result (Reaches (D.view disk.new).seen (at + length bytes.now)) }
     ensures cause { HasCause (D.faults disk.old) (D.faults disk.new) result }
 {
     put(disk, at, bytes)
@@ -42,15 +42,15 @@ fn stage<D: Disk>(disk: &mut D, at: u64, bytes: &[u8]) -> Result<(), Failed>
 
 /// Sets one byte.
 pub(crate) fn set_byte<D: Disk>(disk: &mut D, at: u64, value: u8) -> Result<(), Failed>
-    requires { Reaches (D.seen disk.old) at }
-    ensures told { OnOk result (Told (D.seen disk.old) (D.seen disk.new) (Holds at (value ∷ []))) }
+    requires { Reaches (D.view disk.old).seen at }
+    ensures told { OnOk result (Told (D.view disk.old).seen (D.view disk.new).seen (Holds at (value ∷ []))) }
     ensures durable { (front rest : List ℕ) → length front ≡ at
-        → Each (D.images disk.old) (Between front rest)
-        → OnOk result (Each (D.images disk.new) (Starts (front ++ value ∷ rest))) }
+        → Each (D.view disk.old).images (Between front rest)
+        → OnOk result (Each (D.view disk.new).images (Starts (front ++ value ∷ rest))) }
     ensures moments { (front rest : List ℕ) → length front ≡ at
-        → Each (D.images disk.old) (Between front rest)
-        → LeavesOnly D.moment D.images_since disk.old disk.new (Between front rest) }
-    ensures only { OnOk result (Only (D.seen disk.new) (D.images disk.new)) }
+        → Each (D.view disk.old).images (Between front rest)
+        → LeavesOnly D.view disk.old disk.new (Between front rest) }
+    ensures only { OnOk result (Only (D.view disk.new).seen (D.view disk.new).images) }
     ensures cause { HasCause (D.faults disk.old) (D.faults disk.new) result }
 {
     put(disk, at, &[value])
@@ -59,10 +59,11 @@ pub(crate) fn set_byte<D: Disk>(disk: &mut D, at: u64, value: u8) -> Result<(), 
 /// Puts bytes after all that is of account, and opens a commit byte before them with the same sync.
 fn put_and_open<D: Disk>(disk: &mut D, gate: u64, at: u64, bytes: &[u8]) -> Result<(), Failed>
     requires gate { gate < at }
-    requires reaches { Reaches (D.seen disk.old) at }
-    ensures put { OnOk result (IsPut (Some gate) at bytes.now (D.images disk.old) (D.images disk.new)) }
-    ensures moments { IsPutting D.moment D.images_since (Some gate) at (D.images disk.old) disk.old disk.new }
-    ensures reach { OnOk result (Reaches (D.seen disk.new) (at + length bytes.now)) }
+    requires reaches { Reaches (D.view disk.old).seen at }
+    ensures put { OnOk result
+        (IsPut (Some gate) at bytes.now (D.view disk.old).images (D.view disk.new).images) }
+    ensures moments { IsPutting D.view (Some gate) at disk.old disk.new }
+    ensures reach { OnOk result (Reaches (D.view disk.new).seen (at + length bytes.now)) }
     ensures cause { HasCause (D.faults disk.old) (D.faults disk.new) result }
 {
     lay(disk, at, bytes)?;
@@ -78,10 +79,10 @@ pub(crate) fn put_behind<D: Disk>(
     bytes: &[u8],
 ) -> Result<(), Failed>
     requires gate { IfSome gate (λ place. place < at) }
-    requires reaches { Reaches (D.seen disk.old) at }
-    ensures put { OnOk result (IsPut gate at bytes.now (D.images disk.old) (D.images disk.new)) }
-    ensures moments { IsPutting D.moment D.images_since gate at (D.images disk.old) disk.old disk.new }
-    ensures reach { OnOk result (Reaches (D.seen disk.new) (at + length bytes.now)) }
+    requires reaches { Reaches (D.view disk.old).seen at }
+    ensures put { OnOk result (IsPut gate at bytes.now (D.view disk.old).images (D.view disk.new).images) }
+    ensures moments { IsPutting D.view gate at disk.old disk.new }
+    ensures reach { OnOk result (Reaches (D.view disk.new).seen (at + length bytes.now)) }
     ensures cause { HasCause (D.faults disk.old) (D.faults disk.new) result }
 {
     match gate {
@@ -92,14 +93,15 @@ pub(crate) fn put_behind<D: Disk>(
 
 /// Sets a commit byte to 0, unless it is.
 pub(crate) fn close_byte<D: Disk>(disk: &mut D, at: u64, commit: u8) -> Result<(), Failed>
-    requires { Reaches (D.seen disk.old) at }
-    ensures told { (front rest : List ℕ) → length front ≡ at → D.seen disk.old ≡ Some (front ++ commit ∷ rest)
-        → OnOk result (D.seen disk.new ≡ Some (front ++ 0 ∷ rest)) }
-    ensures untold { D.seen disk.old ≡ None → OnOk result (D.seen disk.new ≡ None) }
-    ensures only { Only (D.seen disk.old) (D.images disk.old)
-        → OnOk result (Only (D.seen disk.new) (D.images disk.new)) }
-    ensures moments { LeavesOnly D.moment D.images_since disk.old disk.new
-        (λ c. D.images disk.old c ⊎ ((commit ≢ 0) × After (TornAt at 1) (D.images disk.old) c)) }
+    requires { Reaches (D.view disk.old).seen at }
+    ensures told { (front rest : List ℕ) → length front ≡ at → (D.view disk.old).seen ≡ Some
+        (front ++ commit ∷ rest)
+        → OnOk result ((D.view disk.new).seen ≡ Some (front ++ 0 ∷ rest)) }
+    ensures untold { (D.view disk.old).seen ≡ None → OnOk result ((D.view disk.new).seen ≡ None) }
+    ensures only { Only (D.view disk.old).seen (D.view disk.old).images
+        → OnOk result (Only (D.view disk.new).seen (D.view disk.new).images) }
+    ensures moments { LeavesOnly D.view disk.old disk.new
+        (λ c. (D.view disk.old).images c ⊎ ((commit ≢ 0) × After (TornAt at 1) (D.view disk.old).images c)) }
     ensures cause { HasCause (D.faults disk.old) (D.faults disk.new) result }
 {
     if commit == 0 {
@@ -110,12 +112,12 @@ pub(crate) fn close_byte<D: Disk>(disk: &mut D, at: u64, commit: u8) -> Result<(
 
 /// Puts bytes after all that is of account. Until the next sync a crash may leave any part of them.
 pub(crate) fn lay<D: Disk>(disk: &mut D, at: u64, bytes: &[u8]) -> Result<(), Failed>
-    requires { Reaches (D.seen disk.old) at }
-    ensures told { OnOk result (Told (D.seen disk.old) (D.seen disk.new) (Holds at bytes.now)) }
-    ensures crash { (front : List ℕ) → length front ≤ at → Each (D.images disk.old) (Starts front)
-        → Each (D.images disk.new) (Starts front) }
-    ensures moments { (front : List ℕ) → length front ≤ at → Each (D.images disk.old) (Starts front)
-        → LeavesOnly D.moment D.images_since disk.old disk.new (Starts front) }
+    requires { Reaches (D.view disk.old).seen at }
+    ensures told { OnOk result (Told (D.view disk.old).seen (D.view disk.new).seen (Holds at bytes.now)) }
+    ensures crash { (front : List ℕ) → length front ≤ at → Each (D.view disk.old).images (Starts front)
+        → Each (D.view disk.new).images (Starts front) }
+    ensures moments { (front : List ℕ) → length front ≤ at → Each (D.view disk.old).images (Starts front)
+        → LeavesOnly D.view disk.old disk.new (Starts front) }
     ensures cause { HasCause (D.faults disk.old) (D.faults disk.new) result }
 {
     disk.write_at(at, bytes)
@@ -127,12 +129,12 @@ const AHEAD: usize = 1 << 16;
 /// Puts zeros after all that is of account.
 #[inline(never)]
 fn lay_zeros<D: Disk>(disk: &mut D, at: u64) -> Result<(), Failed>
-    requires { Reaches (D.seen disk.old) at }
-    ensures reach { OnOk result (Reaches (D.seen disk.new) at) }
-    ensures crash { (front : List ℕ) → length front ≤ at → Each (D.images disk.old) (Starts front)
-        → Each (D.images disk.new) (Starts front) }
-    ensures moments { (front : List ℕ) → length front ≤ at → Each (D.images disk.old) (Starts front)
-        → LeavesOnly D.moment D.images_since disk.old disk.new (Starts front) }
+    requires { Reaches (D.view disk.old).seen at }
+    ensures reach { OnOk result (Reaches (D.view disk.new).seen at) }
+    ensures crash { (front : List ℕ) → length front ≤ at → Each (D.view disk.old).images (Starts front)
+        → Each (D.view disk.new).images (Starts front) }
+    ensures moments { (front : List ℕ) → length front ≤ at → Each (D.view disk.old).images (Starts front)
+        → LeavesOnly D.view disk.old disk.new (Starts front) }
     ensures cause { HasCause (D.faults disk.old) (D.faults disk.new) result }
 {
     lay(disk, at, &[0; AHEAD])
@@ -142,12 +144,12 @@ fn lay_zeros<D: Disk>(disk: &mut D, at: u64) -> Result<(), Failed>
 /// reaches.
 pub(crate) fn reach_to<D: Disk>(disk: &mut D, reach: u64, size: u64, to: u64) -> Result<u64, Failed>
     requires small { to < 2 ^ 63 }
-    requires reaches { Reaches (D.seen disk.old) size }
-    ensures reach { OnOk result (Reaches (D.seen disk.new) size) }
-    ensures crash { (front : List ℕ) → length front ≤ size → Each (D.images disk.old) (Starts front)
-        → Each (D.images disk.new) (Starts front) }
-    ensures moments { (front : List ℕ) → length front ≤ size → Each (D.images disk.old) (Starts front)
-        → LeavesOnly D.moment D.images_since disk.old disk.new (Starts front) }
+    requires reaches { Reaches (D.view disk.old).seen size }
+    ensures reach { OnOk result (Reaches (D.view disk.new).seen size) }
+    ensures crash { (front : List ℕ) → length front ≤ size → Each (D.view disk.old).images (Starts front)
+        → Each (D.view disk.new).images (Starts front) }
+    ensures moments { (front : List ℕ) → length front ≤ size → Each (D.view disk.old).images (Starts front)
+        → LeavesOnly D.view disk.old disk.new (Starts front) }
     ensures cause { HasCause (D.faults disk.old) (D.faults disk.new) result }
 {
     if to <= reach {

@@ -20,6 +20,7 @@ use Rattle.serv_machine.proofs.UpheldLemmas.{commands_left, upheld_none, upheld_
 use Rattle.serv_links.specs.Meanings.{Says, last_text}
 use Rattle.serv_links.specs.Outcomes.{IsAnswered, ComeFirst, AreRead, AreInFront, AreAnswers, AreAnswersOf}
 use Rattle.serv_links.proofs.RoundLemmas.{none_stopped}
+use Rattle.serv_disk.specs.Disks.{View}
 
 -- ---- requests after others
 
@@ -68,42 +69,42 @@ answers_of n asks s t wrote taken rest piece bytes commands asked first is = rec
 
 -- ---- what is written last, while the disk is as it is
 
-module _ {D : Type 0} (images : D → List ℕ → Type 0) (moment : D → ℕ) (images_since : D → ℕ → List ℕ → Type 0) (d : D) (only : (c : List ℕ) → images_since d (moment d) c → images d c) where
+module _ {D : Type 0} (view : D → View) (d : D) (only : (c : List ℕ) → (view d).since (view d).moment c → (view d).images c) where
   -- after what was written of some requests
   pub last_upheld : (old : D) (why : Stop) (n : ℕ) (asks : List Ask) (s s' : Stand) (held held' : Option (List ℕ)) (log log' log'' : Option (List Stamp))
-      → Writes images moment images_since old d (IsStopped why (ComeFirst n asks) 0 s s') s.history s'.history held held'
-      → Upholds (AreReplies (SaidFirst Says asks) s.history) (moment d) (images_since d) s'.history held log log' → ((x : List ℕ) → held' ≡ Some x → Notes (moment d) (length x + length (last_text why)) log' log'')
-      → Upholds (AreAnswers asks s.history) (moment d) (images_since d) s'.history held log log''
+      → Writes view old d (IsStopped why (ComeFirst n asks) 0 s s') s.history s'.history held held'
+      → Upholds (AreReplies (SaidFirst Says asks) s.history) (view d) s'.history held log log' → ((x : List ℕ) → held' ≡ Some x → Notes (view d).moment (length x + length (last_text why)) log' log'')
+      → Upholds (AreAnswers asks s.history) (view d) s'.history held log log''
   last_upheld old why n asks s s' held held' log log' log'' stops up notes =
       let covered = stopped_covered (SaidFirst Says asks) (ComeFirst n asks) (λ done ahead first. first.1) 0 s s' stops.pending stops.written why stops.says_so in
       let enough = covered.enough in
-      upheld_written images moment images_since d only (AreAnswers asks s.history) s'.history covered.commands covered.grown.0 covered.grown.1
-      (commands_left (images d) covered.commands s'.history covered.grown.0 stops.pending covered.grown.1 stops.disk.left) (covered.bytes + length (last_text why))
+      upheld_written view d only (AreAnswers asks s.history) s'.history covered.commands covered.grown.0 covered.grown.1
+      (commands_left (view d).images covered.commands s'.history covered.grown.0 stops.pending covered.grown.1 stops.disk.left) (covered.bytes + length (last_text why))
       (record { before = covered.bytes; replies = covered.replies; why = why; bytes_are = refl })
       held held' stops.written (last_text why) log log' log'' stops.wrote (omega (arith, enough))
-      (upheld_wider (AreReplies (SaidFirst Says asks) s.history) (AreAnswers asks s.history) (moment d) (images_since d) s'.history (answers_alone asks s.history) held log log' up) notes
+      (upheld_wider (AreReplies (SaidFirst Says asks) s.history) (AreAnswers asks s.history) (view d) s'.history (answers_alone asks s.history) held log log' up) notes
 
 -- ---- one run after another
 
-module _ {D : Type 0} (images : D → List ℕ → Type 0) (moment : D → ℕ) (images_since : D → ℕ → List ℕ → Type 0) (mid new : D) (n : ℕ) (s t t' : Stand) (pending : List Accepted)
-    (disk : OnDisk images moment images_since mid new t.history t'.history pending) (held held' : Option (List ℕ)) (wrote : List ℕ) (appends : Appends held held' wrote) (log log' log'' : Option (List Stamp)) where
+module _ {D : Type 0} (view : D → View) (mid new : D) (n : ℕ) (s t t' : Stand) (pending : List Accepted)
+    (disk : OnDisk view mid new t.history t'.history pending) (held held' : Option (List ℕ)) (wrote : List ℕ) (appends : Appends held held' wrote) (log log' log'' : Option (List Stamp)) where
   -- the requests of a piece after those of the bytes before it
   pub piece_upheld : (asks : List Ask) (taken rest piece : List ℕ) → AsksTo taken asks (Some rest) → IsAnswered n asks s t wrote
-      → Upholds (AreAnswersOf (AreInFront taken) s.history) (moment mid) (images_since mid) t.history held log log'
-      → Upholds (AreAnswersOf (AreRead (rest ++ piece)) t.history) (moment new) (images_since new) t'.history held' log' log''
-      → Upholds (AreAnswersOf (AreInFront (taken ++ piece)) s.history) (moment new) (images_since new) t'.history held log log''
+      → Upholds (AreAnswersOf (AreInFront taken) s.history) (view mid) t.history held log log'
+      → Upholds (AreAnswersOf (AreRead (rest ++ piece)) t.history) (view new) t'.history held' log' log''
+      → Upholds (AreAnswersOf (AreInFront (taken ++ piece)) s.history) (view new) t'.history held log log''
   piece_upheld asks taken rest piece asked first before after =
-      upheld_then (AreAnswersOf (AreInFront taken) s.history) (AreAnswersOf (AreRead (rest ++ piece)) t.history) (AreAnswersOf (AreInFront (taken ++ piece)) s.history) (moment new) (images_since new) t'.history wrote
+      upheld_then (AreAnswersOf (AreInFront taken) s.history) (AreAnswersOf (AreRead (rest ++ piece)) t.history) (AreAnswersOf (AreInFront (taken ++ piece)) s.history) (view new) t'.history wrote
       (answers_wider (AreInFront taken) (AreInFront (taken ++ piece)) (front_wider taken piece) s.history)
       (λ bytes commands x. answers_of n asks s t wrote taken rest piece bytes commands asked first x)
-      held held' log log' log'' appends (upheld_later images moment images_since mid new t.history t'.history pending disk (AreAnswersOf (AreInFront taken) s.history) held log log' before) after
+      held held' log log' log'' appends (upheld_later view mid new t.history t'.history pending disk (AreAnswersOf (AreInFront taken) s.history) held log log' before) after
 
 -- no request was read
-module _ {D : Type 0} (images : D → List ℕ → Type 0) (moment : D → ℕ) (images_since : D → ℕ → List ℕ → Type 0) (d : D) (only : (c : List ℕ) → images_since d (moment d) c → images d c) where
-  pub unread_upheld : (Known : List Ask → Type 0) → Known [] → (s : Stand) (held : Option (List ℕ)) (log log' : Option (List Stamp)) → OnDisk images moment images_since d d s.history s.history []
-      → ((x : List ℕ) → held ≡ Some x → Notes (moment d) (length x + length (last_text OutOfMemory)) log log') → Upholds (AreAnswersOf Known s.history) (moment d) (images_since d) s.history held log log'
+module _ {D : Type 0} (view : D → View) (d : D) (only : (c : List ℕ) → (view d).since (view d).moment c → (view d).images c) where
+  pub unread_upheld : (Known : List Ask → Type 0) → Known [] → (s : Stand) (held : Option (List ℕ)) (log log' : Option (List Stamp)) → OnDisk view d d s.history s.history []
+      → ((x : List ℕ) → held ≡ Some x → Notes (view d).moment (length x + length (last_text OutOfMemory)) log log') → Upholds (AreAnswersOf Known s.history) (view d) s.history held log log'
   unread_upheld Known known s held log log' disk notes =
-      upheld_wider (AreAnswers [] s.history) (AreAnswersOf Known s.history) (moment d) (images_since d) s.history (λ bytes commands x. record { asks = []; known = known; answers = x }) held log log'
-      (last_upheld images moment images_since d only d OutOfMemory 0 [] s s held held log log log'
+      upheld_wider (AreAnswers [] s.history) (AreAnswersOf Known s.history) (view d) s.history (λ bytes commands x. record { asks = []; known = known; answers = x }) held log log'
+      (last_upheld view d only d OutOfMemory 0 [] s s held held log log log'
       (record { pending = []; written = []; wrote = Appends-nil held; says_so = none_stopped [] s; disk = disk })
-      (upheld_none (AreReplies (SaidFirst Says []) s.history) (moment d) (images_since d) s.history held log) notes)
+      (upheld_none (AreReplies (SaidFirst Says []) s.history) (view d) s.history held log) notes)

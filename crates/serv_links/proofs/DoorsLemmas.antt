@@ -20,6 +20,7 @@ use Rattle.serv_links.specs.Outcomes.{AreInFront, AreAnswersOf, ComeFirst}
 use Rattle.serv_machine.proofs.StoppedLemmas.{nothing_begun}
 use Rattle.serv_links.specs.Links.{IsDiskEnd, Serves, number_in}
 use Rattle.serv_links.specs.Doors.{ServedLink, AreServed, AreTaken, AreBack, HasServed, NoDisk, IsSummary, ServesDoors, as_broken, as_cut, as_memory}
+use Rattle.serv_disk.specs.Disks.{View}
 
 -- ---- links that come and go
 
@@ -107,19 +108,19 @@ serves_later : (U V : (ℕ → List Accepted → Type 0) → Type 0) (e : LinkEn
 serves_later U V e reads writes left left' s s' pending added then is =
     record { taken = is.taken; took = is.took; within = is.within; read_on = is.read_on; says = is.says; acknowledged = then (AreAnswersOf (AreInFront is.taken) s.history) is.acknowledged }
 
-module _ {D C : Type 0} (images : D → List ℕ → Type 0) (moment : D → ℕ) (images_since : D → ℕ → List ℕ → Type 0) (left held : C → Option (List ℕ)) (log : C → Option (List Stamp)) (reads writes : C → ℕ) where
+module _ {D C : Type 0} (view : D → View) (left held : C → Option (List ℕ)) (log : C → Option (List Stamp)) (reads writes : C → ℕ) where
   -- a link that was served, where the disk is this one and the books stand so
   abbrev P : D → Stand → LinkEnd → C → C → Stand → Stand → List Accepted → Type 0
-  P d exit = ServedLink left held log reads writes (moment d) (images_since d) exit
+  P d exit = ServedLink left held log reads writes (view d) exit
 
   -- the disk's calls go on
-  module _ (mid new : D) (t u : Stand) (pending : List Accepted) (disk : OnDisk images moment images_since mid new t.history u.history pending) where
+  module _ (mid new : D) (t u : Stand) (pending : List Accepted) (disk : OnDisk view mid new t.history u.history pending) where
     link_later : (e : LinkEnd) (x y : C) (s s' : Stand) (p : List Accepted) → P mid t e x y s s' p → P new u e x y s s' p
     link_later e x y s s' p is = record {
       added = is.added;
       appends = is.appends;
       serves = serves_later _ _ e _ _ (left x) (left y) s s' p is.added
-          (λ Covers up. upheld_later images moment images_since mid new t.history u.history pending disk Covers (held x) (log x) (log y) up) is.serves;
+          (λ Covers up. upheld_later view mid new t.history u.history pending disk Covers (held x) (log x) (log y) up) is.serves;
     }
 
     links_later : (ends : List LinkEnd) (came back : List C) (s s' : Stand) (p : List Accepted) → AreServed (P mid t) ends came back s s' p → AreServed (P new u) ends came back s s' p
@@ -138,9 +139,9 @@ module _ {D C : Type 0} (images : D → List ℕ → Type 0) (moment : D → ℕ
     pub calm : NoDisk ends
     pub counted : IsSummary ends summary
     pub count : length ends ≡ n
-    pub disk : OnDisk images moment images_since old new s.history s'.history []
+    pub disk : OnDisk view old new s.history s'.history []
 
-  pub along_none : (d : D) (summary : Summary) (coming backed : Option (List C)) (s : Stand) → IsSummary [] summary → OnDisk images moment images_since d d s.history s.history []
+  pub along_none : (d : D) (summary : Summary) (coming backed : Option (List C)) (s : Stand) → IsSummary [] summary → OnDisk view d d s.history s.history []
       → Along d d summary 0 coming coming backed backed s s
   along_none d summary coming backed s none disk = record {
     ends = [];
@@ -152,7 +153,7 @@ module _ {D C : Type 0} (images : D → List ℕ → Type 0) (moment : D → ℕ
   }
 
   module _ (old mid : D) (summary : Summary) (n : ℕ) (c0 c1 b0 b1 : Option (List C)) (s t : Stand) (along : Along old mid summary n c0 c1 b0 b1 s t) where
-    has_more : (new : D) (c2 c3 b2 b3 : Option (List C)) (e : LinkEnd) (x y : C) (s' : Stand) (pending : List Accepted) → OnDisk images moment images_since mid new t.history s'.history pending
+    has_more : (new : D) (c2 c3 b2 b3 : Option (List C)) (e : LinkEnd) (x y : C) (s' : Stand) (pending : List Accepted) → OnDisk view mid new t.history s'.history pending
         → IsNext c1 c2 (Some x) → c3 ≡ c2 → b2 ≡ b1 → IsBack b2 b3 y → P new s' e x y t s' pending → HasServed (P new s') c0 c3 b0 b3 (along.ends ++ e ∷ []) s s' pending
     has_more new c2 c3 b2 b3 e x y s' pending disk next stays kept back one = record {
       came = along.has.came ++ x ∷ [];
@@ -165,11 +166,11 @@ module _ {D C : Type 0} (images : D → List ℕ → Type 0) (moment : D → ℕ
 
     module _ (new : D) (summary' : Summary) (c2 c3 b2 b3 : Option (List C)) (e : LinkEnd) (x y : C) (s' : Stand)
         (next : IsNext c1 c2 (Some x)) (stays : c3 ≡ c2) (kept : b2 ≡ b1) (back : IsBack b2 b3 y)
-        (link : Writes images moment images_since mid new (Serves e (HasRisen (reads x) (reads y)) (HasRisen (writes x) (writes y))
-        (λ covers. Upholds covers (moment new) (images_since new) s'.history (held x) (log x) (log y)) (left x) (left y) t s') t.history s'.history (held x) (held y))
+        (link : Writes view mid new (Serves e (HasRisen (reads x) (reads y)) (HasRisen (writes x) (writes y))
+        (λ covers. Upholds covers (view new) s'.history (held x) (log x) (log y)) (left x) (left y) t s') t.history s'.history (held x) (held y))
         (counted : IsSummary (along.ends ++ e ∷ []) summary') where
-      disk_on : OnDisk images moment images_since old new s.history s'.history link.pending
-      disk_on = disk_more images moment images_since old mid new s.history t.history s'.history link.pending along.disk link.disk
+      disk_on : OnDisk view old new s.history s'.history link.pending
+      disk_on = disk_more view old mid new s.history t.history s'.history link.pending along.disk link.disk
 
       has_on : HasServed (P new s') c0 c3 b0 b3 (along.ends ++ e ∷ []) s s' link.pending
       has_on = has_more new c2 c3 b2 b3 e x y s' link.pending link.disk next stays kept back (record { added = link.written; appends = link.wrote; serves = link.says_so })
@@ -186,10 +187,10 @@ module _ {D C : Type 0} (images : D → List ℕ → Type 0) (moment : D → ℕ
             calm = calm_more along.ends e along.calm calm;
             counted = counted;
             count = long;
-            disk = subst (λ p. OnDisk images moment images_since old new s.history s'.history p) none disk_on;
+            disk = subst (λ p. OnDisk view old new s.history s'.history p) none disk_on;
           }
 
-      pub along_stops : (most : ℕ) → n < most → IsDiskEnd e → ServesDoors images moment images_since old new (P new) doors_end.DiskFault summary' most c0 c3 b0 b3 s s'
+      pub along_stops : (most : ℕ) → n < most → IsDiskEnd e → ServesDoors view old new (P new) doors_end.DiskFault summary' most c0 c3 b0 b3 s s'
       along_stops most below failed = record {
         ends = along.ends ++ e ∷ [];
         pending = link.pending;

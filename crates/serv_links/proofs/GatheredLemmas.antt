@@ -16,6 +16,7 @@ use Rattle.serv_machine.proofs.SayingLemmas.{say-push, said_all, said_more}
 use Rattle.serv_links.specs.Meanings.{Says}
 use Rattle.serv_links.specs.Outcomes.{AreGathered, ComeFirst, IsAnswered}
 use Rattle.serv_links.proofs.RoundLemmas.{all_stopped, come_then}
+use Rattle.serv_disk.specs.Disks.{View}
 
 -- where neither a write nor the disk failed, no memory was there
 pub for_memory : (why : Stop) → (why ≡ WriteFault → ⊥) → (why ≡ DiskFault → ⊥) → why ≡ OutOfMemory
@@ -28,9 +29,9 @@ no_length [] few = refl
 no_length (x ∷ text) few = absurd (omega (arith, few))
 
 -- of more requests they are upheld too
-pub first_upheld : (asks more : List Ask) (moment : ℕ) (since : ℕ → List ℕ → Type 0) (now h : History) (held : Option (List ℕ)) (log log' : Option (List Stamp)) → Upholds (AreReplies (SaidFirst Says asks) h) moment since now held log log'
-    → Upholds (AreReplies (SaidFirst Says (asks ++ more)) h) moment since now held log log'
-first_upheld asks more moment since now h held log log' up = replies_wider (SaidFirst Says asks) (SaidFirst Says (asks ++ more)) moment since now h held log log' (λ done. first_more Says asks more done []) up
+pub first_upheld : (asks more : List Ask) (view : View) (now h : History) (held : Option (List ℕ)) (log log' : Option (List Stamp)) → Upholds (AreReplies (SaidFirst Says asks) h) view now held log log'
+    → Upholds (AreReplies (SaidFirst Says (asks ++ more)) h) view now held log log'
+first_upheld asks more view now h held log log' up = replies_wider (SaidFirst Says asks) (SaidFirst Says (asks ++ more)) view now h held log log' (λ done. first_more Says asks more done []) up
 
 -- none yet
 pub none_gathered : (n : ℕ) (s : Stand) (t : Running) (held : Option (List ℕ)) (text : List ℕ) → n ≡ 0 → text ≡ [] → t.held ≡ s.history → t.kept ≡ t.held → t.steps ≤ s.steps → AreGathered n [] s t held held text
@@ -57,10 +58,10 @@ module _ (n : ℕ) (asks : List Ask) (s : Stand) (t : Running) (held held' : Opt
 
   -- ---- it stops
 
-  module _ {D : Type 0} (images : D → List ℕ → Type 0) (moment : D → ℕ) (images_since : D → ℕ → List ℕ → Type 0) (new : D) (why : Stop) (h h' : History) (s' : Stand) (held'' : Option (List ℕ)) where
+  module _ {D : Type 0} (view : D → View) (new : D) (why : Stop) (h h' : History) (s' : Stand) (held'' : Option (List ℕ)) where
     -- at the last of them
-    pub last_stops : (old : D) (m : ℕ) → m ≡ n - 1 → (why ≡ OutOfMemory → ⊥) → Told (λ saids. Writes images moment images_since old new (IsStopped why (λ done ahead. saids ≡ done ++ ahead) 0 s s') h h' held held'')
-        → Writes images moment images_since old new (IsStopped why (ComeFirst m asks) 0 s s') h h' held held''
+    pub last_stops : (old : D) (m : ℕ) → m ≡ n - 1 → (why ≡ OutOfMemory → ⊥) → Told (λ saids. Writes view old new (IsStopped why (λ done ahead. saids ≡ done ++ ahead) 0 s s') h h' held held'')
+        → Writes view old new (IsStopped why (ComeFirst m asks) 0 s s') h h' held held''
     last_stops old m count memory call =
         let stops = call are.saids are.gathered in
         record {
@@ -72,13 +73,13 @@ module _ (n : ℕ) (asks : List Ask) (s : Stand) (t : Running) (held held' : Opt
         }
 
     -- at one more, which has no response
-    pub one_stops : (old mid : D) (h1 : History) (a : Ask) (said : Saying) → Says a said → OnDisk images moment images_since old mid h h1 []
-        → Told (λ saids. Writes images moment images_since mid new (IsStopped why (λ done ahead. (done ≡ saids) × (ahead ≡ said ∷ [])) 0 s s') h1 h' held held'')
-        → Writes images moment images_since old new (IsStopped why (ComeFirst n (asks ++ a ∷ [])) 0 s s') h h' held held''
+    pub one_stops : (old mid : D) (h1 : History) (a : Ask) (said : Saying) → Says a said → OnDisk view old mid h h1 []
+        → Told (λ saids. Writes view mid new (IsStopped why (λ done ahead. (done ≡ saids) × (ahead ≡ said ∷ [])) 0 s s') h1 h' held held'')
+        → Writes view old new (IsStopped why (ComeFirst n (asks ++ a ∷ [])) 0 s s') h h' held held''
     one_stops old mid h1 a said says run call =
         stops_after (λ done ahead. (done ≡ are.saids) × (ahead ≡ said ∷ [])) (ComeFirst n (asks ++ a ∷ []))
         (λ done ahead these. subst (λ l. ComeFirst n (asks ++ a ∷ []) l ahead) (sym these.0) (subst (λ l. ComeFirst n (asks ++ a ∷ []) are.saids l) (sym these.1) first)) 0 s s'
-        images moment images_since old mid new why h h1 h' held held'' run (call are.saids are.gathered)
+        view old mid new why h h1 h' held held'' run (call are.saids are.gathered)
       where
         first : ComeFirst n (asks ++ a ∷ []) are.saids (said ∷ [])
         first = come_then n asks (a ∷ []) are.saids (said ∷ []) are.say are.count (said_all Says (asks ++ a ∷ []) (are.saids ++ said ∷ []) (say-push Says asks are.saids a said are.say says))
@@ -107,8 +108,8 @@ module _ (n : ℕ) (asks : List Ask) (s : Stand) (t : Running) (held held' : Opt
       few = omega arith;
     }
 
-    module _ {D : Type 0} (images : D → List ℕ → Type 0) (moment : D → ℕ) (images_since : D → ℕ → List ℕ → Type 0) (old new : D) (h : History) (disk : OnDisk images moment images_since old new h t.kept []) where
-      pub all_answered : Writes images moment images_since old new (λ pending w. (pending ≡ []) × IsAnswered n asks s (stand t.kept t.steps) w) h t.kept held held'
+    module _ {D : Type 0} (view : D → View) (old new : D) (h : History) (disk : OnDisk view old new h t.kept []) where
+      pub all_answered : Writes view old new (λ pending w. (pending ≡ []) × IsAnswered n asks s (stand t.kept t.steps) w) h t.kept held held'
       all_answered = record {
         pending = [];
         written = are.gathered.written;
@@ -117,40 +118,40 @@ module _ (n : ℕ) (asks : List Ask) (s : Stand) (t : Running) (held held' : Opt
         disk = disk;
       }
 
-      pub unread_stops : (a : Ask) → Writes images moment images_since old new (IsStopped OutOfMemory (ComeFirst n (asks ++ a ∷ [])) 0 s (stand t.kept t.steps)) h t.kept held held'
+      pub unread_stops : (a : Ask) → Writes view old new (IsStopped OutOfMemory (ComeFirst n (asks ++ a ∷ [])) 0 s (stand t.kept t.steps)) h t.kept held held'
       unread_stops a = record { pending = []; written = are.gathered.written; wrote = are.gathered.wrote; says_so = unread_stopped a; disk = disk }
 
   -- ---- the writes of a call
 
   module _ (now h : History) (log log' : Option (List Stamp)) where
     -- those of all requests so far
-    pub told_upheld : (moment : ℕ) (since : ℕ → List ℕ → Type 0) → Told (λ saids. Upholds (AreReplies (λ all. all ≡ saids) h) moment since now held log log') → Upholds (AreReplies (SaidFirst Says asks) h) moment since now held log log'
-    told_upheld moment since call =
-        replies_wider (λ all. all ≡ are.saids) (SaidFirst Says asks) moment since now h held log log'
+    pub told_upheld : (view : View) → Told (λ saids. Upholds (AreReplies (λ all. all ≡ saids) h) view now held log log') → Upholds (AreReplies (SaidFirst Says asks) h) view now held log log'
+    told_upheld view call =
+        replies_wider (λ all. all ≡ are.saids) (SaidFirst Says asks) view now h held log log'
         (λ done. first_said Says asks asks [] are.saids (sym (append-nil asks)) are.say done []) (call are.saids are.gathered)
 
-  module _ {D : Type 0} (images : D → List ℕ → Type 0) (moment : D → ℕ) (images_since : D → ℕ → List ℕ → Type 0) (old new : D) (now now' h : History) (log log' log'' : Option (List Stamp)) where
+  module _ {D : Type 0} (view : D → View) (old new : D) (now now' h : History) (log log' log'' : Option (List Stamp)) where
     -- what was upheld of them, and those of a call that was told of one more
-    pub more_upheld : (more : List Ask) → Told (λ saids. (pending : List Accepted) × OnDisk images moment images_since old new now now' pending)
-        → Upholds (AreReplies (SaidFirst Says asks) h) (moment old) (images_since old) now held log log' → Told (λ saids. Upholds (AreReplies (λ all. all ≡ saids) h) (moment new) (images_since new) now' held log' log'')
-        → Upholds (AreReplies (SaidFirst Says (asks ++ more)) h) (moment new) (images_since new) now' held log log''
+    pub more_upheld : (more : List Ask) → Told (λ saids. (pending : List Accepted) × OnDisk view old new now now' pending)
+        → Upholds (AreReplies (SaidFirst Says asks) h) (view old) now held log log' → Told (λ saids. Upholds (AreReplies (λ all. all ≡ saids) h) (view new) now' held log' log'')
+        → Upholds (AreReplies (SaidFirst Says (asks ++ more)) h) (view new) now' held log log''
     more_upheld more run before call =
         let disk = run are.saids are.gathered in
-        upheld_call images moment images_since old new now now' disk.0 disk.1 (λ all. all ≡ are.saids) (SaidFirst Says (asks ++ more)) h held log log' log''
+        upheld_call view old new now now' disk.0 disk.1 (λ all. all ≡ are.saids) (SaidFirst Says (asks ++ more)) h held log log' log''
         (λ done. first_said Says (asks ++ more) asks more are.saids refl are.say done [])
-        (first_upheld asks more (moment old) (images_since old) now h held log log' before) (call are.saids are.gathered)
+        (first_upheld asks more (view old) now h held log log' before) (call are.saids are.gathered)
 
 -- what was upheld before a call, and the writes of a call that was told of the first of some requests
-module _ {D : Type 0} (images : D → List ℕ → Type 0) (moment : D → ℕ) (images_since : D → ℕ → List ℕ → Type 0) (old new : D) (asks first more : List Ask) (parts : asks ≡ first ++ more) (now now' h : History) (held : Option (List ℕ)) (log log' log'' : Option (List Stamp)) where
-  pub call_upheld : (pending : List Accepted) → OnDisk images moment images_since old new now now' pending
-      → Upholds (AreReplies (SaidFirst Says asks) h) (moment old) (images_since old) now held log log' → Upholds (AreReplies (SaidFirst Says first) h) (moment new) (images_since new) now' held log' log''
-      → Upholds (AreReplies (SaidFirst Says asks) h) (moment new) (images_since new) now' held log log''
+module _ {D : Type 0} (view : D → View) (old new : D) (asks first more : List Ask) (parts : asks ≡ first ++ more) (now now' h : History) (held : Option (List ℕ)) (log log' log'' : Option (List Stamp)) where
+  pub call_upheld : (pending : List Accepted) → OnDisk view old new now now' pending
+      → Upholds (AreReplies (SaidFirst Says asks) h) (view old) now held log log' → Upholds (AreReplies (SaidFirst Says first) h) (view new) now' held log' log''
+      → Upholds (AreReplies (SaidFirst Says asks) h) (view new) now' held log log''
   call_upheld pending disk before after =
-      upheld_call images moment images_since old new now now' pending disk (SaidFirst Says first) (SaidFirst Says asks) h held log log' log''
+      upheld_call view old new now now' pending disk (SaidFirst Says first) (SaidFirst Says asks) h held log log' log''
       (λ done x. subst (λ l. AreFirst (SaidFirst Says l) done []) (sym parts) (first_more Says first more done [] x)) before after
 
   -- also one that stopped
-  pub stop_upheld : (why : Stop) (n : ℕ) (s s' : Stand) (held' : Option (List ℕ)) → Writes images moment images_since old new (IsStopped why (ComeFirst n first) 0 s s') now now' held held'
-      → Upholds (AreReplies (SaidFirst Says asks) h) (moment old) (images_since old) now held log log' → Upholds (AreReplies (SaidFirst Says first) h) (moment new) (images_since new) now' held log' log''
-      → Upholds (AreReplies (SaidFirst Says asks) h) (moment new) (images_since new) now' held log log''
+  pub stop_upheld : (why : Stop) (n : ℕ) (s s' : Stand) (held' : Option (List ℕ)) → Writes view old new (IsStopped why (ComeFirst n first) 0 s s') now now' held held'
+      → Upholds (AreReplies (SaidFirst Says asks) h) (view old) now held log log' → Upholds (AreReplies (SaidFirst Says first) h) (view new) now' held log' log''
+      → Upholds (AreReplies (SaidFirst Says asks) h) (view new) now' held log log''
   stop_upheld why n s s' held' stops before after = call_upheld stops.pending stops.disk before after

@@ -26,6 +26,7 @@ use Rattle.serv_links.proofs.AnsweredLemmas.{asks_none, front_none, front_grows,
 use Rattle.serv_links.specs.Links.{IsAll, IsReadOn, IsServed, Serves, link_limit, read_limit}
 use Rattle.serv_links.proofs.RoundLemmas.{answered_none, answered_more, ended_more, cut_off_weaker, unread_ended}
 use Rattle.serv_machine.proofs.GatheredLemmas.{writes_as, writes_more}
+use Rattle.serv_disk.specs.Disks.{View}
 
 -- all requests of the bytes taken are answered, and the connection stands for what is left of them; and of what so many bytes
 -- answer, which writes are upheld
@@ -209,25 +210,25 @@ module _ (U : (ℕ → List Accepted → Type 0) → Type 0) (left left' : Optio
 
 -- ---- with what is written to the link and left on a disk
 
-module _ {D : Type 0} (images : D → List ℕ → Type 0) (moment : D → ℕ) (images_since : D → ℕ → List ℕ → Type 0) where
+module _ {D : Type 0} (view : D → View) where
   -- no memory was there for the connection
-  pub starved_at_once : (d : D) → ((c : List ℕ) → images_since d (moment d) c → images d c) → (reads writes : Type 0) (left left' held held' : Option (List ℕ)) (log log' : Option (List Stamp)) (s : Stand) → left' ≡ left
-      → AppendsFront writes held held' (last_text stop.OutOfMemory) → ((x : List ℕ) → held ≡ Some x → Notes (moment d) (length x + length (last_text stop.OutOfMemory)) log log') → OnDisk images moment images_since d d s.history s.history []
-      → Writes images moment images_since d d (Serves (link_end.NoMemory 0) reads writes (λ covers. Upholds covers (moment d) (images_since d) s.history held log log') left left' s s) s.history s.history held held'
+  pub starved_at_once : (d : D) → ((c : List ℕ) → (view d).since (view d).moment c → (view d).images c) → (reads writes : Type 0) (left left' held held' : Option (List ℕ)) (log log' : Option (List Stamp)) (s : Stand) → left' ≡ left
+      → AppendsFront writes held held' (last_text stop.OutOfMemory) → ((x : List ℕ) → held ≡ Some x → Notes (view d).moment (length x + length (last_text stop.OutOfMemory)) log log') → OnDisk view d d s.history s.history []
+      → Writes view d d (Serves (link_end.NoMemory 0) reads writes (λ covers. Upholds covers (view d) s.history held log log') left left' s s) s.history s.history held held'
   starved_at_once d only reads writes left left' held held' log log' s same front notes disk =
-      writes_as images moment images_since d d _ _ _ _ held held'
+      writes_as view d d _ _ _ _ held held'
       (λ pending w cut. record {
         taken = [];
         took = subst (λ l. Consumes left l []) (sym same) (Consumes-nil left);
         within = omega arith;
         read_on = record { before = []; piece = []; parted = refl; few = omega arith; asks = []; going = []; asked = asks_none };
         says = cut;
-        acknowledged = unread_upheld images moment images_since d only (AreInFront []) front_none s held log log' disk notes;
+        acknowledged = unread_upheld view d only (AreInFront []) front_none s held log log' disk notes;
       })
-      (unread_ended images moment images_since (AreInFront []) front_none writes d s held held' front disk)
+      (unread_ended view (AreInFront []) front_none writes d s held held' front disk)
 
-  pub going_none : (d : D) (left held : Option (List ℕ)) (log : Option (List Stamp)) (c : Conn) (s : Stand) → StandsFor c [] → OnDisk images moment images_since d d s.history s.history []
-      → Writes images moment images_since d d (Going (λ covers. Upholds covers (moment d) (images_since d) s.history held log log) left left c 0 0 s s) s.history s.history held held
+  pub going_none : (d : D) (left held : Option (List ℕ)) (log : Option (List Stamp)) (c : Conn) (s : Stand) → StandsFor c [] → OnDisk view d d s.history s.history []
+      → Writes view d d (Going (λ covers. Upholds covers (view d) s.history held log log) left left c 0 0 s s) s.history s.history held held
   going_none d left held log c s stands disk = record {
     pending = [];
     written = [];
@@ -242,14 +243,14 @@ module _ {D : Type 0} (images : D → List ℕ → Type 0) (moment : D → ℕ) 
       asked = asks_none;
       stands = stands;
       answered = answered_none s s refl (omega arith);
-      acknowledged = upheld_none (AreAnswersOf (AreInFront []) s.history) (moment d) (images_since d) s.history held log;
+      acknowledged = upheld_none (AreAnswersOf (AreInFront []) s.history) (view d) s.history held log;
     };
     disk = disk;
   }
 
   -- it stays as it is but for what is held, which is the same
   abbrev Run : (old new : D) (says : List Accepted → List ℕ → Type 0) (s s' : Stand) (held held' : Option (List ℕ)) → Type 0
-  Run old new says s s' held held' = Writes images moment images_since old new says s.history s'.history held held'
+  Run old new says s s' held held' = Writes view old new says s.history s'.history held held'
 
   held_same : (old new : D) (P : List Accepted → List ℕ → Type 0) (s s' : Stand) (held held' held'' : Option (List ℕ)) → held'' ≡ held' → Run old new P s s' held held' → Run old new P s s' held held''
   held_same old new P s s' held held' held'' same w = subst (λ h. Run old new P s s' held h) (sym same) w
@@ -260,43 +261,43 @@ module _ {D : Type 0} (images : D → List ℕ → Type 0) (moment : D → ℕ) 
     pub run_ends : Consumes left' left'' [] → IsAtEnd left'' → Run old mid (Serves (link_end.Ended n) reads writes (U log') left left'' s t) s t held held''
     run_ends took end = subst (λ l. Run old mid (Serves (link_end.Ended n) reads writes (U l) left left'' s t) s t held held'') (sym unnoted)
         (held_same old mid _ s t held held' held'' same
-        (writes_as images moment images_since old mid _ _ _ _ held held' (λ p w g. ended_at_end (U log) left left' c n taken s t p w reads writes g left'' below took end) run))
+        (writes_as view old mid _ _ _ _ held held' (λ p w g. ended_at_end (U log) left left' c n taken s t p w reads writes g left'' below took end) run))
 
     pub run_breaks : left'' ≡ left' → reads → Run old mid (Serves (link_end.Broken n) reads writes (U log') left left'' s t) s t held held''
     run_breaks unread risen = subst (λ l. Run old mid (Serves (link_end.Broken n) reads writes (U l) left left'' s t) s t held held'') (sym unnoted)
         (held_same old mid _ s t held held' held'' same
-        (writes_as images moment images_since old mid _ _ _ _ held held' (λ p w g. broken_at_read (U log) left left' c n taken s t p w reads writes g left'' below unread risen) run))
+        (writes_as view old mid _ _ _ _ held held' (λ p w g. broken_at_read (U log) left left' c n taken s t p w reads writes g left'' below unread risen) run))
 
   -- a piece of a link was read, and then served
   module _ (old mid new : D) (left left' left'' left''' held held' held'' held''' : Option (List ℕ)) (c c' : Conn) (n taken : ℕ) (s t t' : Stand)
       (log log' log'' log''' : Option (List Stamp)) (unnoted : log'' ≡ log')
-      (run : Run old mid (Going (λ covers. Upholds covers (moment mid) (images_since mid) t.history held log log') left left' c n taken s t) s t held held') (same : held'' ≡ held')
+      (run : Run old mid (Going (λ covers. Upholds covers (view mid) t.history held log log') left left' c n taken s t) s t held held') (same : held'' ≡ held')
       (piece : List ℕ) (count : ℕ) (long : length piece ≡ count) (few : count ≤ read_limit) (took : Consumes left' left'' piece) (stays : left''' ≡ left'')
       (cut : Type 0) (o : Result (Unit {0}) Stop) (m : ℕ) (served : (r : List ℕ) → StandsFor c r → Run mid new (IsPiece cut o m (r ++ piece) c' t t') t t' held'' held''')
-      (upheld : (r : List ℕ) → StandsFor c r → Upholds (AreAnswersOf (AreRead (r ++ piece)) t.history) (moment new) (images_since new) t'.history held'' log'' log''') where
+      (upheld : (r : List ℕ) → StandsFor c r → Upholds (AreAnswersOf (AreRead (r ++ piece)) t.history) (view new) t'.history held'' log'' log''') where
     abbrev V : (ℕ → List Accepted → Type 0) → Type 0
-    V covers = Upholds covers (moment new) (images_since new) t'.history held log log'''
+    V covers = Upholds covers (view new) t'.history held log log'''
 
     -- what was answered of the bytes before it, and of it
     up : V (AreAnswersOf (AreInFront (run.says_so.bytes ++ piece)) s.history)
     up =
         let g = run.says_so in
-        let later : Upholds (AreAnswersOf (AreRead (g.rest ++ piece)) t.history) (moment new) (images_since new) t'.history held' log' log''' =
-        subst (λ l. Upholds (AreAnswersOf (AreRead (g.rest ++ piece)) t.history) (moment new) (images_since new) t'.history held' l log''') unnoted
-        (subst (λ h. Upholds (AreAnswersOf (AreRead (g.rest ++ piece)) t.history) (moment new) (images_since new) t'.history h log'' log''') same (upheld g.rest g.stands)) in
+        let later : Upholds (AreAnswersOf (AreRead (g.rest ++ piece)) t.history) (view new) t'.history held' log' log''' =
+        subst (λ l. Upholds (AreAnswersOf (AreRead (g.rest ++ piece)) t.history) (view new) t'.history held' l log''') unnoted
+        (subst (λ h. Upholds (AreAnswersOf (AreRead (g.rest ++ piece)) t.history) (view new) t'.history h log'' log''') same (upheld g.rest g.stands)) in
         let second = served g.rest g.stands in
-        piece_upheld images moment images_since mid new n s t t' second.pending second.disk held held' run.written run.wrote log log' log''' g.asks g.bytes g.rest piece g.asked g.answered g.acknowledged later
+        piece_upheld view mid new n s t t' second.pending second.disk held held' run.written run.wrote log log' log''' g.asks g.bytes g.rest piece g.asked g.answered g.acknowledged later
 
     joined : (R : List Accepted → List ℕ → Type 0)
         → ((p : List Accepted) (w : List ℕ) → IsPiece cut o m (run.says_so.rest ++ piece) c' t t' p w → R p (run.written ++ w)) → Run old new R s t' held held'''
     joined R then =
         let second : Run mid new (IsPiece cut o m (run.says_so.rest ++ piece) c' t t') t t' held' held''' =
         subst (λ h. Run mid new (IsPiece cut o m (run.says_so.rest ++ piece) c' t t') t t' h held''') same (served run.says_so.rest run.says_so.stands) in
-        writes_more images moment images_since old mid new _ _ R _ _ _ held held' held''' run run.says_so.nothing second
+        writes_more view old mid new _ _ R _ _ _ held held' held''' run run.says_so.nothing second
         (then second.pending second.written second.says_so)
 
     pub run_passes : o ≡ Ok tt → Run old new (Passed V left left''' c' (n + m) (taken + count) s t') s t' held held'''
-    run_passes is = joined _ (λ p w x. passed_more (λ covers. Upholds covers (moment mid) (images_since mid) t.history held log log') V left left' c n taken s t run.pending run.written run.says_so left'' left''' piece count long few took stays cut up m c' t' p w
+    run_passes is = joined _ (λ p w x. passed_more (λ covers. Upholds covers (view mid) t.history held log log') V left left' c n taken s t run.pending run.written run.says_so left'' left''' piece count long few took stays cut up m c' t' p w
         (subst (λ q. IsPiece cut q m (run.says_so.rest ++ piece) c' t t' p w) is x))
 
     module _ (within : taken + count ≤ link_limit) (reads writes : Type 0) (then : cut → writes) where
@@ -305,10 +306,10 @@ module _ {D : Type 0} (images : D → List ℕ → Type 0) (moment : D → ℕ) 
           → ((p : List Accepted) (w : List ℕ) → IsCutOff (AreInFront (run.says_so.bytes ++ piece)) writes why (n + m) s t' p w → IsServed end reads writes (IsAtEnd left''') (run.says_so.bytes ++ piece) s t' p w)
           → Run old new (Serves end reads writes V left left''' s t') s t' held held'''
       stops why end is says = joined _ (λ p w x.
-          stopped_more (λ covers. Upholds covers (moment mid) (images_since mid) t.history held log log') V left left' c n taken s t run.pending run.written run.says_so left'' left''' piece count long few took stays writes up within reads end t' p
+          stopped_more (λ covers. Upholds covers (view mid) t.history held log log') V left left' c n taken s t run.pending run.written run.says_so left'' left''' piece count long few took stays writes up within reads end t' p
           (run.written ++ w)
           (says p (run.written ++ w)
-          (cut_off_more (λ covers. Upholds covers (moment mid) (images_since mid) t.history held log log') V left left' c n taken s t run.pending run.written run.says_so left'' left''' piece count long few took stays writes up why m t' p w
+          (cut_off_more (λ covers. Upholds covers (view mid) t.history held log log') V left left' c n taken s t run.pending run.written run.says_so left'' left''' piece count long few took stays writes up why m t' p w
           (cut_off_weaker (AreRead (run.says_so.rest ++ piece)) cut writes why m t t' p w then (subst (λ q. IsPiece cut q m (run.says_so.rest ++ piece) c' t t' p w) is x)))))
 
       pub run_broken : o ≡ Err stop.WriteFault → writes → Run old new (Serves (link_end.Broken (n + m)) reads writes V left left''' s t') s t' held held'''
@@ -323,10 +324,10 @@ module _ {D : Type 0} (images : D → List ℕ → Type 0) (moment : D → ℕ) 
   -- after a piece that was answered
   module _ (old new : D) (U : (ℕ → List Accepted → Type 0) → Type 0) (left left' held held' : Option (List ℕ)) (c : Conn) (n taken : ℕ) (s t : Stand) (run : Run old new (Passed U left left' c n taken s t) s t held held') where
     pub run_cut : (reads writes : Type 0) → taken ≡ link_limit → Run old new (Serves (link_end.Cut n) reads writes U left left' s t) s t held held'
-    run_cut reads writes full = writes_as images moment images_since old new _ _ _ _ held held' (λ p w g. cut_at_limit U left left' c n taken s t p w reads writes g full) run
+    run_cut reads writes full = writes_as view old new _ _ _ _ held held' (λ p w g. cut_at_limit U left left' c n taken s t p w reads writes g full) run
 
     pub run_over : (reads writes : Type 0) → taken < link_limit → ((r : List ℕ) → StandsFor c r → ⊥) → Run old new (Serves (link_end.Ended n) reads writes U left left' s t) s t held held'
-    run_over reads writes below none = writes_as images moment images_since old new _ _ _ _ held held' (λ p w g. ended_at_request U left left' c n taken s t p w reads writes g below none) run
+    run_over reads writes below none = writes_as view old new _ _ _ _ held held' (λ p w g. ended_at_request U left left' c n taken s t p w reads writes g below none) run
 
     pub run_goes : is_over c ≡ false → Run old new (Going U left left' c n taken s t) s t held held'
-    run_goes going = writes_as images moment images_since old new _ _ _ _ held held' (λ p w g. going_on U left left' c n taken s t p w ⊥ ⊥ g going) run
+    run_goes going = writes_as view old new _ _ _ _ held held' (λ p w g. going_on U left left' c n taken s t p w ⊥ ⊥ g going) run

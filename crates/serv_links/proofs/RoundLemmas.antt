@@ -22,6 +22,7 @@ use Rattle.serv_machine.proofs.GatheredLemmas.{stops_after}
 use Rattle.serv_machine.proofs.StoppedLemmas.{stopped_at, stopped_after}
 use Rattle.serv_links.specs.Meanings.{Says, last_text}
 use Rattle.serv_links.specs.Outcomes.{IsFront, AppendsFront, IsAnswered, ComeFirst, IsEnded, IsRound, IsCutOff, IsPiece}
+use Rattle.serv_disk.specs.Disks.{View}
 
 -- ---- which of them come first
 
@@ -143,19 +144,19 @@ risen_last old mid new before after (inr full) = elim (cases_lt old mid) [ inl l
 
 -- ---- with what is left on a disk
 
-module _ {D : Type 0} (images : D → List ℕ → Type 0) (moment : D → ℕ) (images_since : D → ℕ → List ℕ → Type 0) where
+module _ {D : Type 0} (view : D → View) where
   -- it stopped within the first of some requests
   pub front_stops : (why : Stop) (old mid new : D) (n : ℕ) (asks first more : List Ask) (s s' : Stand) (h h1 h2 : History) (held held' : Option (List ℕ)) → asks ≡ first ++ more
-      → OnDisk images moment images_since old mid h h1 [] → Writes images moment images_since mid new (IsStopped why (ComeFirst n first) 0 s s') h1 h2 held held'
-      → Writes images moment images_since old new (IsStopped why (ComeFirst n asks) 0 s s') h h2 held held'
+      → OnDisk view old mid h h1 [] → Writes view mid new (IsStopped why (ComeFirst n first) 0 s s') h1 h2 held held'
+      → Writes view old new (IsStopped why (ComeFirst n asks) 0 s s') h h2 held held'
   front_stops why old mid new n asks first more s s' h h1 h2 held held' is before stops =
       stops_after (ComeFirst n first) (ComeFirst n asks) (λ done ahead x. subst (λ l. ComeFirst n l done ahead) (sym is) (come_wider n first more done ahead x)) 0 s s'
-      images moment images_since old mid new why h h1 h2 held held' before stops
+      view old mid new why h h1 h2 held held' before stops
 
   -- and the last text is written, by a link that then holds so
   pub stops_ended : (cut : Type 0) (why : Stop) (old new : D) (n : ℕ) (asks : List Ask) (s s' : Stand) (h h' : History) (held held' held'' : Option (List ℕ))
-      (stops : Writes images moment images_since old new (IsStopped why (ComeFirst n asks) 0 s s') h h' held held') (f : AppendsFront cut held' held'' (last_text why))
-      → Writes images moment images_since old new (IsEnded cut why n asks s s') h h' held held''
+      (stops : Writes view old new (IsStopped why (ComeFirst n asks) 0 s s') h h' held held') (f : AppendsFront cut held' held'' (last_text why))
+      → Writes view old new (IsEnded cut why n asks s s') h h' held held''
   stops_ended cut why old new n asks s s' h h' held held' held'' stops f = record {
     pending = stops.pending;
     written = stops.written ++ f.part;
@@ -166,8 +167,8 @@ module _ {D : Type 0} (images : D → List ℕ → Type 0) (moment : D → ℕ) 
 
   -- no requests are read, for want of memory
   pub unread_ended : (Known : List Ask → Type 0) → Known [] → (cut : Type 0) (d : D) (s : Stand) (held held' : Option (List ℕ)) (f : AppendsFront cut held held' (last_text OutOfMemory))
-      → OnDisk images moment images_since d d s.history s.history []
-      → Writes images moment images_since d d (IsCutOff Known cut OutOfMemory 0 s s) s.history s.history held held'
+      → OnDisk view d d s.history s.history []
+      → Writes view d d (IsCutOff Known cut OutOfMemory 0 s s) s.history s.history held held'
   unread_ended Known known cut d s held held' f disk = record {
     pending = [];
     written = f.part;

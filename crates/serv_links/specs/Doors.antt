@@ -14,6 +14,7 @@ use Rattle.serv_links.specs.declared.link_end.LinkEnd.TheVariants as link_end
 use Rattle.serv_links.specs.declared.summary.Summary.{Summary}
 use Rattle.serv_machine.specs.History.{Stand}
 use Rattle.serv_links.specs.Links.{IsDiskEnd, Serves, number_in}
+use Rattle.serv_disk.specs.Disks.{View}
 
 -- what is said of a link: its end, how it came and how it was handed back, where the books stood before and after it,
 -- and the command that was being appended
@@ -23,16 +24,15 @@ OneServed C = LinkEnd → C → C → Stand → Stand → List Accepted → Type
 -- a link came so, was served to this end, and was handed back so; and where the books stand at the exit, what was answered
 -- of it is on the disk
 pub record ServedLink {C : Type 0} (left held : C → Option (List ℕ)) (log : C → Option (List Stamp)) (reads writes : C
-    → ℕ) (moment : ℕ) (since : ℕ → List ℕ → Type 0) (exit : Stand) (end : LinkEnd) (came back : C) (s s' : Stand) (pending : List Accepted) : Type 0 where
+    → ℕ) (view : View) (exit : Stand) (end : LinkEnd) (came back : C) (s s' : Stand) (pending : List Accepted) : Type 0 where
   pub added : List ℕ
   pub appends : Appends (held came) (held back) added
   pub serves : Serves end (HasRisen (reads came) (reads back)) (HasRisen (writes came) (writes back))
-      (λ covers. Upholds covers moment since exit.history (held came) (log came) (log back))
+      (λ covers. Upholds covers view exit.history (held came) (log came) (log back))
       (left came) (left back) s s' pending added
 
 -- each link in its turn, over the history that the one before it left
-abbrev pub AreServed : {C : Type 0}
-    → OneServed C → List LinkEnd → List C → List C → Stand → Stand → List Accepted → Type 0
+abbrev pub AreServed : {C : Type 0} → OneServed C → List LinkEnd → List C → List C → Stand → Stand → List Accepted → Type 0
 AreServed P [] [] [] s s' pending = (s' ≡ s) × (pending ≡ [])
 AreServed P (end ∷ ends) (x ∷ came) (y ∷ back) s s' pending =
     (t : Stand) × ((now : List Accepted) × ((later : List Accepted) × P end x y s t now
@@ -108,11 +108,11 @@ unfoldable pub text_of_summary : Summary → List ℕ
 text_of_summary s = ended (text_of_answered s ++ text_of_unanswered s)
 
 -- with what is left on a disk
-module _ {D : Type 0} (images : D → List ℕ → Type 0) (moment : D → ℕ) (images_since : D → ℕ → List ℕ → Type 0) (old new : D) where
+module _ {D : Type 0} (view : D → View) (old new : D) where
   pub record ServesDoors {C : Type 0} (P : Stand → OneServed C) (end : DoorsEnd) (summary : Summary) (most : ℕ) (coming coming' backed backed' : Option (List C)) (s s' : Stand) : Type 0 where
     pub ends : List LinkEnd
     pub pending : List Accepted
     pub has : HasServed (P s') coming coming' backed backed' ends s s' pending
     pub ended : IsDoorsEnd end most coming' ends
     pub counted : IsSummary ends summary
-    pub disk : OnDisk images moment images_since old new s.history s'.history pending
+    pub disk : OnDisk view old new s.history s'.history pending

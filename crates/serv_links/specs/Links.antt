@@ -40,8 +40,7 @@ pub record IsAll (n : ℕ) (taken added : List ℕ) (s s' : Stand) (left : Optio
 -- the end of a link whose count of read faults, or of write faults, has risen, and of which nothing is left to read:
 -- at Ended and Cut, and where a read failed, all requests are answered. A read that fails comes of a connection that goes
 -- on: after a response that ends it nothing more is read
-abbrev pub IsServed : LinkEnd
-    → Type 0 → Type 0 → Type 0 → List ℕ → Stand → Stand → List Accepted → List ℕ → Type 0
+abbrev pub IsServed : LinkEnd → Type 0 → Type 0 → Type 0 → List ℕ → Stand → Stand → List Accepted → List ℕ → Type 0
 IsServed (link_end.Ended n) reads writes at_end taken s s' pending added =
     (pending ≡ []) × (length taken < link_limit)
     × ((left : Option (List ℕ)) × IsAll n taken added s s' left × (at_end ⊎ (left ≡ None)))

@@ -39,16 +39,16 @@ fn answer_in_turn<D: Disk, M: Machine<D>, K: Sink, L: Ledger>(
     requires asks { All IsAsk asks.now }
     requires few { length asks.now < 2 ^ 32 }
     requires ready { M.ready machine.old disk.old }
-    ensures answered { OnOk result.outcome (Writes D.images D.moment D.images_since disk.old disk.new
+    ensures answered { OnOk result.outcome (Writes D.view disk.old disk.new
         (λ pending wrote. (pending ≡ []) × IsAnswered result.answered asks.now
         (stand (M.kept machine.old) steps.old) (stand (M.kept machine.new) steps.new) wrote)
         (M.kept machine.old) (M.kept machine.new) (K.held link.old) (K.held link.new)) }
-    ensures stops { IfErr result.outcome (λ why. Writes D.images D.moment D.images_since disk.old disk.new
+    ensures stops { IfErr result.outcome (λ why. Writes D.view disk.old disk.new
         (IsStopped why (ComeFirst result.answered asks.now) 0
         (stand (M.kept machine.old) steps.old) (stand (M.kept machine.new) steps.new))
         (M.kept machine.old) (M.kept machine.new) (K.held link.old) (K.held link.new)) }
-    ensures upheld { Upholds (AreReplies (SaidFirst Says asks.now) (M.kept machine.old)) (D.moment disk.new)
-        (D.images_since disk.new) (M.kept machine.new)
+    ensures upheld { Upholds (AreReplies (SaidFirst Says asks.now) (M.kept machine.old)) (D.view disk.new)
+        (M.kept machine.new)
         (K.held link.old) (K.log link.old) (K.log link.new) }
     ensures few { result.answered ≤ length asks.now }
     ensures ready { result.outcome ≢ Err Stop.DiskFault → M.ready machine.new disk.new }
@@ -93,13 +93,11 @@ fn answer_all<D: Disk, M: Machine<D>, K: Sink, L: Ledger>(
     requires asks { All IsAsk asks.now }
     requires few { length asks.now < 2 ^ 32 }
     requires ready { M.ready machine.old disk.old }
-    ensures round { Writes D.images D.moment D.images_since disk.old disk.new
+    ensures round { Writes D.view disk.old disk.new
         (IsRound (HasRisen (K.faults link.old) (K.faults link.new)) result.outcome result.answered asks.now
         (stand (M.kept machine.old) steps.old) (stand (M.kept machine.new) steps.new))
-        (M.kept machine.old) (M.kept machine.new)
-        (K.held link.old) (K.held link.new) }
-    ensures upheld { Upholds (AreAnswers asks.now (M.kept machine.old)) (D.moment disk.new)
-        (D.images_since disk.new) (M.kept machine.new)
+        (M.kept machine.old) (M.kept machine.new) (K.held link.old) (K.held link.new) }
+    ensures upheld { Upholds (AreAnswers asks.now (M.kept machine.old)) (D.view disk.new) (M.kept machine.new)
         (K.held link.old) (K.log link.old) (K.log link.new) }
     ensures few { result.answered ≤ length asks.now }
     ensures ready { result.outcome ≢ Err Stop.DiskFault → M.ready machine.new disk.new }
@@ -131,14 +129,13 @@ pub(crate) fn serve_piece<D: Disk, M: Machine<D>, K: Sink, L: Ledger>(
     requires few { length piece.now < 2 ^ 32 }
     requires ready { M.ready machine.old disk.old }
     ensures piece { (s : List ℕ) → StandsFor conn.old s
-        → Writes D.images D.moment D.images_since disk.old disk.new
+        → Writes D.view disk.old disk.new
         (IsPiece (HasRisen (K.faults link.old) (K.faults link.new)) result.outcome result.answered (s ++ piece.now) conn.new
         (stand (M.kept machine.old) steps.old) (stand (M.kept machine.new) steps.new))
-        (M.kept machine.old) (M.kept machine.new)
-        (K.held link.old) (K.held link.new) }
+        (M.kept machine.old) (M.kept machine.new) (K.held link.old) (K.held link.new) }
     ensures upheld { (s : List ℕ) → StandsFor conn.old s
-        → Upholds (AreAnswersOf (AreRead (s ++ piece.now)) (M.kept machine.old)) (D.moment disk.new)
-        (D.images_since disk.new) (M.kept machine.new)
+        → Upholds (AreAnswersOf (AreRead (s ++ piece.now)) (M.kept machine.old)) (D.view disk.new)
+        (M.kept machine.new)
         (K.held link.old) (K.log link.old) (K.log link.new) }
     ensures few { result.answered ≤ length piece.now }
     ensures ready { result.outcome ≢ Err Stop.DiskFault → M.ready machine.new disk.new }

@@ -21,7 +21,7 @@ const NO_MEMORY: &[u8] =
 pub(crate) fn write_last<D: Disk, K: Sink>(link: &mut K, disk: &D, why: Stop)
     ensures front { AppendsFront (HasRisen (K.faults link.old) (K.faults link.new))
         (K.held link.old) (K.held link.new) (last_text why) }
-    ensures noted { (s : List ℕ) → K.held link.old ≡ Some s → Notes (D.moment disk.now)
+    ensures noted { (s : List ℕ) → K.held link.old ≡ Some s → Notes (D.view disk.now).moment
         (length s + length (last_text why)) (K.log link.old) (K.log link.new) }
     ensures later { K.faults link.old ≤ K.faults link.new }
     ensures beside { K.beside link.new ≡ K.beside link.old }

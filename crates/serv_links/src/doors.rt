@@ -50,15 +50,15 @@ pub fn serve_doors<B: Frugal, D: Disk, G: Doors, L: Ledger>(
     requires most { most ≤ MOST_LINKS }
     requires out { G.out doors.old ≡ 0 }
     requires unspent { engine.old.journal.spent ≡ false }
-    requires durable { IsDurable (D.images disk.old) engine.old }
-    ensures served { ServesDoors D.images D.moment D.images_since disk.old disk.new
+    requires durable { IsDurable (D.view disk.old).images engine.old }
+    ensures served { ServesDoors D.view disk.old disk.new
         (ServedLink G.Conn.left G.Conn.held G.Conn.log G.Conn.Source.faults G.Conn.Sink.faults
-        (D.moment disk.new) (D.images_since disk.new)) result.end result.summary
+        (D.view disk.new)) result.end result.summary
         most (G.coming doors.old) (G.coming doors.new) (G.backed doors.old) (G.backed doors.new)
         (stand (history_of engine.old) steps.old) (stand (kept_history engine.new) steps.new) }
     ensures out { G.out doors.new ≡ 0 }
     ensures unspent { result.end ≢ DoorsEnd.DiskFault → engine.new.journal.spent ≡ false }
-    ensures durable { result.end ≢ DoorsEnd.DiskFault → IsDurable (D.images disk.new) engine.new }
+    ensures durable { result.end ≢ DoorsEnd.DiskFault → IsDurable (D.view disk.new).images engine.new }
     ensures net { result.end ≡ DoorsEnd.NetFault → HasRisen (G.faults doors.old) (G.faults doors.new) }
     ensures stopped { result.end ≡ DoorsEnd.DiskFault → HasRisen (D.faults disk.old) (D.faults disk.new) }
     ensures net_later { G.faults doors.old ≤ G.faults doors.new }

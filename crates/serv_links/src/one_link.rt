@@ -27,13 +27,13 @@ pub fn serve_one<B: Frugal, D: Disk, C: Link, L: Ledger>(
     steps: &mut Steps<L>,
 ) -> LinkEnd
     requires unspent { engine.old.journal.spent ≡ false }
-    requires durable { IsDurable (D.images disk.old) engine.old }
+    requires durable { IsDurable (D.view disk.old).images engine.old }
     // What was taken, acted on and written, with what a crash leaves on the disk now and at each moment; and from each
     // write on, each image has every command that is answered by what is written so far.
-    ensures served { Writes D.images D.moment D.images_since disk.old disk.new
+    ensures served { Writes D.view disk.old disk.new
         (Serves result (HasRisen (C.Source.faults link.old) (C.Source.faults link.new))
         (HasRisen (C.Sink.faults link.old) (C.Sink.faults link.new))
-        (λ covers. Upholds covers (D.moment disk.new) (D.images_since disk.new) (kept_history engine.new)
+        (λ covers. Upholds covers (D.view disk.new) (kept_history engine.new)
         (C.held link.old) (C.log link.old) (C.log link.new)) (C.left link.old) (C.left link.new)
         (stand (history_of engine.old) steps.old) (stand (kept_history engine.new) steps.new))
         (history_of engine.old) (kept_history engine.new) (C.held link.old) (C.held link.new) }
@@ -41,7 +41,7 @@ pub fn serve_one<B: Frugal, D: Disk, C: Link, L: Ledger>(
     ensures disk { IsDiskEnd result → HasRisen (D.faults disk.old) (D.faults disk.new) }
     // The engine is spent exactly where the disk failed, and can be used on otherwise.
     ensures spent { IsDiskEnd result ↔ (engine.new.journal.spent ≡ true) }
-    ensures durable { ¬ (IsDiskEnd result) → IsDurable (D.images disk.new) engine.new }
+    ensures durable { ¬ (IsDiskEnd result) → IsDurable (D.view disk.new).images engine.new }
     ensures disk_later { D.faults disk.old ≤ D.faults disk.new }
     ensures read_later { C.Source.faults link.old ≤ C.Source.faults link.new }
     ensures write_later { C.Sink.faults link.old ≤ C.Sink.faults link.new }

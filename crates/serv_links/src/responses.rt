@@ -64,19 +64,19 @@ impl Responses {
         ensures stopped { (done : List asks.Ask) (s : Stand) (held : Option (List ℕ))
             → AreGathered self.old.answered done s
             (running (M.history machine.old) (M.kept machine.old) steps.old) held (K.held link.old) self.old.replies.text.items
-            → IfErr result (λ why. Writes D.images D.moment D.images_since disk.old disk.new
+            → IfErr result (λ why. Writes D.view disk.old disk.new
             (IsStopped why (ComeFirst self.new.answered (done ++ ask.now ∷ [])) 0 s
             (stand (M.kept machine.new) steps.new))
             (M.kept machine.old) (M.kept machine.new) held (K.held link.new)) }
         ensures upheld { (done : List asks.Ask) (s : Stand) (held : Option (List ℕ))
             → AreGathered self.old.answered done s
             (running (M.history machine.old) (M.kept machine.old) steps.old) held (K.held link.old) self.old.replies.text.items
-            → Upholds (AreReplies (SaidFirst Says (done ++ ask.now ∷ [])) s.history) (D.moment disk.new)
-            (D.images_since disk.new) (M.kept machine.new) held (K.log link.old) (K.log link.new) }
+            → Upholds (AreReplies (SaidFirst Says (done ++ ask.now ∷ [])) s.history) (D.view disk.new)
+            (M.kept machine.new) held (K.log link.old) (K.log link.new) }
         ensures count { OnOk result (self.new.answered ≡ self.old.answered + 1) }
         ensures few { self.new.answered ≤ self.old.answered + 1 }
         ensures waiting { self.new.replies.waiting ≡ 0 }
-        ensures disk { OnOk result (OnDisk D.images D.moment D.images_since disk.old disk.new
+        ensures disk { OnOk result (OnDisk D.view disk.old disk.new
             (M.kept machine.old) (M.kept machine.new) []) }
         ensures running { OnOk result (M.running machine.new disk.new) }
         ensures ready { IfErr result (λ why. why ≢ Stop.DiskFault → M.ready machine.new disk.new) }
@@ -124,19 +124,19 @@ impl Responses {
         ensures stopped { (done : List asks.Ask) (s : Stand) (steps : ℕ) (held : Option (List ℕ))
             → AreGathered self.old.answered done s
             (running (M.history machine.old) (M.kept machine.old) steps) held (K.held link.old) self.old.replies.text.items
-            → IfErr result (λ why. Writes D.images D.moment D.images_since disk.old disk.new
+            → IfErr result (λ why. Writes D.view disk.old disk.new
             (IsStopped why (ComeFirst self.new.answered done) 0 s (stand (M.kept machine.new) steps))
             (M.kept machine.old) (M.kept machine.new) held (K.held link.new)) }
         ensures upheld { (done : List asks.Ask) (s : Stand) (steps : ℕ) (held : Option (List ℕ))
             → AreGathered self.old.answered done s
             (running (M.history machine.old) (M.kept machine.old) steps) held (K.held link.old) self.old.replies.text.items
-            → Upholds (AreReplies (SaidFirst Says done) s.history) (D.moment disk.new) (D.images_since disk.new)
+            → Upholds (AreReplies (SaidFirst Says done) s.history) (D.view disk.new)
             (M.kept machine.new) held (K.log link.old) (K.log link.new) }
         ensures empty { OnOk result (self.new.replies.text.items ≡ []) }
         ensures count { OnOk result (self.new.answered ≡ self.old.answered) }
         ensures few { self.new.answered ≤ self.old.answered }
         ensures waiting { self.new.replies.waiting ≡ 0 }
-        ensures disk { OnOk result (OnDisk D.images D.moment D.images_since disk.old disk.new
+        ensures disk { OnOk result (OnDisk D.view disk.old disk.new
             (M.kept machine.old) (M.kept machine.new) []) }
         ensures ready { OnOk result (M.ready machine.new disk.new) }
         ensures ready_too { IfErr result (λ why. why ≢ Stop.DiskFault → M.ready machine.new disk.new) }

@@ -34,15 +34,14 @@ pub(crate) fn serve_link<D: Disk, M: Machine<D>, C: Link, L: Ledger>(
     steps: &mut Steps<L>,
 ) -> LinkEnd
     requires { M.ready machine.old disk.old }
-    ensures served { Writes D.images D.moment D.images_since disk.old disk.new
+    ensures served { Writes D.view disk.old disk.new
         (Serves result (HasRisen (C.Source.faults link.old) (C.Source.faults link.new))
         (HasRisen (C.Sink.faults link.old) (C.Sink.faults link.new))
-        (λ covers. Upholds covers (D.moment disk.new) (D.images_since disk.new)
+        (λ covers. Upholds covers (D.view disk.new)
         (M.kept machine.new) (C.held link.old) (C.log link.old) (C.log link.new))
         (C.left link.old) (C.left link.new)
         (stand (M.kept machine.old) steps.old) (stand (M.kept machine.new) steps.new))
-        (M.kept machine.old) (M.kept machine.new)
-        (C.held link.old) (C.held link.new) }
+        (M.kept machine.old) (M.kept machine.new) (C.held link.old) (C.held link.new) }
     ensures few { number_in result ≤ link_limit }
     ensures ready { ¬ (IsDiskEnd result) → M.ready machine.new disk.new }
     ensures failed { IsDiskEnd result → M.failed machine.new }

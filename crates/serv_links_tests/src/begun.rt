@@ -22,8 +22,8 @@ fn take<B: Frugal, D: Disk, L: Ledger>(
     line: &str,
     steps: &mut Steps<L>,
 ) -> Result<Taken, EngineFault>
-    requires running { IsRunning (D.images disk.old) engine.old }
-    ensures running { OnOk result (IsRunning (D.images disk.new) engine.new) }
+    requires running { IsRunning (D.view disk.old).images engine.old }
+    ensures running { OnOk result (IsRunning (D.view disk.new).images engine.new) }
 {
     if engine.is_spent() {
         return Err(EngineFault::DiskFault);
@@ -44,8 +44,8 @@ fn commit<B: Frugal, D: Disk>(
     disk: &mut D,
     line: &str,
 ) -> Result<(), EngineFault>
-    requires running { IsRunning (D.images disk.old) engine.old }
-    ensures running { OnOk result (IsRunning (D.images disk.new) engine.new) }
+    requires running { IsRunning (D.view disk.old).images engine.old }
+    ensures running { OnOk result (IsRunning (D.view disk.new).images engine.new) }
 {
     if engine.is_spent() {
         return Err(EngineFault::DiskFault);
@@ -80,7 +80,7 @@ fn take_both<B: Frugal, D: Disk, L: Ledger>(
     sent: &Sent,
     steps: &mut Steps<L>,
 ) -> Result<(Taken, Taken), EngineFault>
-    requires running { IsRunning (D.images disk.old) engine.old }
+    requires running { IsRunning (D.view disk.old).images engine.old }
 {
     let first = take(engine, disk, sent.first, steps)?;
     if let Some(line) = sent.laid {

@@ -21,18 +21,11 @@ struct Counted {
 }
 
 impl Disk for Counted {
-    ghost use Rattle.std.specs.Prelude.{length, refl};
-    ghost use Rattle.serv_images.specs.DiskCalls.{IsSince};
-    ghost use Rattle.serv_disk.specs.MemDisks.{images_of, told};
+    ghost use Rattle.std.specs.Prelude.{refl};
+    ghost use Rattle.serv_disk.specs.MemDisks.{view_of};
     ghost use Rattle.serv_disk.specs.DiskLaws.{since_now, now_only, some_image};
 
-    ghost seen = { λ d. told d.disk };
-
-    ghost images = { λ d. images_of d.disk };
-
-    ghost moment = { λ d. length d.disk.made };
-
-    ghost images_since = { λ d t c. IsSince d.disk.first d.disk.made t c };
+    ghost view = { λ d. view_of d.disk };
 
     ghost faults = { λ d. d.disk.faults };
 

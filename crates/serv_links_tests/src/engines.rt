@@ -80,7 +80,7 @@ pub(crate) fn engine_of<B: Frugal, D: Disk, L: Ledger>(
     steps: &mut Steps<L>,
 ) -> Result<Engine<B>, EngineFault>
     ensures unspent { IfOk result (λ e. e.journal.spent ≡ false) }
-    ensures durable { IfOk result (λ e. IsDurable (D.images disk.new) e) }
+    ensures durable { IfOk result (λ e. IsDurable (D.view disk.new).images e) }
 {
     Engine::<B>::open(alloc, disk, u64::from(limit), steps)
 }
@@ -184,7 +184,7 @@ fn act<B: Frugal, D: Disk, L: Ledger>(
     steps: &mut Steps<L>,
 ) -> Result<Reply, EngineFault>
     requires unspent { engine.old.journal.spent ≡ false }
-    requires durable { IsDurable (D.images disk.old) engine.old }
+    requires durable { IsDurable (D.view disk.old).images engine.old }
 {
     match read_line(line.as_bytes()) {
         Ok(request) => match &request {

@@ -24,7 +24,7 @@ pub(crate) fn serve_by<B: Frugal, D: Disk, C: Link, L: Ledger>(
     steps: &mut Steps<L>,
 ) -> LinkEnd
     requires unspent { engine.old.journal.spent ≡ false }
-    requires durable { IsDurable (D.images disk.old) engine.old }
+    requires durable { IsDurable (D.view disk.old).images engine.old }
 {
     serve_one(alloc, engine, disk, link, steps)
 }

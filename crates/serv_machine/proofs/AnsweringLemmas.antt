@@ -11,6 +11,7 @@ use Rattle.serv_machine.specs.Sayings.{Saying, Say, SaidFirst, AreFirst, history
 use Rattle.serv_machine.proofs.SayingLemmas.{said_more}
 use Rattle.serv_machine.specs.Answering.{Answers, AreReplies, Gathered, IsStopped, Writes}
 use Rattle.serv_machine.proofs.UpheldLemmas.{commands_left, upheld_none, upheld_wider, upheld_later, upheld_written, upheld_then}
+use Rattle.serv_disk.specs.Disks.{View}
 
 -- ---- what comes first
 
@@ -73,42 +74,42 @@ answers_one Whole one s a b x y p q =
     (p.text ∙ ap (replies_to s.history) same ∙ sym q.text, p.moved.0 ∙ ap (history_after_all s.history) same ∙ sym q.moved.0)
 
 -- where less is known of what comes first
-pub replies_wider : (Whole Wider : List Saying → Type 0) (moment : ℕ) (since : ℕ → List ℕ → Type 0) (now h : History) (held : Option (List ℕ)) (log log' : Option (List Stamp))
-    → ((done : List Saying) → AreFirst Whole done [] → AreFirst Wider done []) → Upholds (AreReplies Whole h) moment since now held log log' → Upholds (AreReplies Wider h) moment since now held log log'
-replies_wider Whole Wider moment since now h held log log' then up =
-    upheld_wider (AreReplies Whole h) (AreReplies Wider h) moment since now
+pub replies_wider : (Whole Wider : List Saying → Type 0) (view : View) (now h : History) (held : Option (List ℕ)) (log log' : Option (List Stamp))
+    → ((done : List Saying) → AreFirst Whole done [] → AreFirst Wider done []) → Upholds (AreReplies Whole h) view now held log log' → Upholds (AreReplies Wider h) view now held log log'
+replies_wider Whole Wider view now h held log log' then up =
+    upheld_wider (AreReplies Whole h) (AreReplies Wider h) view now
     (λ bytes commands are. record { said = are.said; first = then are.said are.first; bytes_are = are.bytes_are; commands_are = are.commands_are }) held log log' up
 
 -- ---- the writes of a call
 
-module _ {D : Type 0} (images : D → List ℕ → Type 0) (moment : D → ℕ) (images_since : D → ℕ → List ℕ → Type 0) where
+module _ {D : Type 0} (view : D → View) where
   -- those of all that is gathered, once the disk has it, or a request after it has no reply
   pub writes_all : {waiting : ℕ} {said : List Saying} {s : Stand} {t : Running} {held held' : Option (List ℕ)} {text : List ℕ} (g : Gathered waiting said s t held held' text) {log log' : Option (List Stamp)}
-      (old new : D) (only : (c : List ℕ) → images_since new (moment new) c → images new c) (now : History) (pending : List Accepted) → OnDisk images moment images_since old new t.held now pending
-      → ((x : List ℕ) → held' ≡ Some x → Notes (moment new) (length x + length text) log log')
-      → Upholds (AreReplies (λ saids. saids ≡ said) s.history) (moment new) (images_since new) now held log log'
+      (old new : D) (only : (c : List ℕ) → (view new).since (view new).moment c → (view new).images c) (now : History) (pending : List Accepted) → OnDisk view old new t.held now pending
+      → ((x : List ℕ) → held' ≡ Some x → Notes (view new).moment (length x + length text) log log')
+      → Upholds (AreReplies (λ saids. saids ≡ said) s.history) (view new) now held log log'
   writes_all {waiting} {said} {s} {t} {held} {held'} {text} g {log} {log'} old new only now pending disk notes =
       let Whole : List Saying → Type 0 = λ saids. saids ≡ said in
-      upheld_written images moment images_since new only (AreReplies Whole s.history) now t.held.commands disk.list disk.accepted (commands_left (images new) t.held.commands now disk.list pending disk.accepted disk.left)
+      upheld_written view new only (AreReplies Whole s.history) now t.held.commands disk.list disk.accepted (commands_left (view new).images t.held.commands now disk.list pending disk.accepted disk.left)
       (length (replies_to s.history said))
       (record { said = said; first = first_all Whole said refl; bytes_are = refl; commands_are = ap (λ (x : History). x.commands) g.moved.0 })
-      held held' g.written text log log log' g.wrote (omega (arith, length-append g.written text, ap length g.gathered)) (upheld_none (AreReplies Whole s.history) (moment new) (images_since new) now held log) notes
+      held held' g.written text log log log' g.wrote (omega (arith, length-append g.written text, ap length g.gathered)) (upheld_none (AreReplies Whole s.history) (view new) now held log) notes
 
   -- what was upheld before a call, and the writes of the call
-  pub upheld_call : (old new : D) (now now' : History) (pending : List Accepted) → OnDisk images moment images_since old new now now' pending → (Whole Wider : List Saying → Type 0) (h : History) (held : Option (List ℕ))
-      (log log' log'' : Option (List Stamp)) → ((done : List Saying) → AreFirst Whole done [] → AreFirst Wider done []) → Upholds (AreReplies Wider h) (moment old) (images_since old) now held log log'
-      → Upholds (AreReplies Whole h) (moment new) (images_since new) now' held log' log'' → Upholds (AreReplies Wider h) (moment new) (images_since new) now' held log log''
+  pub upheld_call : (old new : D) (now now' : History) (pending : List Accepted) → OnDisk view old new now now' pending → (Whole Wider : List Saying → Type 0) (h : History) (held : Option (List ℕ))
+      (log log' log'' : Option (List Stamp)) → ((done : List Saying) → AreFirst Whole done [] → AreFirst Wider done []) → Upholds (AreReplies Wider h) (view old) now held log log'
+      → Upholds (AreReplies Whole h) (view new) now' held log' log'' → Upholds (AreReplies Wider h) (view new) now' held log log''
   upheld_call old new now now' pending disk Whole Wider h held log log' log'' then up writes =
-      let before = upheld_later images moment images_since old new now now' pending disk (AreReplies Wider h) held log log' up in
-      let after = replies_wider Whole Wider (moment new) (images_since new) now' h held log' log'' then writes in
-      upheld_then (AreReplies Wider h) (AreReplies Wider h) (AreReplies Wider h) (moment new) (images_since new) now' [] (λ bytes commands is. is) (λ bytes commands is. subst (λ n. AreReplies Wider h n commands) (omega arith) is)
+      let before = upheld_later view old new now now' pending disk (AreReplies Wider h) held log log' up in
+      let after = replies_wider Whole Wider (view new) now' h held log' log'' then writes in
+      upheld_then (AreReplies Wider h) (AreReplies Wider h) (AreReplies Wider h) (view new) now' [] (λ bytes commands is. is) (λ bytes commands is. subst (λ n. AreReplies Wider h n commands) (omega arith) is)
       held held log log' log'' (Appends-nil held) before after
 
   -- by its result
   pub upheld_result : (old new : D) (r : Result (Unit {0}) Stop) (kept kept' : History) (steps waiting : ℕ) (s : Stand) (First : List Saying → List Saying → Type 0) (Whole Wider : List Saying → Type 0) (held held' : Option (List ℕ)) (log log' log'' : Option (List Stamp))
-      → OnOk r (OnDisk images moment images_since old new kept kept' []) → IfErr r (λ why. Writes images moment images_since old new (IsStopped why First waiting s (stand kept' steps)) kept kept' held held')
-      → ((done : List Saying) → AreFirst Whole done [] → AreFirst Wider done []) → Upholds (AreReplies Wider s.history) (moment old) (images_since old) kept held log log'
-      → Upholds (AreReplies Whole s.history) (moment new) (images_since new) kept' held log' log'' → Upholds (AreReplies Wider s.history) (moment new) (images_since new) kept' held log log''
+      → OnOk r (OnDisk view old new kept kept' []) → IfErr r (λ why. Writes view old new (IsStopped why First waiting s (stand kept' steps)) kept kept' held held')
+      → ((done : List Saying) → AreFirst Whole done [] → AreFirst Wider done []) → Upholds (AreReplies Wider s.history) (view old) kept held log log'
+      → Upholds (AreReplies Whole s.history) (view new) kept' held log' log'' → Upholds (AreReplies Wider s.history) (view new) kept' held log log''
   upheld_result old new (Ok x) kept kept' steps waiting s First Whole Wider held held' log log' log'' disk stops then up writes =
       upheld_call old new kept kept' [] disk Whole Wider s.history held log log' log'' then up writes
   upheld_result old new (Err e) kept kept' steps waiting s First Whole Wider held held' log log' log'' disk stops then up writes =

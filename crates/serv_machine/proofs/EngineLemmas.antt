@@ -23,7 +23,7 @@ use Rattle.serv_machine.specs.declared.faults.ActFault.{ActFault}
 use Rattle.serv_machine.specs.declared.faults.ActFault.TheVariants as fault
 use Rattle.serv_machine.specs.Verdicts.{IsReplyBy, IsUnsaid, IsFaultBy}
 use Rattle.std.specs.Prelude.{Result, Err, true, false, nat_lt, if◌then◌else◌}
-use Rattle.serv_disk.specs.Disks.{Each, LeavesOnly}
+use Rattle.serv_disk.specs.Disks.{Each, LeavesOnly, View}
 use Rattle.serv_disk.proofs.Moments.{weaker}
 use Rattle.serv_journal.specs.Format.{Form, IsForm}
 use Rattle.serv_machine.specs.EngineLaws.{form_of, running_whole}
@@ -154,22 +154,22 @@ pub around_along : (form : Form) (h : History) (begun : List Accepted) (file : L
 around_along form h [] file is_form of_store whole = record { whole = record { form = form; is_form = is_form; whole = whole }; form = of_store }
 around_along form h (a ∷ more) file is_form of_store good = inl (good_with form h a file is_form of_store good)
 
-module _ {D : Type 0} (images : D → List ℕ → Type 0) (moment : D → ℕ) (images_since : D → ℕ → List ℕ → Type 0) (old new : D) (form : Form) (is_form : IsForm form)
+module _ {D : Type 0} (view : D → View) (old new : D) (form : Form) (is_form : IsForm form)
     (h : History) (of_store : IsFormOf h.store form) where
   -- the disk failed: the next command behind what is kept is the one that was begun, or where none was the new one
-  pub torn_behind : (begun behind : List Accepted) (all : History) → all.commands ≡ (h.commands ++ begun) ++ behind → (begun ++ behind ≡ [] → ⊥) → IsHistory all.commands → Each (images new) (IsAroundFor form h.commands begun)
-      → LeavesOnly moment images_since old new (IsAroundFor form h.commands begun) → IsTorn images moment images_since old new h all
+  pub torn_behind : (begun behind : List Accepted) (all : History) → all.commands ≡ (h.commands ++ begun) ++ behind → (begun ++ behind ≡ [] → ⊥) → IsHistory all.commands → Each (view new).images (IsAroundFor form h.commands begun)
+      → LeavesOnly view old new (IsAroundFor form h.commands begun) → IsTorn view old new h all
   torn_behind [] [] all is some history each run = absurd (some refl)
   torn_behind [] (a ∷ behind) all is some history each run =
       let here : all.commands ≡ h.commands ++ a ∷ behind = is ∙ ap (λ x. x ++ a ∷ behind) (append-nil h.commands) in
-      disk_torn images moment images_since old new h all behind a here (next_history h.commands a behind all.commands here history)
+      disk_torn view old new h all behind a here (next_history h.commands a behind all.commands here history)
       (λ c image. good_for h a c (around_along form h [] c is_form of_store (each c image)))
-      (weaker moment images_since old new (IsAroundFor form h.commands []) (IsGoodWith h a) run (λ c whole. good_for h a c (around_along form h [] c is_form of_store whole)))
+      (weaker view old new (IsAroundFor form h.commands []) (IsGoodWith h a) run (λ c whole. good_for h a c (around_along form h [] c is_form of_store whole)))
   torn_behind (a ∷ more) behind all is some history each run =
       let here : all.commands ≡ h.commands ++ a ∷ (more ++ behind) = is ∙ append_assoc h.commands (a ∷ more) behind in
-      disk_torn images moment images_since old new h all (more ++ behind) a here (next_history h.commands a (more ++ behind) all.commands here history)
+      disk_torn view old new h all (more ++ behind) a here (next_history h.commands a (more ++ behind) all.commands here history)
       (λ c image. good_with form h a c is_form of_store (each c image))
-      (weaker moment images_since old new (IsAroundFor form h.commands (a ∷ more)) (IsGoodWith h a) run (λ c good. good_with form h a c is_form of_store good))
+      (weaker view old new (IsAroundFor form h.commands (a ∷ more)) (IsGoodWith h a) run (λ c good. good_with form h a c is_form of_store good))
 
 module _ (e e' : EngineState) (key : List ℕ) (c : Command) (base : ℕ) (size : e.journal.size ≡ base + lengths_of e.history) where
   abbrev said : Judgement
@@ -219,29 +219,29 @@ pub some_behind : (begun : List Accepted) (a : Accepted) → begun ++ a ∷ [] �
 some_behind [] a is = cc
 some_behind (b ∷ begun) a is = cc
 
-module _ {D : Type 0} (images : D → List ℕ → Type 0) (moment : D → ℕ) (images_since : D → ℕ → List ℕ → Type 0) (old new : D) (e e' : EngineState)
-    (only_now : (c : List ℕ) → images_since old (moment old) c → images old c) (two : e.journal.version ≡ Two) (runs : IsRunning (images old) e)
-    (moments : (form : Form) → IsRunningIn form (images old) e → LeavesOnly moment images_since old new (IsAroundFor form (kept_of e) (begun_of e))) where
+module _ {D : Type 0} (view : D → View) (old new : D) (e e' : EngineState)
+    (only_now : (c : List ℕ) → (view old).since (view old).moment c → (view old).images c) (two : e.journal.version ≡ Two) (runs : IsRunning (view old).images e)
+    (moments : (form : Form) → IsRunningIn form (view old).images e → LeavesOnly view old new (IsAroundFor form (kept_of e) (begun_of e))) where
   is_form : IsForm runs.form
   is_form = runs.kept.stands.is_form
 
   of_store : IsFormOf (history_of e).store runs.form
-  of_store = form_of runs.form (images old) e two runs.kept
+  of_store = form_of runs.form (view old).images e two runs.kept
 
-  along : LeavesOnly moment images_since old new (IsAlong (kept_history e) (begun_of e))
+  along : LeavesOnly view old new (IsAlong (kept_history e) (begun_of e))
   along =
-      weaker moment images_since old new (IsAroundFor runs.form (kept_of e) (begun_of e)) (IsAlong (kept_history e) (begun_of e)) (moments runs.form runs.kept)
+      weaker view old new (IsAroundFor runs.form (kept_of e) (begun_of e)) (IsAlong (kept_history e) (begun_of e)) (moments runs.form runs.kept)
       (λ c around. around_along runs.form (kept_history e) (begun_of e) c is_form of_store around)
 
-  pub kept_disk : (e' ≡ e) × (new ≡ old) → OnDisk images moment images_since old new (kept_history e) (kept_history e') []
-  kept_disk same = disk_same images moment images_since old new (kept_history e) (kept_history e') same.1 (ap kept_history same.0) (running_whole (images old) e two runs) only_now
+  pub kept_disk : (e' ≡ e) × (new ≡ old) → OnDisk view old new (kept_history e) (kept_history e') []
+  kept_disk same = disk_same view old new (kept_history e) (kept_history e') same.1 (ap kept_history same.0) (running_whole (view old).images e two runs) only_now
 
-  pub behind_disk : (h : History) → h.commands ≡ e.history → h.store ≡ (history_of e).store → IsHistory e.history → Each (images new) (HasHistory h) → OnDisk images moment images_since old new (kept_history e) h []
+  pub behind_disk : (h : History) → h.commands ≡ e.history → h.store ≡ (history_of e).store → IsHistory e.history → Each (view new).images (HasHistory h) → OnDisk view old new (kept_history e) h []
   behind_disk h is store history each =
-      disk_kept images moment images_since old new (kept_history e) h (begun_of e) (is ∙ sym (kept_and_begun e)) store (subst IsHistory (sym is) history) each along
+      disk_kept view old new (kept_history e) h (begun_of e) (is ∙ sym (kept_and_begun e)) store (subst IsHistory (sym is) history) each along
 
   pub taken_disk : (Behind : Type 0) → (Behind → kept_history e' ≡ history_of e) → (t : Taken) (said : Judgement) → WasTaken said t ((e' ≡ e) × (new ≡ old)) Behind → IsHistory e.history
-      → Each (images new) (HasHistory (kept_history e')) → OnDisk images moment images_since old new (kept_history e) (kept_history e') []
+      → Each (view new).images (HasHistory (kept_history e')) → OnDisk view old new (kept_history e) (kept_history e') []
   taken_disk Behind behind (taken.Settled reply) j was history each = kept_disk was.1
   taken_disk Behind behind (taken.Begun reply) j was history each =
       let same = behind was.1 in
@@ -249,16 +249,16 @@ module _ {D : Type 0} (images : D → List ℕ → Type 0) (moment : D → ℕ) 
 
   -- the disk failed as a command was begun: behind all that is kept it was perhaps being appended
   pub stopped_disk : (a : Accepted) → kept_history e ≡ history_of e → begun_of e ≡ [] → IsHistory (e.history ++ a ∷ [])
-      → ((form : Form) → IsRunningIn form (images old) e → Each (images new) (IsAroundFor form (kept_of e) (begun_of e))) → OnDisk images moment images_since old new (history_of e) (history_of e) (a ∷ [])
+      → ((form : Form) → IsRunningIn form (view old).images e → Each (view new).images (IsAroundFor form (kept_of e) (begun_of e))) → OnDisk view old new (history_of e) (history_of e) (a ∷ [])
   stopped_disk a all none history good =
       let calm : (c : List ℕ) → IsAroundFor runs.form (kept_of e) (begun_of e) c → IsGoodWith (history_of e) a c =
       λ c around. good_for (history_of e) a c
       (subst (λ h. IsAlong h [] c) all (subst (λ l. IsAlong (kept_history e) l c) none (around_along runs.form (kept_history e) (begun_of e) c is_form of_store around))) in
-      disk_stopped images moment images_since old new (history_of e) (history_of e) a refl (λ _. history) (λ c image. calm c (good runs.form runs.kept c image))
-      (weaker moment images_since old new (IsAroundFor runs.form (kept_of e) (begun_of e)) (IsGoodWith (history_of e) a) (moments runs.form runs.kept) calm)
+      disk_stopped view old new (history_of e) (history_of e) a refl (λ _. history) (λ c image. calm c (good runs.form runs.kept c image))
+      (weaker view old new (IsAroundFor runs.form (kept_of e) (begun_of e)) (IsGoodWith (history_of e) a) (moments runs.form runs.kept) calm)
 
   pub torn_disk : (behind : List Accepted) (all : History) → all.commands ≡ e.history ++ behind → (begun_of e ++ behind ≡ [] → ⊥) → IsHistory all.commands
-      → ((form : Form) → IsRunningIn form (images old) e → Each (images new) (IsAroundFor form (kept_of e) (begun_of e))) → IsTorn images moment images_since old new (kept_history e) all
+      → ((form : Form) → IsRunningIn form (view old).images e → Each (view new).images (IsAroundFor form (kept_of e) (begun_of e))) → IsTorn view old new (kept_history e) all
   torn_disk behind all is some history good =
-      torn_behind images moment images_since old new runs.form is_form (kept_history e) of_store (begun_of e) behind all (is ∙ ap (λ x. x ++ behind) (sym (kept_and_begun e))) some history
+      torn_behind view old new runs.form is_form (kept_history e) of_store (begun_of e) behind all (is ∙ ap (λ x. x ++ behind) (sym (kept_and_begun e))) some history
       (good runs.form runs.kept) (moments runs.form runs.kept)

@@ -14,30 +14,31 @@ use Rattle.serv_machine.specs.Answering.{AnsweredBut, Gathered, HasNone, IsHeldB
 use Rattle.serv_machine.proofs.NextLemmas.{no_more}
 use Rattle.serv_machine.proofs.OnDiskLemmas.{disk_more}
 use Rattle.serv_machine.proofs.SayingLemmas.{replies_to-push, bound_of_all-push, moves_all-append, fresh_grows, fresh_one, next_alone, history_after_all-append, store_moves, store_starves}
+use Rattle.serv_disk.specs.Disks.{View}
 
 -- ---- with what is left on a disk
 
-module _ {D : Type 0} (images : D → List ℕ → Type 0) (moment : D → ℕ) (images_since : D → ℕ → List ℕ → Type 0) where
+module _ {D : Type 0} (view : D → View) where
   pub writes_as : (old new : D) (P Q : List Accepted → List ℕ → Type 0) (h h' : History) (held held' : Option (List ℕ)) → ((pending : List Accepted) (written : List ℕ) → P pending written → Q pending written)
-      → Writes images moment images_since old new P h h' held held' → Writes images moment images_since old new Q h h' held held'
+      → Writes view old new P h h' held held' → Writes view old new Q h h' held held'
   writes_as old new P Q h h' held held' then w = record { pending = w.pending; written = w.written; wrote = w.wrote; says_so = then w.pending w.written w.says_so; disk = w.disk }
 
   -- the disk's calls before what was written
-  pub writes_after : (old mid new : D) (P : List Accepted → List ℕ → Type 0) (h h1 h2 : History) (held held' : Option (List ℕ)) → OnDisk images moment images_since old mid h h1 []
-      → Writes images moment images_since mid new P h1 h2 held held' → Writes images moment images_since old new P h h2 held held'
+  pub writes_after : (old mid new : D) (P : List Accepted → List ℕ → Type 0) (h h1 h2 : History) (held held' : Option (List ℕ)) → OnDisk view old mid h h1 []
+      → Writes view mid new P h1 h2 held held' → Writes view old new P h h2 held held'
   writes_after old mid new P h h1 h2 held held' first w =
-      record { pending = w.pending; written = w.written; wrote = w.wrote; says_so = w.says_so; disk = disk_more images moment images_since old mid new h h1 h2 w.pending first w.disk }
+      record { pending = w.pending; written = w.written; wrote = w.wrote; says_so = w.says_so; disk = disk_more view old mid new h h1 h2 w.pending first w.disk }
 
   -- what was written, and then more
   pub writes_more : (old mid new : D) (P Q R : List Accepted → List ℕ → Type 0) (h h1 h2 : History) (held held1 held2 : Option (List ℕ))
-      (first : Writes images moment images_since old mid P h h1 held held1) → first.pending ≡ [] → (second : Writes images moment images_since mid new Q h1 h2 held1 held2)
-      → R second.pending (first.written ++ second.written) → Writes images moment images_since old new R h h2 held held2
+      (first : Writes view old mid P h h1 held held1) → first.pending ≡ [] → (second : Writes view mid new Q h1 h2 held1 held2)
+      → R second.pending (first.written ++ second.written) → Writes view old new R h h2 held held2
   writes_more old mid new P Q R h h1 h2 held held1 held2 first none second says = record {
     pending = second.pending;
     written = first.written ++ second.written;
     wrote = Appends-trans held held1 held2 first.written second.written first.wrote second.wrote;
     says_so = says;
-    disk = disk_more images moment images_since old mid new h h1 h2 second.pending (subst (λ p. OnDisk images moment images_since old mid h h1 p) none first.disk) second.disk;
+    disk = disk_more view old mid new h h1 h2 second.pending (subst (λ p. OnDisk view old mid h h1 p) none first.disk) second.disk;
   }
 
 -- ---- where less is known of what comes first
@@ -64,16 +65,16 @@ module _ (First Wider : List Saying → List Saying → Type 0) (then : (done ah
   stopped_wider OutOfMemory pending written is = but_wider OutOfMemory pending written is
 
   -- a run of the disk's calls, and the call that stops
-  pub stops_after : {D : Type 0} (images : D → List ℕ → Type 0) (moment : D → ℕ) (images_since : D → ℕ → List ℕ → Type 0) (old mid new : D) (why : Stop) (h h1 h2 : History) (held held' : Option (List ℕ))
-      → OnDisk images moment images_since old mid h h1 [] → Writes images moment images_since mid new (IsStopped why First waiting s s') h1 h2 held held'
-      → Writes images moment images_since old new (IsStopped why Wider waiting s s') h h2 held held'
-  stops_after images moment images_since old mid new why h h1 h2 held held' first stops =
-      writes_after images moment images_since old mid new (IsStopped why Wider waiting s s') h h1 h2 held held' first
-      (writes_as images moment images_since mid new (IsStopped why First waiting s s') (IsStopped why Wider waiting s s') h1 h2 held held' (stopped_wider why) stops)
+  pub stops_after : {D : Type 0} (view : D → View) (old mid new : D) (why : Stop) (h h1 h2 : History) (held held' : Option (List ℕ))
+      → OnDisk view old mid h h1 [] → Writes view mid new (IsStopped why First waiting s s') h1 h2 held held'
+      → Writes view old new (IsStopped why Wider waiting s s') h h2 held held'
+  stops_after view old mid new why h h1 h2 held held' first stops =
+      writes_after view old mid new (IsStopped why Wider waiting s s') h h1 h2 held held' first
+      (writes_as view mid new (IsStopped why First waiting s s') (IsStopped why Wider waiting s s') h1 h2 held held' (stopped_wider why) stops)
 
-  pub stops_wider : {D : Type 0} (images : D → List ℕ → Type 0) (moment : D → ℕ) (images_since : D → ℕ → List ℕ → Type 0) (old new : D) (why : Stop) (h h' : History) (held held' : Option (List ℕ))
-      → Writes images moment images_since old new (IsStopped why First waiting s s') h h' held held' → Writes images moment images_since old new (IsStopped why Wider waiting s s') h h' held held'
-  stops_wider images moment images_since old new why h h' held held' stops = writes_as images moment images_since old new (IsStopped why First waiting s s') (IsStopped why Wider waiting s s') h h' held held' (stopped_wider why) stops
+  pub stops_wider : {D : Type 0} (view : D → View) (old new : D) (why : Stop) (h h' : History) (held held' : Option (List ℕ))
+      → Writes view old new (IsStopped why First waiting s s') h h' held held' → Writes view old new (IsStopped why Wider waiting s s') h h' held held'
+  stops_wider view old new why h h' held held' stops = writes_as view old new (IsStopped why First waiting s s') (IsStopped why Wider waiting s s') h h' held held' (stopped_wider why) stops
 
 -- ---- lists and texts
 
@@ -187,25 +188,25 @@ module _ (waiting : ℕ) (said : List Saying) (s : Stand) {t : Running} {held he
       }) g.kept
 
   -- with what is left on a disk
-  module _ {D : Type 0} (images : D → List ℕ → Type 0) (moment : D → ℕ) (images_since : D → ℕ → List ℕ → Type 0) (old new : D) (h' : History) where
-    pub cut_stops : (held'' : Option (List ℕ)) → h' ≡ t.held → AppendsPart held' held'' text → OnDisk images moment images_since old new t.kept t.held []
-        → Writes images moment images_since old new (IsStopped WriteFault (λ done ahead. said ≡ done ++ ahead) waiting s (stand h' t.steps)) t.kept h' held held''
+  module _ {D : Type 0} (view : D → View) (old new : D) (h' : History) where
+    pub cut_stops : (held'' : Option (List ℕ)) → h' ≡ t.held → AppendsPart held' held'' text → OnDisk view old new t.kept t.held []
+        → Writes view old new (IsStopped WriteFault (λ done ahead. said ≡ done ++ ahead) waiting s (stand h' t.steps)) t.kept h' held held''
     cut_stops held'' same part run = record {
       pending = [];
       written = g.written ++ part.part;
       wrote = Appends-trans held held' held'' g.written part.part g.wrote part.wrote;
       says_so = cut_short h' held'' same part;
-      disk = subst (λ (h : History). OnDisk images moment images_since old new t.kept h []) (sym same) run;
+      disk = subst (λ (h : History). OnDisk view old new t.kept h []) (sym same) run;
     }
 
-    pub torn_stops : h' ≡ t.kept → IsTorn images moment images_since old new t.kept t.held
-        → Writes images moment images_since old new (IsStopped DiskFault (λ done ahead. said ≡ done ++ ahead) waiting s (stand h' t.steps)) t.kept h' held held'
+    pub torn_stops : h' ≡ t.kept → IsTorn view old new t.kept t.held
+        → Writes view old new (IsStopped DiskFault (λ done ahead. said ≡ done ++ ahead) waiting s (stand h' t.steps)) t.kept h' held held'
     torn_stops same torn = record {
       pending = torn.next ∷ [];
       written = g.written;
       wrote = g.wrote;
       says_so = held_up h' torn.next torn.rest same torn.all_are;
-      disk = subst (λ (h : History). OnDisk images moment images_since old new t.kept h (torn.next ∷ [])) (sym same) torn.disk;
+      disk = subst (λ (h : History). OnDisk view old new t.kept h (torn.next ∷ [])) (sym same) torn.disk;
     }
 
   -- no memory is there, and of the replies so many bytes may wait
@@ -280,36 +281,36 @@ module _ (waiting : ℕ) (said : List Saying) (s : Stand) {t : Running} {held he
       stopped_at DiskFault pending none = answered_but DiskFault pending none
       stopped_at OutOfMemory pending none = answered_but OutOfMemory pending none
 
-      pub given_up : {D : Type 0} (images : D → List ℕ → Type 0) (moment : D → ℕ) (images_since : D → ℕ → List ℕ → Type 0) (old new : D) (why : Stop) → Leaves images moment images_since old new (HasNone why last (stand t.held t.steps) s') t.held s'.history
-          → Writes images moment images_since old new (IsStopped why (λ done ahead. (done ≡ said) × (ahead ≡ last ∷ [])) waiting s s') t.kept s'.history held held''
-      given_up images moment images_since old new why none = record {
+      pub given_up : {D : Type 0} (view : D → View) (old new : D) (why : Stop) → Leaves view old new (HasNone why last (stand t.held t.steps) s') t.held s'.history
+          → Writes view old new (IsStopped why (λ done ahead. (done ≡ said) × (ahead ≡ last ∷ [])) waiting s s') t.kept s'.history held held''
+      given_up view old new why none = record {
         pending = none.pending;
         written = g.written ++ f.part;
         wrote = Appends-trans held held' held'' g.written f.part g.wrote f.wrote;
         says_so = stopped_at why none.pending none.says_so;
-        disk = subst (λ (h : History). OnDisk images moment images_since old new h s'.history none.pending) (sym all) none.disk;
+        disk = subst (λ (h : History). OnDisk view old new h s'.history none.pending) (sym all) none.disk;
       }
 
 -- ---- what has no reply
 
-module _ {D : Type 0} (images : D → List ℕ → Type 0) (moment : D → ℕ) (images_since : D → ℕ → List ℕ → Type 0) (said : Saying) (s : Stand) where
+module _ {D : Type 0} (view : D → View) (said : Saying) (s : Stand) where
   -- the disk failed while its command was being appended
-  pub none_stuck : (old new : D) (kept' : History) (steps : ℕ) → IsFresh s.history said → kept' ≡ s.history → steps ≤ s.steps + bound_of s.history said → OnDisk images moment images_since old new s.history s.history (commands_of said)
-      → Leaves images moment images_since old new (HasNone DiskFault said s (stand kept' steps)) s.history kept'
+  pub none_stuck : (old new : D) (kept' : History) (steps : ℕ) → IsFresh s.history said → kept' ≡ s.history → steps ≤ s.steps + bound_of s.history said → OnDisk view old new s.history s.history (commands_of said)
+      → Leaves view old new (HasNone DiskFault said s (stand kept' steps)) s.history kept'
   none_stuck old new kept' steps fresh same cost disk = record {
     pending = commands_of said;
     says_so = record { fresh = fresh; pending_is = refl; same = same; cost = cost };
-    disk = subst (λ (h : History). OnDisk images moment images_since old new s.history h (commands_of said)) (sym same) disk;
+    disk = subst (λ (h : History). OnDisk view old new s.history h (commands_of said)) (sym same) disk;
   }
 
   -- no memory was there; then a command that is begun is committed
   module _ (old mid new : D) (t : Running) (kept' : History) (near : IsNear s.history (history_after s.history said) t.held) (cost : t.steps ≤ s.steps + bound_of s.history said)
-      (first : OnDisk images moment images_since old mid s.history t.kept []) where
-    pub none_starved : kept' ≡ t.held → OnDisk images moment images_since mid new t.kept t.held [] → Leaves images moment images_since old new (HasNone OutOfMemory said s (stand kept' t.steps)) s.history kept'
+      (first : OnDisk view old mid s.history t.kept []) where
+    pub none_starved : kept' ≡ t.held → OnDisk view mid new t.kept t.held [] → Leaves view old new (HasNone OutOfMemory said s (stand kept' t.steps)) s.history kept'
     none_starved same run = record {
       pending = [];
       says_so = (refl, record { near = subst (IsNear s.history (history_after s.history said)) (sym same) near; cost = cost });
-      disk = subst (λ (h : History). OnDisk images moment images_since old new s.history h []) (sym same) (disk_more images moment images_since old mid new s.history t.kept t.held [] first run);
+      disk = subst (λ (h : History). OnDisk view old new s.history h []) (sym same) (disk_more view old mid new s.history t.kept t.held [] first run);
     }
 
     torn_stuck : (next : Accepted) (rest : List Accepted) → IsNear s.history (history_after s.history said) t.held → IsKeptBut (IsFresh s.history said) s.history t.held t.kept → kept' ≡ t.kept → t.held.commands ≡ t.kept.commands ++ next ∷ rest
@@ -326,11 +327,11 @@ module _ {D : Type 0} (images : D → List ℕ → Type 0) (moment : D → ℕ) 
           cost = cost;
         }
 
-    pub none_torn : IsKeptBut (IsFresh s.history said) s.history t.held t.kept → kept' ≡ t.kept → IsTorn images moment images_since mid new t.kept t.held → Leaves images moment images_since old new (HasNone DiskFault said s (stand kept' t.steps)) s.history kept'
+    pub none_torn : IsKeptBut (IsFresh s.history said) s.history t.held t.kept → kept' ≡ t.kept → IsTorn view mid new t.kept t.held → Leaves view old new (HasNone DiskFault said s (stand kept' t.steps)) s.history kept'
     none_torn kept same torn = record {
       pending = torn.next ∷ [];
       says_so = torn_stuck torn.next torn.rest near kept same torn.all_are;
-      disk = subst (λ (h : History). OnDisk images moment images_since old new s.history h (torn.next ∷ [])) (sym same) (disk_more images moment images_since old mid new s.history t.kept t.kept (torn.next ∷ []) first torn.disk);
+      disk = subst (λ (h : History). OnDisk view old new s.history h (torn.next ∷ [])) (sym same) (disk_more view old mid new s.history t.kept t.kept (torn.next ∷ []) first torn.disk);
     }
 
 -- ---- where commands are kept stays the same

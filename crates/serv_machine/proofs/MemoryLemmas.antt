@@ -14,6 +14,7 @@ use Rattle.serv_machine.specs.History.{History, Memory, Refused, by_judgement, d
 use Rattle.serv_machine.specs.Verdicts.{IsReplyBy, IsUnsaid}
 use Rattle.serv_machine.specs.OnDisk.{OnDisk}
 use Rattle.serv_machine.proofs.OnDiskLemmas.{alone}
+use Rattle.serv_disk.specs.Disks.{nothing_seen}
 
 abbrev pub in_memory : List Accepted → History
 in_memory h = record { commands = h; store = Memory }
@@ -47,7 +48,7 @@ unfolding decided
 memory_wanted h key c is = subst (λ j. IsUnsaid (by_judgement Memory h (accepted key c) j)) (sym is) tt
 
 -- no disk is touched
-nowhere : {D : Type 0} (d : D) (h h' list : List Accepted) → h' ≡ h ++ list → (IsHistory h → IsHistory h') → OnDisk {D = D} (λ _ _. ⊥) (λ _. 0) (λ _ _ _. ⊥) d d (in_memory h) (in_memory h') []
+nowhere : {D : Type 0} (d : D) (h h' list : List Accepted) → h' ≡ h ++ list → (IsHistory h → IsHistory h') → OnDisk {D = D} (λ _. nothing_seen) d d (in_memory h) (in_memory h') []
 nowhere d h h' list is next = record {
   list = list;
   accepted = is;
@@ -57,16 +58,16 @@ nowhere d h h' list is next = record {
   moments = record { later = omega arith; each = λ c left. absurd left; before = λ t c le left. absurd left };
 }
 
-pub memory_same : {D : Type 0} (d : D) (h h' : List Accepted) → h' ≡ h → OnDisk {D = D} (λ _ _. ⊥) (λ _. 0) (λ _ _ _. ⊥) d d (in_memory h) (in_memory h') []
+pub memory_same : {D : Type 0} (d : D) (h h' : List Accepted) → h' ≡ h → OnDisk {D = D} (λ _. nothing_seen) d d (in_memory h) (in_memory h') []
 memory_same d h h' is = nowhere d h h' [] (is ∙ sym (append-nil h)) (λ history. subst IsHistory (sym is) history)
 
 after_nowhere : {D : Type 0} (d : D) (h h' : List Accepted) (key : List ℕ) (c : Command) (said : Judgement) → h' ≡ judging.history_after h key c said
     → (said ≡ judging.Fresh → IsHistory h → IsHistory (h ++ accepted key c ∷ []))
-    → OnDisk {D = D} (λ _ _. ⊥) (λ _. 0) (λ _ _ _. ⊥) d d (in_memory h) (in_memory h') []
+    → OnDisk {D = D} (λ _. nothing_seen) d d (in_memory h) (in_memory h') []
 after_nowhere d h h' key c (judging.Kept kept) is next = memory_same d h h' is
 after_nowhere d h h' key c (judging.Refused why) is next = memory_same d h h' is
 after_nowhere d h h' key c judging.Fresh is next = nowhere d h h' (accepted key c ∷ []) is (λ history. subst IsHistory (sym is) (next refl history))
 
 pub memory_disk : {D : Type 0} (d : D) (h h' : List Accepted) (key : List ℕ) (c : Command) → h' ≡ judging.history_after h key c (judged h key c) → IsKey key → IsCommand c
-    → OnDisk {D = D} (λ _ _. ⊥) (λ _. 0) (λ _ _ _. ⊥) d d (in_memory h) (in_memory h') []
+    → OnDisk {D = D} (λ _. nothing_seen) d d (in_memory h) (in_memory h') []
 memory_disk d h h' key c is k formed = after_nowhere d h h' key c (judged h key c) is (λ fresh history. history_more h key c history k formed fresh)

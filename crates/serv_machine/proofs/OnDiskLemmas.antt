@@ -2,7 +2,7 @@
 use Rattle.std.proofs.Common.{◌≡◌, ℕ, List, [], ◌∷◌, ◌++◌, refl, sym, ap, subst, ◌∙◌, inl, inr, append_assoc, append-nil}
 use Rattle.svc_world.specs.World.{Accepted}
 use Rattle.svc_world.specs.Judging.{IsHistory}
-use Rattle.serv_disk.specs.Disks.{Each, LeavesOnly}
+use Rattle.serv_disk.specs.Disks.{Each, LeavesOnly, View}
 use Rattle.serv_disk.proofs.Moments.{started, weaker, joined}
 use Rattle.serv_engine.proofs.HistoryLines.{history_front}
 use Rattle.serv_machine.specs.History.{Store, History, in_store, with_command, with_commands}
@@ -51,26 +51,26 @@ history_before h (a ∷ list) is = history_front h a (history_before (h ++ a ∷
 
 -- ---- runs
 
-module _ {D : Type 0} (images : D → List ℕ → Type 0) (moment : D → ℕ) (images_since : D → ℕ → List ℕ → Type 0) where
+module _ {D : Type 0} (view : D → View) where
   -- no call of the disk
-  pub disk_none : (d : D) (h h' : History) → h' ≡ h → Each (images d) (HasHistory h) → ((c : List ℕ) → images_since d (moment d) c → images d c)
-      → OnDisk images moment images_since d d h h' []
+  pub disk_none : (d : D) (h h' : History) → h' ≡ h → Each (view d).images (HasHistory h) → ((c : List ℕ) → (view d).since (view d).moment c → (view d).images c)
+      → OnDisk view d d h h' []
   disk_none d h h' same each now = record {
     list = [];
     accepted = ap (λ (x : History). x.commands) same ∙ sym (append-nil h.commands);
     store = ap (λ (x : History). x.store) same;
     fresh = alone h.commands h'.commands (ap (λ (x : History). x.commands) same);
-    left = subst (λ x. Each (images d) (HasHistory x)) (sym same) each;
-    moments = started moment images_since d (HasHistory h) (λ c image. each c (now c image));
+    left = subst (λ x. Each (view d).images (HasHistory x)) (sym same) each;
+    moments = started view d (HasHistory h) (λ c image. each c (now c image));
   }
 
-  pub disk_same : (old new : D) (h h' : History) → new ≡ old → h' ≡ h → Each (images old) (HasHistory h) → ((c : List ℕ) → images_since old (moment old) c → images old c)
-      → OnDisk images moment images_since old new h h' []
-  disk_same old new h h' same is each now = subst (λ d. OnDisk images moment images_since old d h h' []) (sym same) (disk_none old h h' is each now)
+  pub disk_same : (old new : D) (h h' : History) → new ≡ old → h' ≡ h → Each (view old).images (HasHistory h) → ((c : List ℕ) → (view old).since (view old).moment c → (view old).images c)
+      → OnDisk view old new h h' []
+  disk_same old new h h' same is each now = subst (λ d. OnDisk view old d h h' []) (sym same) (disk_none old h h' is each now)
 
   -- a run, and another one after it
-  pub disk_more : (old mid new : D) (h h1 h2 : History) (pending : List Accepted) → OnDisk images moment images_since old mid h h1 [] → OnDisk images moment images_since mid new h1 h2 pending
-      → OnDisk images moment images_since old new h h2 pending
+  pub disk_more : (old mid new : D) (h h1 h2 : History) (pending : List Accepted) → OnDisk view old mid h h1 [] → OnDisk view mid new h1 h2 pending
+      → OnDisk view old new h h2 pending
   disk_more old mid new h h1 h2 pending first second =
       let all : List Accepted = first.list ++ second.list in
       let grouped : all ++ pending ≡ first.list ++ (second.list ++ pending) = append_assoc first.list second.list pending in
@@ -80,41 +80,41 @@ module _ {D : Type 0} (images : D → List ℕ → Type 0) (moment : D → ℕ) 
         store = second.store ∙ first.store;
         fresh = λ is. second.fresh (first.fresh is).0;
         left = second.left;
-        moments = joined moment images_since old mid new (IsAlong h (all ++ pending))
-            (weaker moment images_since old mid (IsAlong h (first.list ++ [])) (IsAlong h (all ++ pending)) first.moments
+        moments = joined view old mid new (IsAlong h (all ++ pending))
+            (weaker view old mid (IsAlong h (first.list ++ [])) (IsAlong h (all ++ pending)) first.moments
             (λ c along. subst (λ x. IsAlong h x c) (sym grouped) (along_more h first.list (second.list ++ pending) c (subst (λ x. IsAlong h x c) (append-nil first.list) along))))
-            (weaker moment images_since mid new (IsAlong h1 (second.list ++ pending)) (IsAlong h (all ++ pending)) second.moments
+            (weaker view mid new (IsAlong h1 (second.list ++ pending)) (IsAlong h (all ++ pending)) second.moments
             (λ c along. subst (λ x. IsAlong h x c) (sym grouped)
             (along_after h first.list (second.list ++ pending) c (subst (λ x. IsAlong x (second.list ++ pending) c) (history_is h h1 first.list first.accepted first.store) along))));
       }
 
   -- a command was being appended
-  pub disk_stopped : (old new : D) (h h' : History) (a : Accepted) → h' ≡ h → (IsHistory h.commands → IsHistory (h.commands ++ a ∷ [])) → Each (images new) (IsGoodWith h a) → LeavesOnly moment images_since old new (IsGoodWith h a)
-      → OnDisk images moment images_since old new h h' (a ∷ [])
+  pub disk_stopped : (old new : D) (h h' : History) (a : Accepted) → h' ≡ h → (IsHistory h.commands → IsHistory (h.commands ++ a ∷ [])) → Each (view new).images (IsGoodWith h a) → LeavesOnly view old new (IsGoodWith h a)
+      → OnDisk view old new h h' (a ∷ [])
   disk_stopped old new h h' a same fresh each run = record {
     list = [];
     accepted = ap (λ (x : History). x.commands) same ∙ sym (append-nil h.commands);
     store = ap (λ (x : History). x.store) same;
     fresh = λ is. (subst (λ (x : History). IsHistory x.commands) (sym same) is, subst (λ (x : History). IsHistory (x.commands ++ a ∷ [])) (sym same) (fresh is));
-    left = subst (λ x. Each (images new) (IsGoodWith x a)) (sym same) each;
-    moments = weaker moment images_since old new (IsGoodWith h a) (IsAlong h (a ∷ [])) run (λ c good. inl good);
+    left = subst (λ x. Each (view new).images (IsGoodWith x a)) (sym same) each;
+    moments = weaker view old new (IsGoodWith h a) (IsAlong h (a ∷ [])) run (λ c good. inl good);
   }
 
   -- commands that were begun are kept now
-  pub disk_kept : (old new : D) (h h' : History) (list : List Accepted) → h'.commands ≡ h.commands ++ list → h'.store ≡ h.store → IsHistory h'.commands → Each (images new) (HasHistory h') → LeavesOnly moment images_since old new (IsAlong h list)
-      → OnDisk images moment images_since old new h h' []
+  pub disk_kept : (old new : D) (h h' : History) (list : List Accepted) → h'.commands ≡ h.commands ++ list → h'.store ≡ h.store → IsHistory h'.commands → Each (view new).images (HasHistory h') → LeavesOnly view old new (IsAlong h list)
+      → OnDisk view old new h h' []
   disk_kept old new h h' list is store history each run = record {
     list = list;
     accepted = is;
     store = store;
     fresh = λ _. alone h'.commands h'.commands refl history;
     left = each;
-    moments = weaker moment images_since old new (IsAlong h list) (IsAlong h (list ++ [])) run (λ c along. subst (λ x. IsAlong h x c) (sym (append-nil list)) along);
+    moments = weaker view old new (IsAlong h list) (IsAlong h (list ++ [])) run (λ c along. subst (λ x. IsAlong h x c) (sym (append-nil list)) along);
   }
 
   -- the disk failed: the next command after those that are kept was perhaps being appended
-  pub disk_torn : (old new : D) (h all : History) (rest : List Accepted) (next : Accepted) → all.commands ≡ h.commands ++ next ∷ rest → IsHistory (h.commands ++ next ∷ []) → Each (images new) (IsGoodWith h next) → LeavesOnly moment images_since old new (IsGoodWith h next)
-      → IsTorn images moment images_since old new h all
+  pub disk_torn : (old new : D) (h all : History) (rest : List Accepted) (next : Accepted) → all.commands ≡ h.commands ++ next ∷ rest → IsHistory (h.commands ++ next ∷ []) → Each (view new).images (IsGoodWith h next) → LeavesOnly view old new (IsGoodWith h next)
+      → IsTorn view old new h all
   disk_torn old new h all rest next is history each run = record {
     next = next;
     rest = rest;

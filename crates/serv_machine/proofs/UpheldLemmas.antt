@@ -3,7 +3,7 @@ use Rattle.std.proofs.Common.{◌≡◌, ℕ, ◌+◌, ◌≤◌, List, [], ◌�
 use Rattle.std.specs.Prelude.{Option, Some}
 use Rattle.std.specs.Io.KnownBytes.{Appends}
 use Rattle.svc_world.specs.World.{Accepted}
-use Rattle.serv_disk.specs.Disks.{Each}
+use Rattle.serv_disk.specs.Disks.{Each, View}
 use Rattle.serv_disk.specs.Stamps.{Stamp, AreAt, Notes}
 use Rattle.serv_disk.proofs.NotedLemmas.{adds_nil, adds_trans, held_after}
 use Rattle.serv_machine.specs.History.{Store, History, in_store, with_commands}
@@ -32,18 +32,18 @@ commands_kept images h each = λ c image. commands_here h.commands h [] c (sym (
 
 -- ---- writes that are upheld
 
-pub upheld_none : (Covers : ℕ → List Accepted → Type 0) (moment : ℕ) (since : ℕ → List ℕ → Type 0) (now : History) (held : Option (List ℕ)) (log : Option (List Stamp))
-    → Upholds Covers moment since now held log log
-upheld_none Covers moment since now held log = λ s told. record { writes = []; noted = adds_nil log; each = tt }
+pub upheld_none : (Covers : ℕ → List Accepted → Type 0) (view : View) (now : History) (held : Option (List ℕ)) (log : Option (List Stamp))
+    → Upholds Covers view now held log log
+upheld_none Covers view now held log = λ s told. record { writes = []; noted = adds_nil log; each = tt }
 
-writes_both : (Covers : ℕ → List Accepted → Type 0) (moment : ℕ) (since : ℕ → List ℕ → Type 0) (now : History) (base : ℕ) (xs ys : List Stamp)
-    → AreUpheld Covers moment since now base xs → AreUpheld Covers moment since now base ys → AreUpheld Covers moment since now base (xs ++ ys)
-writes_both Covers moment since now base [] ys all more = more
-writes_both Covers moment since now base (x ∷ xs) ys all more = (all.0, writes_both Covers moment since now base xs ys all.1 more)
+writes_both : (Covers : ℕ → List Accepted → Type 0) (view : View) (now : History) (base : ℕ) (xs ys : List Stamp)
+    → AreUpheld Covers view now base xs → AreUpheld Covers view now base ys → AreUpheld Covers view now base (xs ++ ys)
+writes_both Covers view now base [] ys all more = more
+writes_both Covers view now base (x ∷ xs) ys all more = (all.0, writes_both Covers view now base xs ys all.1 more)
 
 -- of more requests these are the first too
-module _ (Covers Wider : ℕ → List Accepted → Type 0) (moment : ℕ) (since : ℕ → List ℕ → Type 0) (now : History) (then : (bytes : ℕ) (commands : List Accepted) → Covers bytes commands → Wider bytes commands) where
-  writes_wider : (base : ℕ) (writes : List Stamp) → AreUpheld Covers moment since now base writes → AreUpheld Wider moment since now base writes
+module _ (Covers Wider : ℕ → List Accepted → Type 0) (view : View) (now : History) (then : (bytes : ℕ) (commands : List Accepted) → Covers bytes commands → Wider bytes commands) where
+  writes_wider : (base : ℕ) (writes : List Stamp) → AreUpheld Covers view now base writes → AreUpheld Wider view now base writes
   writes_wider base [] all = tt
   writes_wider base (w ∷ writes) all =
       let is = all.0 in (
@@ -51,13 +51,13 @@ module _ (Covers Wider : ℕ → List Accepted → Type 0) (moment : ℕ) (since
         writes_wider base writes all.1,
       )
 
-  pub upheld_wider : (held : Option (List ℕ)) (log log' : Option (List Stamp)) → Upholds Covers moment since now held log log' → Upholds Wider moment since now held log log'
+  pub upheld_wider : (held : Option (List ℕ)) (log log' : Option (List Stamp)) → Upholds Covers view now held log log' → Upholds Wider view now held log log'
   upheld_wider held log log' up = λ s told. let all = up s told in record { writes = all.writes; noted = all.noted; each = writes_wider (length s) all.writes all.each }
 
 -- the disk's calls go on
-module _ {D : Type 0} (images : D → List ℕ → Type 0) (moment : D → ℕ) (images_since : D → ℕ → List ℕ → Type 0) (old new : D) (now now' : History) (pending : List Accepted)
-    (disk : OnDisk images moment images_since old new now now' pending) (Covers : ℕ → List Accepted → Type 0) where
-  write_later : (base : ℕ) (w : Stamp) → IsUpheld Covers (moment old) (images_since old) now base w → IsUpheld Covers (moment new) (images_since new) now' base w
+module _ {D : Type 0} (view : D → View) (old new : D) (now now' : History) (pending : List Accepted)
+    (disk : OnDisk view old new now now' pending) (Covers : ℕ → List Accepted → Type 0) where
+  write_later : (base : ℕ) (w : Stamp) → IsUpheld Covers (view old) now base w → IsUpheld Covers (view new) now' base w
   write_later base w is =
       let more : List Accepted = disk.list ++ pending in
       record {
@@ -76,17 +76,17 @@ module _ {D : Type 0} (images : D → List ℕ → Type 0) (moment : D → ℕ) 
         now_is = disk.accepted ∙ ap (λ x. x ++ disk.list) is.now_is ∙ append_assoc is.commands is.rest disk.list;
       }
 
-  writes_later : (base : ℕ) (writes : List Stamp) → AreUpheld Covers (moment old) (images_since old) now base writes → AreUpheld Covers (moment new) (images_since new) now' base writes
+  writes_later : (base : ℕ) (writes : List Stamp) → AreUpheld Covers (view old) now base writes → AreUpheld Covers (view new) now' base writes
   writes_later base [] all = tt
   writes_later base (w ∷ writes) all = (write_later base w all.0, writes_later base writes all.1)
 
-  pub upheld_later : (held : Option (List ℕ)) (log log' : Option (List Stamp)) → Upholds Covers (moment old) (images_since old) now held log log' → Upholds Covers (moment new) (images_since new) now' held log log'
+  pub upheld_later : (held : Option (List ℕ)) (log log' : Option (List Stamp)) → Upholds Covers (view old) now held log log' → Upholds Covers (view new) now' held log log'
   upheld_later held log log' up = λ s told. let all = up s told in record { writes = all.writes; noted = all.noted; each = writes_later (length s) all.writes all.each }
 
 -- replies are written while the disk is as it is
-module _ {D : Type 0} (images : D → List ℕ → Type 0) (moment : D → ℕ) (images_since : D → ℕ → List ℕ → Type 0) (d : D) (only : (c : List ℕ) → images_since d (moment d) c → images d c)
-    (Covers : ℕ → List Accepted → Type 0) (now : History) (commands rest : List Accepted) (now_is : now.commands ≡ commands ++ rest) (has : Each (images d) (HasCommands (in_store now.store commands))) (bytes : ℕ) (covers : Covers bytes commands) where
-  writes_now : (base most : ℕ) → most ≤ base + bytes → (writes : List Stamp) → AreAt (moment d) most writes → AreUpheld Covers (moment d) (images_since d) now base writes
+module _ {D : Type 0} (view : D → View) (d : D) (only : (c : List ℕ) → (view d).since (view d).moment c → (view d).images c)
+    (Covers : ℕ → List Accepted → Type 0) (now : History) (commands rest : List Accepted) (now_is : now.commands ≡ commands ++ rest) (has : Each (view d).images (HasCommands (in_store now.store commands))) (bytes : ℕ) (covers : Covers bytes commands) where
+  writes_now : (base most : ℕ) → most ≤ base + bytes → (writes : List Stamp) → AreAt (view d).moment most writes → AreUpheld Covers (view d) now base writes
   writes_now base most small [] all = tt
   writes_now base most small (w ∷ writes) all = (
     record {
@@ -94,7 +94,7 @@ module _ {D : Type 0} (images : D → List ℕ → Type 0) (moment : D → ℕ) 
       commands = commands;
       covers = covers;
       within = omega (arith, small, all.1);
-      kept = λ c left. has c (only c (subst (λ t. images_since d t c) all.0 left));
+      kept = λ c left. has c (only c (subst (λ t. (view d).since t c) all.0 left));
       past = omega (arith, all.0);
       rest = rest;
       now_is = now_is;
@@ -102,18 +102,18 @@ module _ {D : Type 0} (images : D → List ℕ → Type 0) (moment : D → ℕ) 
     writes_now base most small writes all.2,
   )
 
-  from_noted : (base most : ℕ) → most ≤ base + bytes → (log log' log'' : Option (List Stamp)) → UpholdsFrom Covers (moment d) (images_since d) now base log log'
-      → Notes (moment d) most log' log'' → UpholdsFrom Covers (moment d) (images_since d) now base log log''
+  from_noted : (base most : ℕ) → most ≤ base + bytes → (log log' log'' : Option (List Stamp)) → UpholdsFrom Covers (view d) now base log log'
+      → Notes (view d).moment most log' log'' → UpholdsFrom Covers (view d) now base log log''
   from_noted base most small log log' log'' up notes = record {
     writes = up.writes ++ notes.stamps;
     noted = adds_trans log log' log'' up.writes notes.stamps up.noted notes.added;
-    each = writes_both Covers (moment d) (images_since d) now base up.writes notes.stamps up.each (writes_now base most small notes.stamps notes.each);
+    each = writes_both Covers (view d) now base up.writes notes.stamps up.each (writes_now base most small notes.stamps notes.each);
   }
 
   -- after what was written before, a text that ends within the replies
   pub upheld_written : (held held' : Option (List ℕ)) (written text : List ℕ) (log log' log'' : Option (List Stamp)) → Appends held held' written → length written + length text ≤ bytes
-      → Upholds Covers (moment d) (images_since d) now held log log' → ((x : List ℕ) → held' ≡ Some x → Notes (moment d) (length x + length text) log' log'')
-      → Upholds Covers (moment d) (images_since d) now held log log''
+      → Upholds Covers (view d) now held log log' → ((x : List ℕ) → held' ≡ Some x → Notes (view d).moment (length x + length text) log' log'')
+      → Upholds Covers (view d) now held log log''
   upheld_written held held' written text log log' log'' wrote small up notes = λ s told.
       let most : ℕ = length (s ++ written) + length text in
       let front = length-append s written in
@@ -123,9 +123,9 @@ module _ {D : Type 0} (images : D → List ℕ → Type 0) (moment : D → ℕ) 
 -- ---- a run after another one
 
 -- others are written by a run that began where these ended
-module _ (First Second Covers : ℕ → List Accepted → Type 0) (moment : ℕ) (since : ℕ → List ℕ → Type 0) (now : History) (written : List ℕ)
+module _ (First Second Covers : ℕ → List Accepted → Type 0) (view : View) (now : History) (written : List ℕ)
     (here : (bytes : ℕ) (commands : List Accepted) → First bytes commands → Covers bytes commands) (then : (bytes : ℕ) (commands : List Accepted) → Second bytes commands → Covers (length written + bytes) commands) where
-  writes_then : (s : List ℕ) (writes : List Stamp) → AreUpheld Second moment since now (length (s ++ written)) writes → AreUpheld Covers moment since now (length s) writes
+  writes_then : (s : List ℕ) (writes : List Stamp) → AreUpheld Second view now (length (s ++ written)) writes → AreUpheld Covers view now (length s) writes
   writes_then s [] all = tt
   writes_then s (w ∷ writes) all =
       let is = all.0 in
@@ -143,13 +143,13 @@ module _ (First Second Covers : ℕ → List Accepted → Type 0) (moment : ℕ)
         writes_then s writes all.1,
       )
 
-  pub upheld_then : (held held' : Option (List ℕ)) (log log' log'' : Option (List Stamp)) → Appends held held' written → Upholds First moment since now held log log' → Upholds Second moment since now held' log' log''
-      → Upholds Covers moment since now held log log''
+  pub upheld_then : (held held' : Option (List ℕ)) (log log' log'' : Option (List Stamp)) → Appends held held' written → Upholds First view now held log log' → Upholds Second view now held' log' log''
+      → Upholds Covers view now held log log''
   upheld_then held held' log log' log'' wrote first second = λ s told.
-      let before = upheld_wider First Covers moment since now here held log log' first s told in
+      let before = upheld_wider First Covers view now here held log log' first s told in
       let after = second (s ++ written) (held_after held held' s written told wrote) in
       record {
         writes = before.writes ++ after.writes;
         noted = adds_trans log log' log'' before.writes after.writes before.noted after.noted;
-        each = writes_both Covers moment since now (length s) before.writes after.writes before.each (writes_then s after.writes after.each);
+        each = writes_both Covers view now (length s) before.writes after.writes before.each (writes_then s after.writes after.each);
       }

@@ -9,6 +9,7 @@ use Rattle.serv_machine.specs.declared.faults.Stop.TheVariants.{WriteFault, Disk
 use Rattle.serv_machine.specs.History.{History, IsKeptBut, Stand, Running, Stays, stand}
 use Rattle.serv_machine.specs.OnDisk.{OnDisk}
 use Rattle.serv_machine.specs.Sayings.{Saying, AreFirst, reply_to, history_after, bound_of, IsFresh, history_after_all, replies_to, MovesAll, Starves, Sticks}
+use Rattle.serv_disk.specs.Disks.{View}
 
 -- ---- what is written
 
@@ -67,12 +68,12 @@ pub record AreReplies (Whole : List Saying → Type 0) (h : History) (bytes : �
 
 -- ---- with what is left on a disk
 
-module _ {D : Type 0} (images : D → List ℕ → Type 0) (moment : D → ℕ) (images_since : D → ℕ → List ℕ → Type 0) (old new : D) where
+module _ {D : Type 0} (view : D → View) (old new : D) where
   -- this is said of the command that was being appended, which is the one of the disk
   pub record Leaves (says : List Accepted → Type 0) (h h' : History) : Type 0 where
     pub pending : List Accepted
     pub says_so : says pending
-    pub disk : OnDisk images moment images_since old new h h' pending
+    pub disk : OnDisk view old new h h' pending
 
   -- and of what is written to a sink too
   pub record Writes (says : List Accepted → List ℕ → Type 0) (h h' : History) (held held' : Option (List ℕ)) : Type 0 where
@@ -80,7 +81,7 @@ module _ {D : Type 0} (images : D → List ℕ → Type 0) (moment : D → ℕ) 
     pub written : List ℕ
     pub wrote : Appends held held' written
     pub says_so : says pending written
-    pub disk : OnDisk images moment images_since old new h h' pending
+    pub disk : OnDisk view old new h h' pending
 
 -- ---- replies that are gathered
 

@@ -41,9 +41,9 @@ pub fn answer_request<D: Disk, M: Machine<D>, L: Ledger>(
     ensures stopped { result ≡ Err Halt.DiskFault → (M.kept machine.new ≡ M.history machine.old)
         × HasRisen (D.faults disk.old) (D.faults disk.new) }
     ensures appending { result ≡ Err Halt.DiskFault → IsAppending (M.history machine.old) request.now }
-    ensures disk { result ≢ Err Halt.DiskFault → OnDisk D.images D.moment D.images_since disk.old disk.new
+    ensures disk { result ≢ Err Halt.DiskFault → OnDisk D.view disk.old disk.new
         (M.history machine.old) (M.kept machine.new) [] }
-    ensures torn { result ≡ Err Halt.DiskFault → OnDisk D.images D.moment D.images_since disk.old disk.new
+    ensures torn { result ≡ Err Halt.DiskFault → OnDisk D.view disk.old disk.new
         (M.history machine.old) (M.history machine.old) (commands_in request.now) }
     ensures running { result ≢ Err Halt.DiskFault → M.running machine.new disk.new }
     ensures failed { result ≡ Err Halt.DiskFault → M.failed machine.new }
@@ -85,9 +85,9 @@ fn answer_command<D: Disk, M: Machine<D>, L: Ledger>(
     ensures stopped { result ≡ Err Halt.DiskFault → (M.kept machine.new ≡ M.history machine.old)
         × HasRisen (D.faults disk.old) (D.faults disk.new) }
     ensures appending { result ≡ Err Halt.DiskFault → IsAppending (M.history machine.old) (request.Do key.now command.now) }
-    ensures disk { result ≢ Err Halt.DiskFault → OnDisk D.images D.moment D.images_since disk.old disk.new
+    ensures disk { result ≢ Err Halt.DiskFault → OnDisk D.view disk.old disk.new
         (M.history machine.old) (M.kept machine.new) [] }
-    ensures torn { result ≡ Err Halt.DiskFault → OnDisk D.images D.moment D.images_since disk.old disk.new
+    ensures torn { result ≡ Err Halt.DiskFault → OnDisk D.view disk.old disk.new
         (M.history machine.old) (M.history machine.old) (commands_in (request.Do key.now command.now)) }
     ensures running { result ≢ Err Halt.DiskFault → M.running machine.new disk.new }
     ensures failed { result ≡ Err Halt.DiskFault → M.failed machine.new }
@@ -151,9 +151,9 @@ pub fn decide<D: Disk, M: Machine<D>, L: Ledger>(
         × (M.kept machine.new ≡ M.history machine.old)) }
     ensures stopped { result ≡ Err Halt.DiskFault → HasRisen (D.faults disk.old) (D.faults disk.new) }
     ensures appending { result ≡ Err Halt.DiskFault → IsAppending (M.history machine.old) request.now }
-    ensures disk { result ≢ Err Halt.DiskFault → OnDisk D.images D.moment D.images_since disk.old disk.new
+    ensures disk { result ≢ Err Halt.DiskFault → OnDisk D.view disk.old disk.new
         (M.history machine.old) (M.kept machine.new) [] }
-    ensures torn { result ≡ Err Halt.DiskFault → OnDisk D.images D.moment D.images_since disk.old disk.new
+    ensures torn { result ≡ Err Halt.DiskFault → OnDisk D.view disk.old disk.new
         (M.history machine.old) (M.history machine.old) (commands_in request.now) }
     ensures running { result ≢ Err Halt.DiskFault → M.running machine.new disk.new }
     ensures failed { result ≡ Err Halt.DiskFault → M.failed machine.new }
@@ -193,11 +193,10 @@ fn decide_command<D: Disk, M: Machine<D>, L: Ledger>(
     ensures stopped { result ≡ Err Halt.DiskFault → HasRisen (D.faults disk.old) (D.faults disk.new) }
     ensures appending { result ≡ Err Halt.DiskFault
         → IsAppending (M.history machine.old) (request.Do key.now command.now) }
-    ensures disk { result ≢ Err Halt.DiskFault → OnDisk D.images D.moment D.images_since disk.old disk.new
+    ensures disk { result ≢ Err Halt.DiskFault → OnDisk D.view disk.old disk.new
         (M.history machine.old) (M.kept machine.new) [] }
-    ensures torn { result ≡ Err Halt.DiskFault → OnDisk D.images D.moment D.images_since disk.old disk.new
-        (M.history machine.old) (M.history machine.old)
-        (commands_in (request.Do key.now command.now)) }
+    ensures torn { result ≡ Err Halt.DiskFault → OnDisk D.view disk.old disk.new
+        (M.history machine.old) (M.history machine.old) (commands_in (request.Do key.now command.now)) }
     ensures running { result ≢ Err Halt.DiskFault → M.running machine.new disk.new }
     ensures failed { result ≡ Err Halt.DiskFault → M.failed machine.new }
     ensures faults { D.faults disk.old ≤ D.faults disk.new }

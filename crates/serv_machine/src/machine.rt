@@ -62,9 +62,9 @@ pub trait Machine<D: Disk> {
             (history self.old) (history self.new) (kept self.new)) }
         ensures same { OnErr result ((history self.new ≡ history self.old) × (kept self.new ≡ history self.old)) }
         // What a crash leaves, now and at each moment: the kept commands; after a fault of the disk perhaps this one too.
-        ensures disk { result ≢ Err ActFault.DiskFault → OnDisk D.images D.moment D.images_since disk.old disk.new
+        ensures disk { result ≢ Err ActFault.DiskFault → OnDisk D.view disk.old disk.new
             (history self.old) (kept self.new) [] }
-        ensures torn { result ≡ Err ActFault.DiskFault → OnDisk D.images D.moment D.images_since disk.old disk.new
+        ensures torn { result ≡ Err ActFault.DiskFault → OnDisk D.view disk.old disk.new
             (history self.old) (history self.old) (accepted key.now command.now ∷ []) }
         ensures running { result ≢ Err ActFault.DiskFault → running self.new disk.new }
         ensures failed { result ≡ Err ActFault.DiskFault → failed self.new }
@@ -79,10 +79,8 @@ pub trait Machine<D: Disk> {
         requires running { running self.old disk.old }
         ensures history { history self.new ≡ history self.old }
         ensures same { OnErr result (kept self.new ≡ kept self.old) }
-        ensures disk { OnOk result (OnDisk D.images D.moment D.images_since disk.old disk.new
-            (kept self.old) (history self.old) []) }
-        ensures torn { OnErr result (IsTorn D.images D.moment D.images_since disk.old disk.new
-            (kept self.old) (history self.old)) }
+        ensures disk { OnOk result (OnDisk D.view disk.old disk.new (kept self.old) (history self.old) []) }
+        ensures torn { OnErr result (IsTorn D.view disk.old disk.new (kept self.old) (history self.old)) }
         ensures ready { OnOk result (ready self.new disk.new) }
         ensures failed { OnErr result (failed self.new) }
         ensures cause { HasCause (D.faults disk.old) (D.faults disk.new) result };
@@ -98,10 +96,10 @@ pub trait Machine<D: Disk> {
         ensures steps { steps.new ≤ steps.old + query_bound (world (history self.now).commands) query.now };
 
     /// Each image of a disk has the history.
-    ghost keeps: { (m : Self) (d : D) → ready m d → Each (D.images d) (HasHistory (history m)) };
+    ghost keeps: { (m : Self) (d : D) → ready m d → Each (D.view d).images (HasHistory (history m)) };
 
     /// While it runs, each image has what it keeps; one that is ready runs, and keeps its history.
-    ghost keeps_running: { (m : Self) (d : D) → running m d → Each (D.images d) (HasHistory (kept m)) };
+    ghost keeps_running: { (m : Self) (d : D) → running m d → Each (D.view d).images (HasHistory (kept m)) };
 
     ghost settled: { (m : Self) (d : D) → ready m d → running m d × (kept m ≡ history m) };
 }

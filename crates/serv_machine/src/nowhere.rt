@@ -7,16 +7,10 @@ use serv_disk::{Disk, Failed};
 pub struct Nowhere;
 
 impl Disk for Nowhere {
-    ghost use Rattle.std.specs.Prelude.{None};
     ghost use Rattle.serv_disk.specs.DiskLaws.{untold};
+    ghost use Rattle.serv_disk.specs.Disks.{nothing_seen};
 
-    ghost seen = { λ _. None };
-
-    ghost images = { λ _ _. ⊥ };
-
-    ghost moment = { λ _. 0 };
-
-    ghost images_since = { λ _ _ _. ⊥ };
+    ghost view = { λ _. nothing_seen };
 
     ghost faults = { λ _. 0 };
 

@@ -38,11 +38,11 @@ impl<D: Disk, B: Frugal> Machine<D> for Engine<B> {
 
     ghost history = { history_of };
 
-    ghost ready = { λ e d. (e.journal.spent ≡ false) × (e.journal.version ≡ Two) × IsDurable (D.images d) e };
+    ghost ready = { λ e d. (e.journal.spent ≡ false) × (e.journal.version ≡ Two) × IsDurable (D.view d).images e };
 
     ghost kept = { kept_history };
 
-    ghost running = { λ e d. (e.journal.spent ≡ false) × (e.journal.version ≡ Two) × IsRunning (D.images d) e };
+    ghost running = { λ e d. (e.journal.spent ≡ false) × (e.journal.version ≡ Two) × IsRunning (D.view d).images e };
 
     ghost failed = { λ e. e.journal.spent ≡ true };
 
@@ -75,9 +75,9 @@ impl<D: Disk, B: Frugal> Machine<D> for Engine<B> {
         core.ask(query, steps)
     }
 
-    ghost keeps = { λ e d is. durable_whole (D.images d) e is.1 is.2 };
+    ghost keeps = { λ e d is. durable_whole (D.view d).images e is.1 is.2 };
 
-    ghost keeps_running = { λ e d is. running_whole (D.images d) e is.1 is.2 };
+    ghost keeps_running = { λ e d is. running_whole (D.view d).images e is.1 is.2 };
 
-    ghost settled = { λ e d is. ((is.0, is.1, durable_running (D.images d) e is.2), durable_kept (D.images d) e is.2) };
+    ghost settled = { λ e d is. ((is.0, is.1, durable_running (D.view d).images e is.2), durable_kept (D.view d).images e is.2) };
 }

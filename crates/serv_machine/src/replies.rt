@@ -62,7 +62,7 @@ impl Replies {
             → Gathered self.old.waiting before s
             (running (M.history machine.old) (M.kept machine.old) steps.old) held (K.held snk.old)
             self.old.text.items
-            → IfErr result (λ why. Writes D.images D.moment D.images_since disk.old disk.new
+            → IfErr result (λ why. Writes D.view disk.old disk.new
             (IsStopped why (AreFirst (λ saids. saids ≡ before ++ S.saying said.now ∷ [])) self.old.waiting s
             (stand (M.kept machine.new) steps.new))
             (M.kept machine.old) (M.kept machine.new) held (K.held snk.new)) }
@@ -71,9 +71,9 @@ impl Replies {
             → Gathered self.old.waiting before s
             (running (M.history machine.old) (M.kept machine.old) steps.old) held (K.held snk.old)
             self.old.text.items
-            → Upholds (AreReplies (λ saids. saids ≡ before ++ S.saying said.now ∷ []) s.history) (D.moment disk.new)
-            (D.images_since disk.new) (M.kept machine.new) held (K.log snk.old) (K.log snk.new) }
-        ensures disk { OnOk result (OnDisk D.images D.moment D.images_since disk.old disk.new
+            → Upholds (AreReplies (λ saids. saids ≡ before ++ S.saying said.now ∷ []) s.history)
+            (D.view disk.new) (M.kept machine.new) held (K.log snk.old) (K.log snk.new) }
+        ensures disk { OnOk result (OnDisk D.view disk.old disk.new
             (M.kept machine.old) (M.kept machine.new) []) }
         ensures running { OnOk result (M.running machine.new disk.new) }
         ensures waiting { self.new.waiting ≡ self.old.waiting }
@@ -109,17 +109,17 @@ impl Replies {
         ensures stopped { (said : List Saying) (s : Stand) (steps : ℕ) (held : Option (List ℕ))
             → Gathered self.old.waiting said s (running (M.history machine.old) (M.kept machine.old) steps)
             held (K.held snk.old) self.old.text.items
-            → IfErr result (λ why. Writes D.images D.moment D.images_since disk.old disk.new
+            → IfErr result (λ why. Writes D.view disk.old disk.new
             (IsStopped why (λ done ahead. said ≡ done ++ ahead) self.old.waiting s
             (stand (M.kept machine.new) steps))
             (M.kept machine.old) (M.kept machine.new) held (K.held snk.new)) }
         ensures upheld { (said : List Saying) (s : Stand) (steps : ℕ) (held : Option (List ℕ))
             → Gathered self.old.waiting said s (running (M.history machine.old) (M.kept machine.old) steps)
             held (K.held snk.old) self.old.text.items
-            → Upholds (AreReplies (λ saids. saids ≡ said) s.history) (D.moment disk.new) (D.images_since disk.new)
+            → Upholds (AreReplies (λ saids. saids ≡ said) s.history) (D.view disk.new)
             (M.kept machine.new) held (K.log snk.old) (K.log snk.new) }
         ensures few { OnOk result (length self.new.text.items ≤ most) }
-        ensures disk { OnOk result (OnDisk D.images D.moment D.images_since disk.old disk.new
+        ensures disk { OnOk result (OnDisk D.view disk.old disk.new
             (M.kept machine.old) (M.kept machine.new) []) }
         ensures settled { OnOk result (M.ready machine.new disk.new) }
         ensures ready { result ≢ Err Stop.DiskFault → M.ready machine.new disk.new }
@@ -165,7 +165,7 @@ impl Replies {
             → Gathered self.old.waiting before s
             (running (M.history machine.old) (M.kept machine.old) steps.old) held (K.held snk.old)
             self.old.text.items
-            → IfErr result (λ why. Writes D.images D.moment D.images_since disk.old disk.new
+            → IfErr result (λ why. Writes D.view disk.old disk.new
             (IsStopped why (λ done ahead. (done ≡ before) × (ahead ≡ S.saying said.now ∷ [])) self.old.waiting s
             (stand (M.kept machine.new) steps.new))
             (M.kept machine.old) (M.kept machine.new) held (K.held snk.new)) }
@@ -173,9 +173,9 @@ impl Replies {
             → Gathered self.old.waiting before s
             (running (M.history machine.old) (M.kept machine.old) steps.old) held (K.held snk.old)
             self.old.text.items
-            → Upholds (AreReplies (λ saids. saids ≡ before) s.history) (D.moment disk.new)
-            (D.images_since disk.new) (M.kept machine.new) held (K.log snk.old) (K.log snk.new) }
-        ensures disk { OnOk result (OnDisk D.images D.moment D.images_since disk.old disk.new
+            → Upholds (AreReplies (λ saids. saids ≡ before) s.history) (D.view disk.new)
+            (M.kept machine.new) held (K.log snk.old) (K.log snk.new) }
+        ensures disk { OnOk result (OnDisk D.view disk.old disk.new
             (M.kept machine.old) (M.kept machine.new) []) }
         ensures running { OnOk result (M.running machine.new disk.new) }
         ensures ready { result ≡ Err Stop.OutOfMemory → M.ready machine.new disk.new }
@@ -210,11 +210,11 @@ impl Replies {
             (running (M.history machine.old) (M.kept machine.old) steps.old)
             (running (M.history machine.new) (M.kept machine.new) steps.new)
             self.old.text.items self.new.text.items) }
-        ensures none { IfErr result (λ why. Leaves D.images D.moment D.images_since disk.old disk.new
+        ensures none { IfErr result (λ why. Leaves D.view disk.old disk.new
             (HasNone why (S.saying said.now) (stand (M.history machine.old) steps.old)
             (stand (M.kept machine.new) steps.new)) (M.history machine.old) (M.kept machine.new)) }
         ensures same { OnErr result (self.new.text.items ≡ self.old.text.items) }
-        ensures disk { OnOk result (OnDisk D.images D.moment D.images_since disk.old disk.new
+        ensures disk { OnOk result (OnDisk D.view disk.old disk.new
             (M.history machine.old) (M.kept machine.new) []) }
         ensures running { OnOk result (M.running machine.new disk.new) }
         ensures ready { result ≡ Err Stop.OutOfMemory → M.ready machine.new disk.new }
@@ -246,7 +246,7 @@ impl Replies {
             self.old.text.items self.new.text.items) }
         ensures few { OnOk result (length self.new.text.items ≤ most) }
         ensures part { OnErr result (AppendsPart (K.held snk.old) (K.held snk.new) self.old.text.items) }
-        ensures noted { (s : List ℕ) → K.held snk.old ≡ Some s → Notes (D.moment disk.now)
+        ensures noted { (s : List ℕ) → K.held snk.old ≡ Some s → Notes (D.view disk.now).moment
             (length s + length self.old.text.items) (K.log snk.old) (K.log snk.new) }
         ensures waiting { self.new.waiting ≡ self.old.waiting }
         ensures cause { HasCause (K.faults snk.old) (K.faults snk.new) result }
@@ -265,7 +265,7 @@ impl Replies {
         ensures empty { OnOk result (self.new.text.items ≡ []) }
         ensures part { OnErr result (AppendsPart (K.held snk.old) (K.held snk.new) self.old.text.items) }
         ensures front { (left : List ℕ) × IsWrittenBut (K.held snk.old) (K.held snk.new) self.old.text.items left }
-        ensures noted { (s : List ℕ) → K.held snk.old ≡ Some s → Notes (D.moment disk.now)
+        ensures noted { (s : List ℕ) → K.held snk.old ≡ Some s → Notes (D.view disk.now).moment
             (length s + length self.old.text.items) (K.log snk.old) (K.log snk.new) }
         ensures waiting { self.new.waiting ≡ self.old.waiting }
         ensures cause { HasCause (K.faults snk.old) (K.faults snk.new) result }

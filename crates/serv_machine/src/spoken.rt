@@ -50,9 +50,9 @@ pub trait Spoken {
         ensures stopped { result ≡ Err Halt.DiskFault → (M.kept machine.new ≡ M.history machine.old)
             × HasRisen (D.faults disk.old) (D.faults disk.new) }
         ensures appending { result ≡ Err Halt.DiskFault → IsFresh (M.history machine.old) (saying self.now) }
-        ensures disk { result ≢ Err Halt.DiskFault → OnDisk D.images D.moment D.images_since disk.old disk.new
+        ensures disk { result ≢ Err Halt.DiskFault → OnDisk D.view disk.old disk.new
             (M.history machine.old) (M.kept machine.new) [] }
-        ensures torn { result ≡ Err Halt.DiskFault → OnDisk D.images D.moment D.images_since disk.old disk.new
+        ensures torn { result ≡ Err Halt.DiskFault → OnDisk D.view disk.old disk.new
             (M.history machine.old) (M.history machine.old) (commands_of (saying self.now)) }
         ensures running { result ≢ Err Halt.DiskFault → M.running machine.new disk.new }
         ensures failed { result ≡ Err Halt.DiskFault → M.failed machine.new }

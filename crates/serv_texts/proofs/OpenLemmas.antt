@@ -3,7 +3,7 @@ use Rattle.std.proofs.Common.{◌≡◌, ◌⊎◌, ℕ, ◌+◌, ◌-◌, ◌�
 use Rattle.std.specs.Prelude.{Option, Some}
 use Rattle.svc_world.specs.World.{Accepted}
 use Rattle.svc_world.specs.Judging.{IsHistory}
-use Rattle.serv_disk.specs.Disks.{Each}
+use Rattle.serv_disk.specs.Disks.{Each, View}
 use Rattle.serv_journal.specs.declared.format.Version.TheVariants.{Two}
 use Rattle.serv_engine.specs.declared.fault.EngineFault.{EngineFault}
 use Rattle.serv_engine.specs.declared.fault.EngineFault.TheVariants as fault
@@ -16,21 +16,21 @@ use Rattle.serv_machine.proofs.EngineLemmas.{long_enough}
 use Rattle.serv_texts.specs.Status.{status_of_fault}
 use Rattle.serv_texts.specs.Journal.{KeepsGood, IsCause, IsOnly, IsOpened, journal_limit}
 
-pub opened : {D : Type 0} (seen : D → Option (List ℕ)) (images : D → List ℕ → Type 0) (moment : D → ℕ) (images_since : D → ℕ → List ℕ → Type 0) (old mid : D) (e : EngineState) (steps begun : ℕ)
-    → IsHistory e.history → ((s : List ℕ) → seen old ≡ Some s → IsFound journal_limit e.journal.size e.history s)
-    → KeepsGood seen images moment images_since old mid
-    → ((s : List ℕ) → seen old ≡ Some s → (h : List Accepted) (a : Accepted) → IsHistory (h ++ a ∷ []) → Each (images old) (IsGoodFound h a) → (e.history ≡ h) ⊎ (e.history ≡ h ++ a ∷ []))
-    → IsDurable (images mid) e → e.journal.version ≡ Two → begun ≤ steps + history_bound [] e.history
-    → IsOpened seen images moment images_since old mid steps begun (e.journal.size - lengths_of e.history) e.history
-opened seen images moment images_since old mid e steps begun is_history found good either durable version cost =
-    let b = journal_base (images mid) e durable version in
+pub opened : {D : Type 0} (view : D → View) (old mid : D) (e : EngineState) (steps begun : ℕ)
+    → IsHistory e.history → ((s : List ℕ) → (view old).seen ≡ Some s → IsFound journal_limit e.journal.size e.history s)
+    → KeepsGood view old mid
+    → ((s : List ℕ) → (view old).seen ≡ Some s → (h : List Accepted) (a : Accepted) → IsHistory (h ++ a ∷ []) → Each (view old).images (IsGoodFound h a) → (e.history ≡ h) ⊎ (e.history ≡ h ++ a ∷ []))
+    → IsDurable (view mid).images e → e.journal.version ≡ Two → begun ≤ steps + history_bound [] e.history
+    → IsOpened view old mid steps begun (e.journal.size - lengths_of e.history) e.history
+opened view old mid e steps begun is_history found good either durable version cost =
+    let b = journal_base (view mid).images e durable version in
     let back : e.journal.size ≡ (e.journal.size - lengths_of e.history) + lengths_of e.history = omega (arith, long_enough e b.0 b.1) in
     record {
       is_history = is_history;
       found = λ s told. subst (λ n. IsFound journal_limit n e.history s) back (found s told);
       good = good;
       either = either;
-      whole = λ c image. let is = durable_whole (images mid) e version durable c image in record { whole = is.whole; form = is.form };
+      whole = λ c image. let is = durable_whole (view mid).images e version durable c image in record { whole = is.whole; form = is.form };
       cost = cost;
     }
 

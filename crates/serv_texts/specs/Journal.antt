@@ -2,7 +2,7 @@
 use Rattle.std.specs.Prelude.{◌≡◌, ◌⊎◌, ℕ, ◌+◌, ◌^◌, ◌<◌, ◌≤◌, List, [], ◌∷◌, ◌++◌, length, Option, Some, ⊤}
 use Rattle.svc_world.specs.World.{Accepted}
 use Rattle.svc_world.specs.Judging.{IsHistory}
-use Rattle.serv_disk.specs.Disks.{Each, LeavesOnly}
+use Rattle.serv_disk.specs.Disks.{Each, LeavesOnly, View}
 use Rattle.serv_disk.specs.Faults.{HasRisen}
 use Rattle.serv_journal.specs.Reading.{IsNoJournal}
 use Rattle.serv_engine.specs.Histories.{IsGoodFound, lengths_of}
@@ -18,19 +18,19 @@ journal_limit = 2 ^ 28
 
 -- ---- a journal is made
 
--- by the status, where the disk tells this content, and its count of faults was and is this; what a crash may leave
-abbrev pub IsInit : Status → Option (List ℕ) → Option (List ℕ) → (List ℕ → Type 0) → ℕ → ℕ → Type 0
-IsInit Done told told' images faults faults' = Each images (HasHistory (in_journal 9 journal_limit []))
-IsInit AlreadyThere told told' images faults faults' = ((s : List ℕ) → told ≡ Some s → 9 < length s) × (told' ≡ told)
-IsInit DiskFault told told' images faults faults' = HasRisen faults faults'
-IsInit other told told' images faults faults' = ⊥
+-- by the status, where the disk was and is seen so, and its count of faults was and is this
+abbrev pub IsInit : Status → View → View → ℕ → ℕ → Type 0
+IsInit Done old new faults faults' = Each new.images (HasHistory (in_journal 9 journal_limit []))
+IsInit AlreadyThere old new faults faults' = ((s : List ℕ) → old.seen ≡ Some s → 9 < length s) × (new.seen ≡ old.seen)
+IsInit DiskFault old new faults faults' = HasRisen faults faults'
+IsInit other old new faults faults' = ⊥
 
 -- ---- a journal is opened
 
 -- a crash at any moment leaves a disk that was good for a history and a command as good
-abbrev pub KeepsGood : {D : Type 0} → (D → Option (List ℕ)) → (D → List ℕ → Type 0) → (D → ℕ) → (D → ℕ → List ℕ → Type 0) → D → D → Type 0
-KeepsGood seen images moment images_since old new = (s : List ℕ) → seen old ≡ Some s → (h : List Accepted) (a : Accepted)
-    → IsHistory (h ++ a ∷ []) → Each (images old) (IsGoodFound h a) → LeavesOnly moment images_since old new (IsGoodFound h a)
+abbrev pub KeepsGood : {D : Type 0} → (D → View) → D → D → Type 0
+KeepsGood view old new = (s : List ℕ) → (view old).seen ≡ Some s → (h : List Accepted) (a : Accepted)
+    → IsHistory (h ++ a ∷ []) → Each (view old).images (IsGoodFound h a) → LeavesOnly view old new (IsGoodFound h a)
 
 -- why none was opened
 abbrev pub IsCause : Status → Option (List ℕ) → ℕ → ℕ → Type 0
@@ -52,21 +52,19 @@ pub record HasFileFaults (told : Option (List ℕ)) (status : Status) : Type 0 w
   pub full : (s : List ℕ) (bytes : ℕ) → told ≡ Some s → IsTooLong journal_limit bytes s → IsOnly (JournalFull bytes) status
 
 -- none was opened: for its cause; but for a fault of the disk, reads give the same, or the same with the closed commit byte 0
-pub record IsUnopened {D : Type 0} (seen : D → Option (List ℕ)) (images : D → List ℕ → Type 0) (moment : D → ℕ) (images_since : D → ℕ → List ℕ → Type 0) (faults : D → ℕ)
-    (old new : D) (status : Status) (steps steps' : ℕ) : Type 0 where
-  pub cause : IsCause status (seen old) (faults old) (faults new)
-  pub good : KeepsGood seen images moment images_since old new
-  pub kept : (status ≡ DiskFault) ⊎ ((seen new ≡ seen old) ⊎ ((s : List ℕ) → seen old ≡ Some s → IsClosed s (seen new)))
+pub record IsUnopened {D : Type 0} (view : D → View) (faults : D → ℕ) (old new : D) (status : Status) (steps steps' : ℕ) : Type 0 where
+  pub cause : IsCause status (view old).seen (faults old) (faults new)
+  pub good : KeepsGood view old new
+  pub kept : (status ≡ DiskFault) ⊎ (((view new).seen ≡ (view old).seen) ⊎ ((s : List ℕ) → (view old).seen ≡ Some s → IsClosed s (view new).seen))
   -- no step was taken, or those of the commands that were found and of the one that is the fault
-  pub cost : (steps' ≡ steps) ⊎ IsFoundWithin (seen old) steps steps'
+  pub cost : (steps' ≡ steps) ⊎ IsFoundWithin (view old).seen steps steps'
 
 -- one was opened, with these commands and this length without a command, by steps up to this number
-pub record IsOpened {D : Type 0} (seen : D → Option (List ℕ)) (images : D → List ℕ → Type 0) (moment : D → ℕ) (images_since : D → ℕ → List ℕ → Type 0)
-    (old opened : D) (steps begun base : ℕ) (commands : List Accepted) : Type 0 where
+pub record IsOpened {D : Type 0} (view : D → View) (old opened : D) (steps begun base : ℕ) (commands : List Accepted) : Type 0 where
   pub is_history : IsHistory commands
-  pub found : (s : List ℕ) → seen old ≡ Some s → IsFound journal_limit (base + lengths_of commands) commands s
-  pub good : KeepsGood seen images moment images_since old opened
-  pub either : (s : List ℕ) → seen old ≡ Some s → (h : List Accepted) (a : Accepted) → IsHistory (h ++ a ∷ [])
-      → Each (images old) (IsGoodFound h a) → (commands ≡ h) ⊎ (commands ≡ h ++ a ∷ [])
-  pub whole : Each (images opened) (HasHistory (in_journal base journal_limit commands))
+  pub found : (s : List ℕ) → (view old).seen ≡ Some s → IsFound journal_limit (base + lengths_of commands) commands s
+  pub good : KeepsGood view old opened
+  pub either : (s : List ℕ) → (view old).seen ≡ Some s → (h : List Accepted) (a : Accepted) → IsHistory (h ++ a ∷ [])
+      → Each (view old).images (IsGoodFound h a) → (commands ≡ h) ⊎ (commands ≡ h ++ a ∷ [])
+  pub whole : Each (view opened).images (HasHistory (in_journal base journal_limit commands))
   pub cost : begun ≤ steps + history_bound [] commands

@@ -20,6 +20,7 @@ use Rattle.serv_texts.specs.Extracts.{IsExtract, extract_bound}
 use Rattle.serv_texts.specs.Input.{IsUnread, Exchanges, input_limit}
 use Rattle.serv_texts.specs.Journal.{IsOpened}
 use Rattle.serv_disk.specs.Faults.{IsProperPrefix}
+use Rattle.serv_disk.specs.Disks.{View}
 
 -- ---- what a run has written that makes one text
 
@@ -95,10 +96,9 @@ WritesText status text commands steps steps' left left' held held' =
     × (steps' ≤ steps + text_bound text commands taken)) left left' held held'
 
 -- a journal was opened, and the text is written over its commands. The disk is left as the opening left it
-pub record IsTextOver {D : Type 0} (seen : D → Option (List ℕ)) (images : D → List ℕ → Type 0) (moment : D → ℕ) (images_since : D → ℕ → List ℕ → Type 0)
-    (old new : D) (status : Status) (text : Text) (steps steps' : ℕ) (left left' held held' : Option (List ℕ)) : Type 0 where
+pub record IsTextOver {D : Type 0} (view : D → View) (old new : D) (status : Status) (text : Text) (steps steps' : ℕ) (left left' held held' : Option (List ℕ)) : Type 0 where
   pub commands : List Accepted
   pub base : ℕ
   pub begun : ℕ
-  pub opening : IsOpened seen images moment images_since old new steps begun base commands
+  pub opening : IsOpened view old new steps begun base commands
   pub writes : WritesText status text commands begun steps' left left' held held'

@@ -23,12 +23,11 @@ const JOURNAL_LIMIT: u64 = 1 << 28;
 
 /// Makes an empty journal. It takes no memory.
 pub fn make_journal<D: Disk>(disk: &mut D) -> Status
-    ensures made { IsInit result (D.seen disk.old) (D.seen disk.new) (D.images disk.new)
-        (D.faults disk.old) (D.faults disk.new) }
+    ensures made { IsInit result (D.view disk.old) (D.view disk.new) (D.faults disk.old) (D.faults disk.new) }
     // At each moment a file of at most 9 bytes has at most 9 bytes.
-    ensures moments { Each (D.images disk.old) (λ c. length c ≤ 9)
-        → LeavesOnly D.moment D.images_since disk.old disk.new (λ c. length c ≤ 9) }
-    ensures longer { (s : List ℕ) → D.seen disk.old ≡ Some s → 9 < length s
+    ensures moments { Each (D.view disk.old).images (λ c. length c ≤ 9)
+        → LeavesOnly D.view disk.old disk.new (λ c. length c ≤ 9) }
+    ensures longer { (s : List ℕ) → (D.view disk.old).seen ≡ Some s → 9 < length s
         → (result ≡ Status.AlreadyThere) ⊎ (result ≡ Status.DiskFault) }
     ensures faults { D.faults disk.old ≤ D.faults disk.new }
 {
@@ -58,16 +57,16 @@ pub fn open_journal<D: Disk, L: Ledger>(
     disk: &mut D,
     steps: &mut Steps<L>,
 ) -> Result<Engine<Checked>, Status>
-    ensures opened { IfOk result (λ e. IsOpened D.seen D.images D.moment D.images_since disk.old disk.new
+    ensures opened { IfOk result (λ e. IsOpened D.view disk.old disk.new
         steps.old steps.new (e.journal.size - lengths_of e.history) e.history) }
     ensures limit { IfOk result (λ e. e.journal.limit ≡ journal_limit) }
     ensures ready { IfOk result (λ e. (e.journal.spent ≡ false) × (e.journal.version ≡ version.Two)
-        × IsDurable (D.images disk.new) e) }
-    ensures unopened { IfErr result (λ status. IsUnopened D.seen D.images D.moment D.images_since D.faults
+        × IsDurable (D.view disk.new).images e) }
+    ensures unopened { IfErr result (λ status. IsUnopened D.view D.faults
         disk.old disk.new status steps.old steps.new) }
     // The faults of the file come exactly by their causes; where it is opened it has none.
-    ensures file { IfErr result (HasFileFaults (D.seen disk.old)) }
-    ensures faultless { OnOk result ((status : Status) → HasFileFaults (D.seen disk.old) status) }
+    ensures file { IfErr result (HasFileFaults (D.view disk.old).seen) }
+    ensures faultless { OnOk result ((status : Status) → HasFileFaults (D.view disk.old).seen status) }
     ensures disk { result ≡ Err Status.DiskFault → HasRisen (D.faults disk.old) (D.faults disk.new) }
     ensures disk_later { D.faults disk.old ≤ D.faults disk.new }
 {

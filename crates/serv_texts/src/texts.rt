@@ -44,13 +44,13 @@ pub fn write_over_journal<S: Source, K: Sink, D: Disk, L: Ledger>(
     steps: &mut Steps<L>,
 ) -> Status
     requires { IsText text.now }
-    ensures written { (IsUnopened D.seen D.images D.moment D.images_since D.faults disk.old disk.new result
-        steps.old steps.new × (src.new ≡ src.old) × (snk.new ≡ snk.old))
-        ⊎ IsTextOver D.seen D.images D.moment D.images_since disk.old disk.new result text.now
+    ensures written { (IsUnopened D.view D.faults disk.old disk.new result steps.old steps.new
+        × (src.new ≡ src.old) × (snk.new ≡ snk.old))
+        ⊎ IsTextOver D.view disk.old disk.new result text.now
         steps.old steps.new (S.left src.old) (S.left src.new) (K.held snk.old) (K.held snk.new) }
     ensures unread { asked.reads_input text.now ≢ true → src.new ≡ src.old }
     ensures idle { (last : Option ℕ) → result ≡ Status.NoReport last → snk.new ≡ snk.old }
-    ensures file { HasFileFaults (D.seen disk.old) result }
+    ensures file { HasFileFaults (D.view disk.old).seen result }
     ensures read { result ≡ Status.ReadFault → HasRisen (S.faults src.old) (S.faults src.new) }
     ensures write { result ≡ Status.WriteFault → HasRisen (K.faults snk.old) (K.faults snk.new) }
     ensures disk { result ≡ Status.DiskFault → HasRisen (D.faults disk.old) (D.faults disk.new) }

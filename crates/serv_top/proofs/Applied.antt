@@ -26,6 +26,7 @@ use Rattle.serv_texts.specs.Journal.{IsCause, IsUnopened, IsOpened, journal_limi
 use Rattle.serv_top.specs.Journal.{IsRunOver, IsApplied}
 use Rattle.serv_top.specs.Lines.{Says, lines_of}
 use Rattle.serv_top.proofs.SoundLemmas.{stay_sound}
+use Rattle.serv_disk.specs.Disks.{View}
 
 -- ---- where commands are kept stays the same
 
@@ -48,19 +49,18 @@ store_ended waiting other s s' pending taken left written is = absurd is
 same_store : (e : EngineState) (h : History) → h.store ≡ (history_of e).store → h ≡ in_journal (e.journal.size - lengths_of e.history) e.journal.limit h.commands
 same_store e h same = let make : Store → History = λ store. record { commands = h.commands; store = store } in ap make same
 
-pub run_over : {D : Type 0} (E : Stand → Stand → List Accepted → Type 0) (seen : D → Option (List ℕ)) (images : D → List ℕ → Type 0) (moment : D → ℕ) (images_since : D → ℕ → List ℕ → Type 0)
-    (old mid new : D) (e : EngineState) (h : History) (steps begun steps' : ℕ) (pending : List Accepted)
-    → IsOpened seen images moment images_since old mid steps begun (e.journal.size - lengths_of e.history) e.history → e.journal.limit ≡ journal_limit
+pub run_over : {D : Type 0} (E : Stand → Stand → List Accepted → Type 0) (view : D → View) (old mid new : D) (e : EngineState) (h : History) (steps begun steps' : ℕ) (pending : List Accepted)
+    → IsOpened view old mid steps begun (e.journal.size - lengths_of e.history) e.history → e.journal.limit ≡ journal_limit
     → h.store ≡ (history_of e).store → E (stand (history_of e) begun) (stand h steps') pending
-    → OnDisk images moment images_since mid new (history_of e) h pending
-    → IsRunOver E seen images moment images_since old new steps steps'
-run_over {D} E seen images moment images_since old mid new e h steps begun steps' pending opening limit same ends disk =
+    → OnDisk view mid new (history_of e) h pending
+    → IsRunOver E view old new steps steps'
+run_over {D} E view old mid new e h steps begun steps' pending opening limit same ends disk =
     let place : ℕ = e.journal.size - lengths_of e.history in
     let kept = same_store e h same in
     let now : E (stand (in_journal place e.journal.limit e.history) begun) (stand (in_journal place e.journal.limit h.commands) steps') pending =
     subst (λ x. E (stand (in_journal place e.journal.limit e.history) begun) (stand x steps') pending) kept ends in
-    let run : OnDisk images moment images_since mid new (in_journal place e.journal.limit e.history) (in_journal place e.journal.limit h.commands) pending =
-    subst (λ x. OnDisk images moment images_since mid new (in_journal place e.journal.limit e.history) x pending) kept disk in
+    let run : OnDisk view mid new (in_journal place e.journal.limit e.history) (in_journal place e.journal.limit h.commands) pending =
+    subst (λ x. OnDisk view mid new (in_journal place e.journal.limit e.history) x pending) kept disk in
     record {
       commands = e.history;
       base = place;
@@ -71,18 +71,18 @@ run_over {D} E seen images moment images_since old mid new e h steps begun steps
       pending = pending;
       ended = subst (λ n. E (stand (in_journal place n e.history) begun) (stand (in_journal place n h.commands) steps') pending) limit now;
       sound = stay_sound e.history h.commands disk.list pending disk.accepted (disk.fresh opening.is_history);
-      disk = subst (λ n. OnDisk images moment images_since mid new (in_journal place n e.history) (in_journal place n h.commands) pending) limit run;
+      disk = subst (λ n. OnDisk view mid new (in_journal place n e.history) (in_journal place n h.commands) pending) limit run;
     }
 
-pub applied : {D : Type 0} (seen : D → Option (List ℕ)) (images : D → List ℕ → Type 0) (moment : D → ℕ) (images_since : D → ℕ → List ℕ → Type 0) (old mid new : D) (st : Status) (e : EngineState) (h : History)
+pub applied : {D : Type 0} (view : D → View) (old mid new : D) (st : Status) (e : EngineState) (h : History)
     (steps begun steps' : ℕ) (left left' held held' : Option (List ℕ)) (log log' : Option (List Stamp))
-    → IsOpened seen images moment images_since old mid steps begun (e.journal.size - lengths_of e.history) e.history → e.journal.limit ≡ journal_limit
-    → Leaves images moment images_since mid new (λ pending. Ended 0 st (stand (history_of e) begun) (stand h steps') pending left left' held held') (history_of e) h
-    → IsAcknowledged (λ taken. AreReplies (SaidFirst Says (lines_of taken)) (history_of e)) (moment new) (images_since new) h left left' held log log'
-    → IsApplied seen images moment images_since old new st steps steps' left left' held held' log log'
-applied {D} seen images moment images_since old mid new st e h steps begun steps' left left' held held' log log' opening limit ends acked =
+    → IsOpened view old mid steps begun (e.journal.size - lengths_of e.history) e.history → e.journal.limit ≡ journal_limit
+    → Leaves view mid new (λ pending. Ended 0 st (stand (history_of e) begun) (stand h steps') pending left left' held held') (history_of e) h
+    → IsAcknowledged (λ taken. AreReplies (SaidFirst Says (lines_of taken)) (history_of e)) (view new) h left left' held log log'
+    → IsApplied view old new st steps steps' left left' held held' log log'
+applied {D} view old mid new st e h steps begun steps' left left' held held' log log' opening limit ends acked =
     run_over (λ s s' pending. Ended 0 st s s' pending left left' held held'
-    × IsAcknowledged (λ taken. AreReplies (SaidFirst Says (lines_of taken)) s.history) (moment new) (images_since new) s'.history left left' held log log') seen images moment images_since old mid new e h steps begun steps' ends.pending opening limit
+    × IsAcknowledged (λ taken. AreReplies (SaidFirst Says (lines_of taken)) s.history) (view new) s'.history left left' held log log') view old mid new e h steps begun steps' ends.pending opening limit
     (store_ended 0 st (stand (history_of e) begun) (stand h steps') ends.pending ends.says_so.taken left' ends.says_so.written ends.says_so.says) (ends.says_so, acked) ends.disk
 
 -- ---- completeness
@@ -107,12 +107,12 @@ applied_ends waiting (status.TooMuch n) s s' pending left left' held held' input
 applied_ends waiting status.OutOfMemory s s' pending left left' held held' input is short reads writes disks e = inr (inl refl)
 applied_ends waiting other s s' pending left left' held held' input is short reads writes disks e = absurd e.says
 
-pub complete_run : {D A B : Type 0} (seen : D → Option (List ℕ)) (images : D → List ℕ → Type 0) (moment : D → ℕ) (images_since : D → ℕ → List ℕ → Type 0) (faults : D → ℕ) (old new : D) (st : Status) (steps steps' : ℕ)
-    (left left' held held' : Option (List ℕ)) (log log' : Option (List Stamp)) (input s : List ℕ) (h : List Accepted) (a : Accepted) → left ≡ Some input → length input < input_limit → seen old ≡ Some s → IsHistory (h ++ a ∷ [])
+pub complete_run : {D A B : Type 0} (view : D → View) (faults : D → ℕ) (old new : D) (st : Status) (steps steps' : ℕ)
+    (left left' held held' : Option (List ℕ)) (log log' : Option (List Stamp)) (input s : List ℕ) (h : List Accepted) (a : Accepted) → left ≡ Some input → length input < input_limit → (view old).seen ≡ Some s → IsHistory (h ++ a ∷ [])
     → IsGoodFound h a s → (st ≡ status.ReadFault → ⊥) → (st ≡ status.WriteFault → ⊥) → (st ≡ status.DiskFault → ⊥) → (HasRisen (faults old) (faults new) → ⊥)
-    → (IsUnopened seen images moment images_since faults old new st steps steps' × A × B) ⊎ IsApplied seen images moment images_since old new st steps steps' left left' held held' log log' → Completes st
-complete_run {D} seen images moment images_since faults old new st steps steps' left left' held held' log log' input s h a is short told is_history good reads writes disks calm which =
+    → (IsUnopened view faults old new st steps steps' × A × B) ⊎ IsApplied view old new st steps steps' left left' held held' log log' → Completes st
+complete_run {D} view faults old new st steps steps' left left' held held' log log' input s h a is short told is_history good reads writes disks calm which =
     ⊎_elim
-    (λ closed. unopened_ends st s h a (faults old) (faults new) (seen old) told is_history good closed.0.cause calm)
+    (λ closed. unopened_ends st s h a (faults old) (faults new) (view old).seen told is_history good closed.0.cause calm)
     (λ open_. applied_ends 0 st _ _ open_.pending left left' held held' input is short reads writes disks open_.ended.0)
     which

@@ -32,6 +32,7 @@ use Rattle.serv_texts.specs.Journal.{IsOpened, IsUnopened, journal_limit}
 use Rattle.serv_links.proofs.LinkLemmas.{few_taken}
 use Rattle.serv_top.proofs.Applied.{run_over, unopened_ends}
 use Rattle.serv_top.proofs.ServedLemmas.{none_more}
+use Rattle.serv_disk.specs.Disks.{View}
 
 -- ---- rows that ask commands
 
@@ -57,18 +58,18 @@ stopped_rows stop.WriteFault all s s' pending written is = is
 stopped_rows stop.DiskFault all s s' pending written is = is
 stopped_rows stop.OutOfMemory all s s' pending written is = is
 
-module _ {D : Type 0} (images : D → List ℕ → Type 0) (moment : D → ℕ) (images_since : D → ℕ → List ℕ → Type 0) (old mid new : D) (all : List Saying) (s s' : Stand) (kept : History) (held held' : Option (List ℕ))
-    (first : OnDisk images moment images_since old mid s.history kept []) where
+module _ {D : Type 0} (view : D → View) (old mid new : D) (all : List Saying) (s s' : Stand) (kept : History) (held held' : Option (List ℕ))
+    (first : OnDisk view old mid s.history kept []) where
   -- it stops at one of them
-  pub rows_stopped : (why : Stop) (First : List Saying → List Saying → Type 0) → ((done ahead : List Saying) → First done ahead → AreFirst (λ said. said ≡ all) done ahead) → Writes images moment images_since mid new (IsStopped why First 0 s s') kept s'.history held held'
-      → Writes images moment images_since old new (IsRowsOutput (status_of why) all s s') s.history s'.history held held'
+  pub rows_stopped : (why : Stop) (First : List Saying → List Saying → Type 0) → ((done ahead : List Saying) → First done ahead → AreFirst (λ said. said ≡ all) done ahead) → Writes view mid new (IsStopped why First 0 s s') kept s'.history held held'
+      → Writes view old new (IsRowsOutput (status_of why) all s s') s.history s'.history held held'
   rows_stopped why First then stops =
-      writes_as images moment images_since old new _ (IsRowsOutput (status_of why) all s s') s.history s'.history held held' (stopped_rows why all s s')
-      (stops_after First (AreFirst (λ said. said ≡ all)) then 0 s s' images moment images_since old mid new why s.history kept s'.history held held' first stops)
+      writes_as view old new _ (IsRowsOutput (status_of why) all s s') s.history s'.history held held' (stopped_rows why all s s')
+      (stops_after First (AreFirst (λ said. said ≡ all)) then 0 s s' view old mid new why s.history kept s'.history held held' first stops)
 
   -- all are answered
-  pub rows_settled : (t : Running) (text : List ℕ) → s' ≡ stand t.kept t.steps → t.kept ≡ t.held → length text ≤ 0 → Gathered 0 all s t held held' text → OnDisk images moment images_since mid new kept s'.history []
-      → Writes images moment images_since old new (IsRowsOutput status.Done all s s') s.history s'.history held held'
+  pub rows_settled : (t : Running) (text : List ℕ) → s' ≡ stand t.kept t.steps → t.kept ≡ t.held → length text ≤ 0 → Gathered 0 all s t held held' text → OnDisk view mid new kept s'.history []
+      → Writes view old new (IsRowsOutput status.Done all s s') s.history s'.history held held'
   rows_settled t text is same few g second =
       let gathered = all_gathered 0 all s g same (none_more text few) in
       record {
@@ -76,7 +77,7 @@ module _ {D : Type 0} (images : D → List ℕ → Type 0) (moment : D → ℕ) 
         written = g.written;
         wrote = g.wrote;
         says_so = (refl, record { said = all; whole = refl; text = gathered.0; moved = subst (MovesAll all s) (sym is) gathered.1 });
-        disk = disk_more images moment images_since old mid new s.history kept s'.history [] first second;
+        disk = disk_more view old mid new s.history kept s'.history [] first second;
       }
 
 -- the rows up to one are some first ones of all
@@ -114,20 +115,20 @@ is_row list i item is are small = subst (λ (r : RowRequest). IsRow r) (sym is) 
 
 -- ---- the file
 
-module _ {D : Type 0} (images : D → List ℕ → Type 0) (moment : D → ℕ) (images_since : D → ℕ → List ℕ → Type 0) (old new : D) (st : Status) (bytes : List ℕ) (s s' : Stand) (held held' : Option (List ℕ)) where
+module _ {D : Type 0} (view : D → View) (old new : D) (st : Status) (bytes : List ℕ) (s s' : Stand) (held held' : Option (List ℕ)) where
   -- its rows are answered, or there is no memory for what they say
   abbrev pub FileOutput : List Accepted → List ℕ → Type 0
   FileOutput pending written = ((st ≡ status.OutOfMemory) × (pending ≡ []) × (written ≡ []) × Stays s s') ⊎ IsFileOutput st bytes s s' pending written
 
-  pub file_says : (saids : List Saying) → FileSays bytes saids → Writes images moment images_since old new (IsRowsOutput st saids s s') s.history s'.history held held' → Writes images moment images_since old new FileOutput s.history s'.history held held'
-  file_says saids file ends = writes_as images moment images_since old new (IsRowsOutput st saids s s') FileOutput s.history s'.history held held' (λ pending written is. inr (record { saids = saids; file = file; rows = is })) ends
+  pub file_says : (saids : List Saying) → FileSays bytes saids → Writes view old new (IsRowsOutput st saids s s') s.history s'.history held held' → Writes view old new FileOutput s.history s'.history held held'
+  file_says saids file ends = writes_as view old new (IsRowsOutput st saids s s') FileOutput s.history s'.history held held' (λ pending written is. inr (record { saids = saids; file = file; rows = is })) ends
 
 -- ---- the source and the file
 
-pub import_unread : {D : Type 0} (images : D → List ℕ → Type 0) (moment : D → ℕ) (images_since : D → ℕ → List ℕ → Type 0) (old new : D) (st : Status) (s s' : Stand)
+pub import_unread : {D : Type 0} (view : D → View) (old new : D) (st : Status) (s s' : Stand)
     (left left' held : Option (List ℕ)) → (taken : List ℕ) × Consumes left left' taken × IsUnread st taken → s'.history ≡ s.history → s'.steps ≡ s.steps
-    → OnDisk images moment images_since old new s.history s'.history [] → Leaves images moment images_since old new (λ pending. Imports st s s' pending left left' held held) s.history s'.history
-import_unread images moment images_since old new st s s' left left' held unread same steps disk = record {
+    → OnDisk view old new s.history s'.history [] → Leaves view old new (λ pending. Imports st s s' pending left left' held held) s.history s'.history
+import_unread view old new st s s' left left' held unread same steps disk = record {
   pending = [];
   says_so = record {
     taken = unread.0;
@@ -156,15 +157,15 @@ pub store_import : (st : Status) (s s' : Stand) (pending : List Accepted) (left 
 store_import st s s' pending left left' held held' is =
     ⊎_elim (λ unread. ap (λ (h : History). h.store) unread.3.0) (λ file. store_rows st file.2.saids s s' pending is.written file.2.rows) is.says
 
-pub imported : {D : Type 0} (seen : D → Option (List ℕ)) (images : D → List ℕ → Type 0) (moment : D → ℕ) (images_since : D → ℕ → List ℕ → Type 0) (old mid new : D) (st : Status) (e : EngineState) (h : History)
+pub imported : {D : Type 0} (view : D → View) (old mid new : D) (st : Status) (e : EngineState) (h : History)
     (steps begun steps' : ℕ) (left left' held held' : Option (List ℕ)) (log log' : Option (List Stamp))
-    → IsOpened seen images moment images_since old mid steps begun (e.journal.size - lengths_of e.history) e.history → e.journal.limit ≡ journal_limit
-    → Leaves images moment images_since mid new (λ pending. Imports st (stand (history_of e) begun) (stand h steps') pending left left' held held') (history_of e) h
-    → IsAcknowledged (λ taken. AreReplies (FileSays taken) (history_of e)) (moment new) (images_since new) h left left' held log log'
-    → IsImported seen images moment images_since old new st steps steps' left left' held held' log log'
-imported {D} seen images moment images_since old mid new st e h steps begun steps' left left' held held' log log' opening limit ends acked =
+    → IsOpened view old mid steps begun (e.journal.size - lengths_of e.history) e.history → e.journal.limit ≡ journal_limit
+    → Leaves view mid new (λ pending. Imports st (stand (history_of e) begun) (stand h steps') pending left left' held held') (history_of e) h
+    → IsAcknowledged (λ taken. AreReplies (FileSays taken) (history_of e)) (view new) h left left' held log log'
+    → IsImported view old new st steps steps' left left' held held' log log'
+imported {D} view old mid new st e h steps begun steps' left left' held held' log log' opening limit ends acked =
     run_over (λ s s' pending. Imports st s s' pending left left' held held'
-    × IsAcknowledged (λ taken. AreReplies (FileSays taken) s.history) (moment new) (images_since new) s'.history left left' held log log') seen images moment images_since old mid new e h steps begun steps' ends.pending opening limit
+    × IsAcknowledged (λ taken. AreReplies (FileSays taken) s.history) (view new) s'.history left left' held log log') view old mid new e h steps begun steps' ends.pending opening limit
     (store_import st (stand (history_of e) begun) (stand h steps') ends.pending left left' held held' ends.says_so) (ends.says_so, acked) ends.disk
 
 -- ---- completeness
@@ -182,13 +183,13 @@ unread_ends (status.TooMuch n) taken input few short reads is = absurd (omega (a
 unread_ends status.OutOfMemory taken input few short reads is = inr (inl refl)
 unread_ends other taken input few short reads is = absurd is
 
-pub complete_import : {D A B : Type 0} (seen : D → Option (List ℕ)) (images : D → List ℕ → Type 0) (moment : D → ℕ) (images_since : D → ℕ → List ℕ → Type 0) (faults : D → ℕ) (old new : D) (st : Status) (steps steps' : ℕ)
-    (left left' held held' : Option (List ℕ)) (log log' : Option (List Stamp)) (input s : List ℕ) (h : List Accepted) (a : Accepted) → left ≡ Some input → length input < input_limit → seen old ≡ Some s → IsHistory (h ++ a ∷ [])
+pub complete_import : {D A B : Type 0} (view : D → View) (faults : D → ℕ) (old new : D) (st : Status) (steps steps' : ℕ)
+    (left left' held held' : Option (List ℕ)) (log log' : Option (List Stamp)) (input s : List ℕ) (h : List Accepted) (a : Accepted) → left ≡ Some input → length input < input_limit → (view old).seen ≡ Some s → IsHistory (h ++ a ∷ [])
     → IsGoodFound h a s → (st ≡ status.ReadFault → ⊥) → (st ≡ status.WriteFault → ⊥) → (st ≡ status.DiskFault → ⊥) → (HasRisen (faults old) (faults new) → ⊥)
-    → (IsUnopened seen images moment images_since faults old new st steps steps' × A × B) ⊎ IsImported seen images moment images_since old new st steps steps' left left' held held' log log' → Completes st
-complete_import {D} seen images moment images_since faults old new st steps steps' left left' held held' log log' input s h a is short told is_history good reads writes disks calm which =
+    → (IsUnopened view faults old new st steps steps' × A × B) ⊎ IsImported view old new st steps steps' left left' held held' log log' → Completes st
+complete_import {D} view faults old new st steps steps' left left' held held' log log' input s h a is short told is_history good reads writes disks calm which =
     ⊎_elim
-    (λ closed. unopened_ends st s h a (faults old) (faults new) (seen old) told is_history good closed.0.cause calm)
+    (λ closed. unopened_ends st s h a (faults old) (faults new) (view old).seen told is_history good closed.0.cause calm)
     (λ over. ⊎_elim
     (λ unread. unread_ends st over.ended.0.taken input (few_taken left left' input over.ended.0.taken is over.ended.0.took) short reads unread.0)
     (λ file. rows_end st file.2.saids _ _ over.pending over.ended.0.written writes disks file.2.rows)

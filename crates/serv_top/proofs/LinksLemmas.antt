@@ -31,6 +31,7 @@ use Rattle.serv_texts.specs.Texts.{IsWrittenAs, Writes}
 use Rattle.serv_top.proofs.Applied.{run_over, unopened_ends}
 use Rattle.serv_texts.proofs.WrittenLemmas.{written_of}
 use Rattle.serv_top.specs.Ends.{Completes}
+use Rattle.serv_disk.specs.Disks.{View}
 
 -- ---- where commands are kept stays the same
 
@@ -54,9 +55,9 @@ store_served (link_end.Disk n) reads writes at_end taken s s' pending added cut 
 store_served (link_end.NoMemory n) reads writes at_end taken s s' pending added cut = store_cut_off _ writes stop.OutOfMemory n s s' pending added cut
 
 -- links came, and were served in their turn
-module _ {C : Type 0} (left held : C → Option (List ℕ)) (log : C → Option (List Stamp)) (reads writes : C → ℕ) (at : ℕ) (since : ℕ → List ℕ → Type 0) where
+module _ {C : Type 0} (left held : C → Option (List ℕ)) (log : C → Option (List Stamp)) (reads writes : C → ℕ) (at_exit : View) where
   abbrev P : Stand → OneServed C
-  P exit = ServedLink left held log reads writes at since exit
+  P exit = ServedLink left held log reads writes at_exit exit
 
   store_link : (exit : Stand) (end : LinkEnd) (x y : C) (s s' : Stand) (pending : List Accepted) → P exit end x y s s' pending → s'.history.store ≡ s.history.store
   store_link exit end x y s s' pending is = store_served end _ _ _ is.serves.taken s s' pending is.added is.serves.says
@@ -74,11 +75,11 @@ module _ {C : Type 0} (left held : C → Option (List ℕ)) (log : C → Option 
 
   module _ (status_ : Status) (most : ℕ) (coming coming' backed backed' : Option (List C)) (held0 held' : Option (List ℕ)) (s s' : Stand) where
     -- over a machine: why no further link was served, and what is written then
-    pub ended : {D : Type 0} (images : D → List ℕ → Type 0) (moment : D → ℕ) (images_since : D → ℕ → List ℕ → Type 0) (old new : D) (end : DoorsEnd) (summary : Summary)
-        → ServesDoors images moment images_since old new P end summary most coming coming' backed backed' s s'
+    pub ended : {D : Type 0} (view : D → View) (old new : D) (end : DoorsEnd) (summary : Summary)
+        → ServesDoors view old new P end summary most coming coming' backed backed' s s'
         → ((ends : List LinkEnd) → IsDoorsEnd end most coming' ends → IsSummary ends summary → (written : List ℕ) × Appends held0 held' written × IsServedAs status_ most coming' ends written)
-        → Leaves images moment images_since old new (λ pending. ServesLinks P status_ most coming coming' backed backed' held0 held' s s' pending) s.history s'.history
-    ended images moment images_since old new end summary all says =
+        → Leaves view old new (λ pending. ServesLinks P status_ most coming coming' backed backed' held0 held' s s' pending) s.history s'.history
+    ended view old new end summary all says =
         let wrote = says all.ends all.ended all.counted in
         record {
           pending = all.pending;
@@ -86,15 +87,15 @@ module _ {C : Type 0} (left held : C → Option (List ℕ)) (log : C → Option 
           disk = all.disk;
         }
 
-    pub over_engine : {D : Type 0} (seen : D → Option (List ℕ)) (images : D → List ℕ → Type 0) (moment : D → ℕ) (images_since : D → ℕ → List ℕ → Type 0) (old mid new : D) (e : EngineState) (h : History) (steps begun steps' : ℕ)
+    pub over_engine : {D : Type 0} (view : D → View) (old mid new : D) (e : EngineState) (h : History) (steps begun steps' : ℕ)
         → s ≡ stand (history_of e) begun → s' ≡ stand h steps'
-        → IsOpened seen images moment images_since old mid steps begun (e.journal.size - lengths_of e.history) e.history → e.journal.limit ≡ journal_limit
-        → Leaves images moment images_since mid new (λ pending. ServesLinks P status_ most coming coming' backed backed' held0 held' s s' pending) s.history s'.history
-        → IsServedOver seen images moment images_since old new P status_ most steps steps' coming coming' backed backed' held0 held'
-    over_engine {D} seen images moment images_since old mid new e h steps begun steps' is is' opening limit end =
-        let Ends : Stand → Stand → Type 0 = λ x y. Leaves images moment images_since mid new (λ pending. ServesLinks P status_ most coming coming' backed backed' held0 held' x y pending) x.history y.history in
+        → IsOpened view old mid steps begun (e.journal.size - lengths_of e.history) e.history → e.journal.limit ≡ journal_limit
+        → Leaves view mid new (λ pending. ServesLinks P status_ most coming coming' backed backed' held0 held' s s' pending) s.history s'.history
+        → IsServedOver view old new P status_ most steps steps' coming coming' backed backed' held0 held'
+    over_engine {D} view old mid new e h steps begun steps' is is' opening limit end =
+        let Ends : Stand → Stand → Type 0 = λ x y. Leaves view mid new (λ pending. ServesLinks P status_ most coming coming' backed backed' held0 held' x y pending) x.history y.history in
         let all : Ends (stand (history_of e) begun) (stand h steps') = subst (λ y. Ends (stand (history_of e) begun) y) is' (subst (λ x. Ends x s') is end) in
-        run_over (λ s s' pending. ServesLinks P status_ most coming coming' backed backed' held0 held' s s' pending) seen images moment images_since old mid new e h steps begun steps' all.pending opening limit
+        run_over (λ s s' pending. ServesLinks P status_ most coming coming' backed backed' held0 held' s s' pending) view old mid new e h steps begun steps' all.pending opening limit
         (store_links (stand h steps') all.says_so.ends all.says_so.served.came all.says_so.served.back (stand (history_of e) begun) (stand h steps') all.pending all.says_so.served.served) all.says_so all.disk
 
 -- the summary was written, or a part of it, or no memory was there for it
@@ -121,14 +122,14 @@ served_ends status.NetFault most coming ends written writes disks nets is = absu
 served_ends status.OutOfMemory most coming ends written writes disks nets is = inr (inl refl)
 served_ends other most coming ends written writes disks nets is = absurd is.1
 
-pub complete_served : {D C A B : Type 0} (seen : D → Option (List ℕ)) (images : D → List ℕ → Type 0) (moment : D → ℕ) (images_since : D → ℕ → List ℕ → Type 0) (faults : D → ℕ) (old new : D) (Q : Stand → OneServed C)
+pub complete_served : {D C A B : Type 0} (view : D → View) (faults : D → ℕ) (old new : D) (Q : Stand → OneServed C)
     (st : Status) (most steps steps' : ℕ) (coming coming' backed backed' : Option (List C)) (held held' : Option (List ℕ)) (s : List ℕ) (h : List Accepted) (a : Accepted)
-    → seen old ≡ Some s → IsHistory (h ++ a ∷ []) → IsGoodFound h a s
+    → (view old).seen ≡ Some s → IsHistory (h ++ a ∷ []) → IsGoodFound h a s
     → (st ≡ status.WriteFault → ⊥) → (st ≡ status.DiskFault → ⊥) → (st ≡ status.NetFault → ⊥) → (HasRisen (faults old) (faults new) → ⊥)
-    → (IsUnopened seen images moment images_since faults old new st steps steps' × A × B) ⊎ IsServedOver seen images moment images_since old new Q st most steps steps' coming coming' backed backed' held held'
+    → (IsUnopened view faults old new st steps steps' × A × B) ⊎ IsServedOver view old new Q st most steps steps' coming coming' backed backed' held held'
     → Completes st
-complete_served seen images moment images_since faults old new Q st most steps steps' coming coming' backed backed' held held' s h a told is_history good writes disks nets calm which =
+complete_served view faults old new Q st most steps steps' coming coming' backed backed' held held' s h a told is_history good writes disks nets calm which =
     ⊎_elim
-    (λ closed. unopened_ends st s h a (faults old) (faults new) (seen old) told is_history good closed.0.cause calm)
+    (λ closed. unopened_ends st s h a (faults old) (faults new) (view old).seen told is_history good closed.0.cause calm)
     (λ over. served_ends st most coming' over.ended.ends over.ended.written writes disks nets over.ended.says)
     which

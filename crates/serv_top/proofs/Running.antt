@@ -24,6 +24,7 @@ use Rattle.serv_texts.specs.Input.{Exchanges, input_limit}
 use Rattle.serv_texts.specs.Status.{status_of}
 use Rattle.serv_top.proofs.ServedLemmas.{served_none}
 use Rattle.serv_top.proofs.SoundLemmas.{nothing_sound, begun_sound}
+use Rattle.serv_disk.specs.Disks.{View}
 
 -- the bytes taken are served
 pub record Course (waiting : ℕ) (s : Stand) (t : Running) (left left' held held' : Option (List ℕ)) (line text : List ℕ) (count : ℕ) : Type 0 where
@@ -56,12 +57,12 @@ all_answered {waiting} {s = s} run none kept =
     let all = all_gathered waiting run.said s run.gathers kept none in
     record { said = run.said; whole = run.say; text = all.0; moved = all.1 }
 
-module _ {D : Type 0} (images : D → List ℕ → Type 0) (moment : D → ℕ) (images_since : D → ℕ → List ℕ → Type 0) (old mid new : D) {waiting : ℕ} {s : Stand} {t : Running}
+module _ {D : Type 0} (view : D → View) (old mid new : D) {waiting : ℕ} {s : Stand} {t : Running}
     {left left' held held' : Option (List ℕ)} {line text : List ℕ} {count : ℕ} (run : Course waiting s t left left' held held' line text count) (s' : Stand) (left'' held'' : Option (List ℕ)) where
   -- it stops at one of the bytes that were taken last
-  pub ends_at_bytes : (bytes : List ℕ) (n : ℕ) → length bytes ≡ n → count + n ≤ input_limit → Consumes left' left'' bytes → OnDisk images moment images_since old mid s.history t.kept []
-      → (why : Stop) → Writes images moment images_since mid new (IsStopped why (AreFirst (SaidFirst Says (ended_lines (run.taken ++ bytes)))) waiting s s') t.kept s'.history held held''
-      → Leaves images moment images_since old new (λ pending. Ended waiting (status_of why) s s' pending left left'' held held'') s.history s'.history
+  pub ends_at_bytes : (bytes : List ℕ) (n : ℕ) → length bytes ≡ n → count + n ≤ input_limit → Consumes left' left'' bytes → OnDisk view old mid s.history t.kept []
+      → (why : Stop) → Writes view mid new (IsStopped why (AreFirst (SaidFirst Says (ended_lines (run.taken ++ bytes)))) waiting s s') t.kept s'.history held held''
+      → Leaves view old new (λ pending. Ended waiting (status_of why) s s' pending left left'' held held'') s.history s'.history
   ends_at_bytes bytes n long within took first why stops =
       let counted = run.count_is in
       let joined = length-append run.taken bytes in
@@ -70,13 +71,13 @@ module _ {D : Type 0} (images : D → List ℕ → Type 0) (moment : D → ℕ) 
         pending = stops.pending;
         says_so = ends_stopped waiting why s s' stops.pending left left'' held held''
             (record { taken = run.taken ++ bytes; written = stops.written; took = Consumes-trans left left' left'' run.taken bytes run.took took; wrote = stops.wrote; says = (small, inl stops.says_so) });
-        disk = disk_more images moment images_since old mid new s.history t.kept s'.history stops.pending first stops.disk;
+        disk = disk_more view old mid new s.history t.kept s'.history stops.pending first stops.disk;
       }
 
   -- it stops at the last piece
-  pub ends_at_end : count < input_limit → Consumes left' left'' [] → IsAtEnd left'' → OnDisk images moment images_since old mid s.history t.kept []
-      → (why : Stop) → Writes images moment images_since mid new (IsStopped why (AreFirst (SaidFirst Says (lines_of run.taken))) waiting s s') t.kept s'.history held held''
-      → Leaves images moment images_since old new (λ pending. Ended waiting (status_of why) s s' pending left left'' held held'') s.history s'.history
+  pub ends_at_end : count < input_limit → Consumes left' left'' [] → IsAtEnd left'' → OnDisk view old mid s.history t.kept []
+      → (why : Stop) → Writes view mid new (IsStopped why (AreFirst (SaidFirst Says (lines_of run.taken))) waiting s s') t.kept s'.history held held''
+      → Leaves view old new (λ pending. Ended waiting (status_of why) s s' pending left left'' held held'') s.history s'.history
   ends_at_end below took end first why stops =
       let counted = run.count_is in
       let small : length run.taken ≤ input_limit = omega arith in
@@ -84,26 +85,26 @@ module _ {D : Type 0} (images : D → List ℕ → Type 0) (moment : D → ℕ) 
         pending = stops.pending;
         says_so = ends_stopped waiting why s s' stops.pending left left'' held held''
             (record { taken = run.taken; written = stops.written; took = end_took run left'' took; wrote = stops.wrote; says = (small, inr (end, stops.says_so)) });
-        disk = disk_more images moment images_since old mid new s.history t.kept s'.history stops.pending first stops.disk;
+        disk = disk_more view old mid new s.history t.kept s'.history stops.pending first stops.disk;
       }
 
   -- all lines are answered
-  pub ends_done : count < input_limit → Consumes left' left'' [] → IsAtEnd left'' → OnDisk images moment images_since old mid s.history t.kept []
-      → OnDisk images moment images_since mid new t.kept s'.history [] → (written : List ℕ) × Appends held held'' written × Answers (Say Says (lines_of run.taken)) s s' written
-      → Leaves images moment images_since old new (λ pending. Ended waiting status.Done s s' pending left left'' held held'') s.history s'.history
+  pub ends_done : count < input_limit → Consumes left' left'' [] → IsAtEnd left'' → OnDisk view old mid s.history t.kept []
+      → OnDisk view mid new t.kept s'.history [] → (written : List ℕ) × Appends held held'' written × Answers (Say Says (lines_of run.taken)) s s' written
+      → Leaves view old new (λ pending. Ended waiting status.Done s s' pending left left'' held held'') s.history s'.history
   ends_done below took end first second all =
       let counted = run.count_is in
       record {
         pending = [];
         says_so = record { taken = run.taken; written = all.0; took = end_took run left'' took; wrote = all.1; says = (refl, end, omega arith, all.2) };
-        disk = disk_more images moment images_since old mid new s.history t.kept s'.history [] first second;
+        disk = disk_more view old mid new s.history t.kept s'.history [] first second;
       }
 
-module _ {D : Type 0} (images : D → List ℕ → Type 0) (moment : D → ℕ) (images_since : D → ℕ → List ℕ → Type 0) (old new : D) {waiting : ℕ} {s : Stand} {t : Running}
+module _ {D : Type 0} (view : D → View) (old new : D) {waiting : ℕ} {s : Stand} {t : Running}
     {left left' held held' : Option (List ℕ)} {line text : List ℕ} {count : ℕ} (run : Course waiting s t left left' held held' line text count) (none : text ≡ []) (kept : t.kept ≡ t.held)
-    (disk : OnDisk images moment images_since old new s.history t.kept []) where
+    (disk : OnDisk view old new s.history t.kept []) where
   -- a read failed: what was taken before is served
-  pub ends_unread : (left'' : Option (List ℕ)) → count < input_limit → left'' ≡ left' → Leaves images moment images_since old new (λ pending. Ended waiting status.ReadFault s (stand t.kept t.steps) pending left left'' held held') s.history t.kept
+  pub ends_unread : (left'' : Option (List ℕ)) → count < input_limit → left'' ≡ left' → Leaves view old new (λ pending. Ended waiting status.ReadFault s (stand t.kept t.steps) pending left left'' held held') s.history t.kept
   ends_unread left'' below same =
       let counted = run.count_is in
       record {
@@ -119,7 +120,7 @@ module _ {D : Type 0} (images : D → List ℕ → Type 0) (moment : D → ℕ) 
       }
 
   -- too much was taken
-  pub ends_full : count ≤ input_limit → input_limit ≤ count → Leaves images moment images_since old new (λ pending. Ended waiting (status.TooMuch count) s (stand t.kept t.steps) pending left left' held held') s.history t.kept
+  pub ends_full : count ≤ input_limit → input_limit ≤ count → Leaves view old new (λ pending. Ended waiting (status.TooMuch count) s (stand t.kept t.steps) pending left left' held held') s.history t.kept
   ends_full within full =
       let counted = run.count_is in
       let all : count ≡ input_limit = omega (arith, within, full) in
@@ -184,10 +185,10 @@ none_pending waiting status.OutOfMemory s s' pending left left' held held' calm 
 }
 none_pending waiting other s s' pending left left' held held' calm e = absurd e.says
 
-pub ran_serving : {D : Type 0} (images : D → List ℕ → Type 0) (moment : D → ℕ) (images_since : D → ℕ → List ℕ → Type 0) (old new : D) (waiting : ℕ) (st : Status) (h h' : History) (steps steps' : ℕ)
-    (left left' held held' : Option (List ℕ)) → h ≡ nothing → st ≢ status.DiskFault → Leaves images moment images_since old new (λ pending. Ended waiting st (stand h steps) (stand h' steps') pending left left' held held') h h'
+pub ran_serving : {D : Type 0} (view : D → View) (old new : D) (waiting : ℕ) (st : Status) (h h' : History) (steps steps' : ℕ)
+    (left left' held held' : Option (List ℕ)) → h ≡ nothing → st ≢ status.DiskFault → Leaves view old new (λ pending. Ended waiting st (stand h steps) (stand h' steps') pending left left' held held') h h'
     → Ran waiting st steps steps' left left' held held'
-ran_serving images moment images_since old new waiting st h h' steps steps' left left' held held' none calm ends = record {
+ran_serving view old new waiting st h h' steps steps' left left' held held' none calm ends = record {
   after = h';
   sound = begun_sound h'.commands (ends.disk.fresh (subst (λ (x : History). IsHistory x.commands) (sym none) empty_history)).0;
   ended = subst (λ x. Ended waiting st (stand x steps) (stand h' steps') [] left left' held held') none (none_pending waiting st (stand h steps) (stand h' steps') ends.pending left left' held held' calm ends.says_so);

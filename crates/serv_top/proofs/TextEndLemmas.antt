@@ -17,6 +17,7 @@ use Rattle.serv_texts.specs.Texts.{IsWrittenAs, HasNoReport, IsSaidAs, IsTextOf,
 use Rattle.serv_top.specs.Ends.{Completes, IsShort, MayEnd}
 use Rattle.serv_top.proofs.Applied.{unopened_ends}
 use Rattle.serv_top.proofs.ImportLemmas.{unread_ends}
+use Rattle.serv_disk.specs.Disks.{View}
 
 pub written_finishes : (st : Status) (T : List ℕ → Type 0) (written : List ℕ) → (st ≡ status.WriteFault → ⊥) → IsWrittenAs st T written → (st ≡ status.Done) ⊎ (st ≡ status.OutOfMemory)
 written_finishes status.Done T written calm says = inl refl
@@ -41,13 +42,13 @@ said_ends : (st : Status) (text : Text) (h : List Accepted) (input written : Lis
 said_ends (status.NoReport last) text h input written calm is = no_report_ends text h last is.1
 said_ends other text h input written calm is = may_end text other (written_ends other (IsTextOf text h input) written calm is)
 
-pub complete_text : {D A B : Type 0} (seen : D → Option (List ℕ)) (images : D → List ℕ → Type 0) (moment : D → ℕ) (images_since : D → ℕ → List ℕ → Type 0) (faults : D → ℕ) (old new : D) (st : Status) (text : Text)
-    (steps steps' : ℕ) (left left' held held' : Option (List ℕ)) (s : List ℕ) (h : List Accepted) (a : Accepted) → (reads_input text ≡ true → IsShort left × (st ≡ status.ReadFault → ⊥)) → seen old ≡ Some s → IsHistory (h ++ a ∷ [])
+pub complete_text : {D A B : Type 0} (view : D → View) (faults : D → ℕ) (old new : D) (st : Status) (text : Text)
+    (steps steps' : ℕ) (left left' held held' : Option (List ℕ)) (s : List ℕ) (h : List Accepted) (a : Accepted) → (reads_input text ≡ true → IsShort left × (st ≡ status.ReadFault → ⊥)) → (view old).seen ≡ Some s → IsHistory (h ++ a ∷ [])
     → IsGoodFound h a s → (st ≡ status.WriteFault → ⊥) → (HasRisen (faults old) (faults new) → ⊥)
-    → (IsUnopened seen images moment images_since faults old new st steps steps' × A × B) ⊎ IsTextOver seen images moment images_since old new st text steps steps' left left' held held' → MayEnd (Write text) st
-complete_text {D} seen images moment images_since faults old new st text steps steps' left left' held held' s h a reads told is_history good writes calm which =
+    → (IsUnopened view faults old new st steps steps' × A × B) ⊎ IsTextOver view old new st text steps steps' left left' held held' → MayEnd (Write text) st
+complete_text {D} view faults old new st text steps steps' left left' held held' s h a reads told is_history good writes calm which =
     ⊎_elim
-    (λ closed. may_end text st (unopened_ends st s h a (faults old) (faults new) (seen old) told is_history good closed.0.cause calm))
+    (λ closed. may_end text st (unopened_ends st s h a (faults old) (faults new) (view old).seen told is_history good closed.0.cause calm))
     (λ over. let w = over.writes in
     ⊎_elim
     (λ unread. let short = reads unread.0 in

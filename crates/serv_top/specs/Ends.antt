@@ -2,7 +2,7 @@
 use Rattle.std.specs.Prelude.{ℕ, ◌≡◌, ◌⊎◌, ◌<◌, List, [], ◌∷◌, ◌++◌, length, true, Option, Some, ⊤}
 use Rattle.svc_world.specs.World.{Accepted}
 use Rattle.svc_world.specs.Judging.{IsHistory}
-use Rattle.serv_disk.specs.Disks.{Each}
+use Rattle.serv_disk.specs.Disks.{Each, View}
 use Rattle.serv_engine.specs.Histories.{IsGoodFound}
 use Rattle.serv_words.specs.declared.words.Task.{Task}
 use Rattle.serv_words.specs.declared.words.Task.TheVariants.{Init, Apply, Session, Import, Write, Drill, Serve}
@@ -34,23 +34,23 @@ pub record IsShort (left : Option (List ℕ)) : Type 0 where
   pub short : length input < input_limit
 
 -- a told disk, each image of which is good for a history and a command more
-pub record IsGoodDisk (seen : Option (List ℕ)) (images : List ℕ → Type 0) : Type 0 where
+pub record IsGoodDisk (disk : View) : Type 0 where
   pub content : List ℕ
-  pub told : seen ≡ Some content
+  pub told : disk.seen ≡ Some content
   pub commands : List Accepted
   pub next : Accepted
   pub history : IsHistory (commands ++ next ∷ [])
-  pub good : Each images (IsGoodFound commands next)
+  pub good : Each disk.images (IsGoodFound commands next)
 
 -- its input is short, its disk is good, and of what it reads, writes, keeps or waits for nothing has failed
-abbrev pub IsUndisturbed : Task → Option (List ℕ) → Option (List ℕ) → (List ℕ → Type 0) → Type 0 → Type 0 → Type 0 → Type 0 → Type 0
-IsUndisturbed Init left seen images reads writes disks nets = ¬ disks
-IsUndisturbed Session left seen images reads writes disks nets = IsShort left × (¬ reads) × (¬ writes)
-IsUndisturbed (Drill loans number) left seen images reads writes disks nets = ¬ writes
-IsUndisturbed (Serve port most) left seen images reads writes disks nets = IsGoodDisk seen images × (¬ writes) × (¬ disks) × (¬ nets)
-IsUndisturbed (Write text) left seen images reads writes disks nets =
-    (reads_input text ≡ true → IsShort left × (¬ reads)) × IsGoodDisk seen images × (¬ writes) × (¬ disks)
-IsUndisturbed other left seen images reads writes disks nets = IsShort left × IsGoodDisk seen images × (¬ reads) × (¬ writes) × (¬ disks)
+abbrev pub IsUndisturbed : Task → Option (List ℕ) → View → Type 0 → Type 0 → Type 0 → Type 0 → Type 0
+IsUndisturbed Init left disk reads writes disks nets = ¬ disks
+IsUndisturbed Session left disk reads writes disks nets = IsShort left × (¬ reads) × (¬ writes)
+IsUndisturbed (Drill loans number) left disk reads writes disks nets = ¬ writes
+IsUndisturbed (Serve port most) left disk reads writes disks nets = IsGoodDisk disk × (¬ writes) × (¬ disks) × (¬ nets)
+IsUndisturbed (Write text) left disk reads writes disks nets =
+    (reads_input text ≡ true → IsShort left × (¬ reads)) × IsGoodDisk disk × (¬ writes) × (¬ disks)
+IsUndisturbed other left disk reads writes disks nets = IsShort left × IsGoodDisk disk × (¬ reads) × (¬ writes) × (¬ disks)
 
 -- it is done, or memory was short, or the journal cannot be written anew
 abbrev pub Completes : Status → Type 0

@@ -20,6 +20,7 @@ use Rattle.serv_top.specs.Lines.{in_words}
 use Rattle.serv_texts.specs.Input.{Exchanges, IsUnread, input_limit}
 use Rattle.serv_top.specs.Journal.{IsRunOver}
 use Rattle.serv_disk.specs.Stamps.{Stamp}
+use Rattle.serv_disk.specs.Disks.{View}
 
 -- ---- what a file says
 
@@ -68,8 +69,8 @@ Imports status s s' pending left left' held held' =
 
 -- a journal was opened, and then a file was imported over it; from the moment of each write on, and at exit, each image has
 -- every command that is answered by what was written by then
-abbrev pub IsImported : {D : Type 0} → (D → Option (List ℕ)) → (D → List ℕ → Type 0) → (D → ℕ) → (D → ℕ → List ℕ → Type 0) → D → D → Status → ℕ → ℕ
+abbrev pub IsImported : {D : Type 0} → (D → View) → D → D → Status → ℕ → ℕ
     → Option (List ℕ) → Option (List ℕ) → Option (List ℕ) → Option (List ℕ) → Option (List Stamp) → Option (List Stamp) → Type 0
-IsImported seen images moment images_since old new status steps steps' left left' held held' log log' =
+IsImported view old new status steps steps' left left' held held' log log' =
     IsRunOver (λ s s' pending. Imports status s s' pending left left' held held'
-    × IsAcknowledged (λ taken. AreReplies (FileSays taken) s.history) (moment new) (images_since new) s'.history left left' held log log') seen images moment images_since old new steps steps'
+    × IsAcknowledged (λ taken. AreReplies (FileSays taken) s.history) (view new) s'.history left left' held log log') view old new steps steps'

@@ -1,6 +1,6 @@
 -- What a run has taken from its source, accepted and written to its sink when it ends with a status.
 use Rattle.std.specs.Prelude.{◌≡◌, ℕ, ◌+◌, ◌<◌, ◌≤◌, ◌⊎◌, List, [], ◌∷◌, ◌++◌, length, take, Option}
-use Rattle.std.specs.Io.KnownBytes.{Appends, IsAtEnd}
+use Rattle.std.specs.Io.KnownBytes.{IsAtEnd}
 use Rattle.svc_world.specs.World.{Accepted, world}
 use Rattle.svc_world.specs.Judging.{IsHistory, next_reply}
 use Rattle.svc_world.specs.Laws.{AreLawful, ReportsGrow}

@@ -11,6 +11,7 @@ use Rattle.serv_texts.specs.declared.status.Status.TheVariants.{DiskFault, NetFa
 use Rattle.serv_machine.specs.History.{Stand}
 use Rattle.serv_top.specs.Journal.{IsRunOver}
 use Rattle.serv_texts.specs.Texts.{IsWrittenAs}
+use Rattle.serv_disk.specs.Disks.{View}
 
 -- the line that counts these ends
 pub record IsCountOf (ends : List LinkEnd) (text : List ℕ) : Type 0 where
@@ -36,7 +37,7 @@ pub record ServesLinks {C : Type 0} (P : Stand → OneServed C) (status : Status
   pub says : IsServedAs status most coming' ends written
 
 -- a journal was opened, and then links were served over it
-abbrev pub IsServedOver : {D : Type 0} → (D → Option (List ℕ)) → (D → List ℕ → Type 0) → (D → ℕ) → (D → ℕ → List ℕ → Type 0) → D → D → {C : Type 0} → (Stand → OneServed C) → Status → ℕ → ℕ → ℕ
+abbrev pub IsServedOver : {D : Type 0} → (D → View) → D → D → {C : Type 0} → (Stand → OneServed C) → Status → ℕ → ℕ → ℕ
     → Option (List C) → Option (List C) → Option (List C) → Option (List C) → Option (List ℕ) → Option (List ℕ) → Type 0
-IsServedOver seen images moment images_since old new P status most steps steps' coming coming' backed backed' held held' =
-    IsRunOver (λ s s' pending. ServesLinks P status most coming coming' backed backed' held held' s s' pending) seen images moment images_since old new steps steps'
+IsServedOver view old new P status most steps steps' coming coming' backed backed' held held' =
+    IsRunOver (λ s s' pending. ServesLinks P status most coming coming' backed backed' held held' s s' pending) view old new steps steps'

@@ -26,12 +26,11 @@ pub(crate) fn import<S: Source, K: Sink, D: Disk, L: Ledger>(
     disk: &mut D,
     steps: &mut Steps<L>,
 ) -> Status
-    ensures imported { (IsUnopened D.seen D.images D.moment D.images_since D.faults disk.old disk.new result
-        steps.old steps.new × (src.new ≡ src.old) × (snk.new ≡ snk.old))
-        ⊎ IsImported D.seen D.images D.moment D.images_since disk.old disk.new result steps.old steps.new
-        (S.left src.old) (S.left src.new) (K.held snk.old) (K.held snk.new)
-        (K.log snk.old) (K.log snk.new) }
-    ensures file { HasFileFaults (D.seen disk.old) result }
+    ensures imported { (IsUnopened D.view D.faults disk.old disk.new result steps.old steps.new
+        × (src.new ≡ src.old) × (snk.new ≡ snk.old))
+        ⊎ IsImported D.view disk.old disk.new result steps.old steps.new
+        (S.left src.old) (S.left src.new) (K.held snk.old) (K.held snk.new) (K.log snk.old) (K.log snk.new) }
+    ensures file { HasFileFaults (D.view disk.old).seen result }
     ensures read { result ≡ Status.ReadFault → HasRisen (S.faults src.old) (S.faults src.new) }
     ensures write { result ≡ Status.WriteFault → HasRisen (K.faults snk.old) (K.faults snk.new) }
     ensures disk { result ≡ Status.DiskFault → HasRisen (D.faults disk.old) (D.faults disk.new) }
@@ -55,12 +54,12 @@ fn import_by<D: Disk, M: Machine<D>, S: Source, K: Sink, L: Ledger>(
     steps: &mut Steps<L>,
 ) -> Status
     requires { M.ready machine.old disk.old }
-    ensures ends { Leaves D.images D.moment D.images_since disk.old disk.new (λ pending. Imports result
+    ensures ends { Leaves D.view disk.old disk.new (λ pending. Imports result
         (stand (M.history machine.old) steps.old) (stand (M.kept machine.new) steps.new) pending
         (S.left src.old) (S.left src.new) (K.held snk.old) (K.held snk.new))
         (M.history machine.old) (M.kept machine.new) }
     ensures acknowledged { IsAcknowledged (λ taken. AreReplies (FileSays taken) (M.history machine.old))
-        (D.moment disk.new) (D.images_since disk.new) (M.kept machine.new)
+        (D.view disk.new) (M.kept machine.new)
         (S.left src.old) (S.left src.new) (K.held snk.old) (K.log snk.old) (K.log snk.new) }
     ensures read { result ≡ Status.ReadFault → HasRisen (S.faults src.old) (S.faults src.new) }
     ensures write { result ≡ Status.WriteFault → HasRisen (K.faults snk.old) (K.faults snk.new) }
@@ -87,14 +86,14 @@ fn answer_file<D: Disk, M: Machine<D>, K: Sink, L: Ledger>(
     requires size { length bytes.now ≤ 2 ^ 26 }
     requires ready { M.ready machine.old disk.old }
     // Its rows are answered, or there is no memory for what they say.
-    ensures ends { Writes D.images D.moment D.images_since disk.old disk.new (λ pending written.
+    ensures ends { Writes D.view disk.old disk.new (λ pending written.
         ((result ≡ Status.OutOfMemory) × (pending ≡ []) × (written ≡ [])
         × Stays (stand (M.history machine.old) steps.old) (stand (M.kept machine.new) steps.new))
         ⊎ IsFileOutput result bytes.now (stand (M.history machine.old) steps.old)
         (stand (M.kept machine.new) steps.new) pending written)
         (M.history machine.old) (M.kept machine.new) (K.held snk.old) (K.held snk.new) }
-    ensures upheld { Upholds (AreReplies (FileSays bytes.now) (M.history machine.old)) (D.moment disk.new)
-        (D.images_since disk.new) (M.kept machine.new) (K.held snk.old) (K.log snk.old) (K.log snk.new) }
+    ensures upheld { Upholds (AreReplies (FileSays bytes.now) (M.history machine.old)) (D.view disk.new)
+        (M.kept machine.new) (K.held snk.old) (K.log snk.old) (K.log snk.new) }
     ensures write { result ≡ Status.WriteFault → HasRisen (K.faults snk.old) (K.faults snk.new) }
     ensures disk { result ≡ Status.DiskFault → HasRisen (D.faults disk.old) (D.faults disk.new) }
     ensures write_later { K.faults snk.old ≤ K.faults snk.new }
@@ -120,12 +119,11 @@ fn answer_rows<D: Disk, M: Machine<D>, K: Sink, L: Ledger>(
 ) -> Status
     requires rows { AreRows rows.now }
     requires ready { M.ready machine.old disk.old }
-    ensures ends { Writes D.images D.moment D.images_since disk.old disk.new
-        (IsRowsOutput result (map said_of rows.now)
+    ensures ends { Writes D.view disk.old disk.new (IsRowsOutput result (map said_of rows.now)
         (stand (M.history machine.old) steps.old) (stand (M.kept machine.new) steps.new))
         (M.history machine.old) (M.kept machine.new) (K.held snk.old) (K.held snk.new) }
-    ensures upheld { Upholds (AreReplies (λ saids. saids ≡ map said_of rows.now) (M.history machine.old)) (D.moment disk.new)
-        (D.images_since disk.new) (M.kept machine.new) (K.held snk.old) (K.log snk.old) (K.log snk.new) }
+    ensures upheld { Upholds (AreReplies (λ saids. saids ≡ map said_of rows.now) (M.history machine.old))
+        (D.view disk.new) (M.kept machine.new) (K.held snk.old) (K.log snk.old) (K.log snk.new) }
     ensures write { result ≡ Status.WriteFault → HasRisen (K.faults snk.old) (K.faults snk.new) }
     ensures disk { result ≡ Status.DiskFault → HasRisen (D.faults disk.old) (D.faults disk.new) }
     ensures write_later { K.faults snk.old ≤ K.faults snk.new }

@@ -31,14 +31,15 @@ pub(crate) fn serve_over<K: Sink, D: Disk, G: Doors, L: Ledger>(
 ) -> Status
     requires most { most ≤ MOST_LINKS }
     requires out { G.out doors.old ≡ 0 }
-    ensures served { (IsUnopened D.seen D.images D.moment D.images_since D.faults disk.old disk.new result
-        steps.old steps.new × (snk.new ≡ snk.old) × (doors.new ≡ doors.old))
-        ⊎ IsServedOver D.seen D.images D.moment D.images_since disk.old disk.new
+    ensures served { (IsUnopened D.view D.faults disk.old disk.new result steps.old steps.new
+        × (snk.new ≡ snk.old) × (doors.new ≡ doors.old))
+        ⊎ IsServedOver D.view disk.old disk.new
         (ServedLink G.Conn.left G.Conn.held G.Conn.log G.Conn.Source.faults G.Conn.Sink.faults
-        (D.moment disk.new) (D.images_since disk.new)) result most steps.old steps.new
+        (D.view disk.new))
+        result most steps.old steps.new
         (G.coming doors.old) (G.coming doors.new) (G.backed doors.old) (G.backed doors.new)
         (K.held snk.old) (K.held snk.new) }
-    ensures file { HasFileFaults (D.seen disk.old) result }
+    ensures file { HasFileFaults (D.view disk.old).seen result }
     ensures write { result ≡ Status.WriteFault → HasRisen (K.faults snk.old) (K.faults snk.new) }
     ensures disk { result ≡ Status.DiskFault → HasRisen (D.faults disk.old) (D.faults disk.new) }
     ensures net { result ≡ Status.NetFault → HasRisen (G.faults doors.old) (G.faults doors.new) }
@@ -66,10 +67,10 @@ fn serve_by<B: Frugal, D: Disk, K: Sink, G: Doors, L: Ledger>(
     requires most { most ≤ MOST_LINKS }
     requires out { G.out doors.old ≡ 0 }
     requires unspent { engine.old.journal.spent ≡ false }
-    requires durable { IsDurable (D.images disk.old) engine.old }
-    ensures ends { Leaves D.images D.moment D.images_since disk.old disk.new (λ pending. ServesLinks
+    requires durable { IsDurable (D.view disk.old).images engine.old }
+    ensures ends { Leaves D.view disk.old disk.new (λ pending. ServesLinks
         (ServedLink G.Conn.left G.Conn.held G.Conn.log G.Conn.Source.faults G.Conn.Sink.faults
-        (D.moment disk.new) (D.images_since disk.new)) result most
+        (D.view disk.new)) result most
         (G.coming doors.old) (G.coming doors.new) (G.backed doors.old) (G.backed doors.new)
         (K.held snk.old) (K.held snk.new)
         (stand (history_of engine.old) steps.old) (stand (kept_history engine.new) steps.new) pending)

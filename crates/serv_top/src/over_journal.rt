@@ -22,13 +22,12 @@ pub(crate) fn apply<S: Source, K: Sink, D: Disk, L: Ledger>(
     disk: &mut D,
     steps: &mut Steps<L>,
 ) -> Status
-    ensures applied { (IsUnopened D.seen D.images D.moment D.images_since D.faults disk.old disk.new result
-        steps.old steps.new × (src.new ≡ src.old) × (snk.new ≡ snk.old))
-        ⊎ IsApplied D.seen D.images D.moment D.images_since disk.old disk.new result steps.old steps.new
-        (S.left src.old) (S.left src.new) (K.held snk.old) (K.held snk.new)
-        (K.log snk.old) (K.log snk.new) }
+    ensures applied { (IsUnopened D.view D.faults disk.old disk.new result steps.old steps.new
+        × (src.new ≡ src.old) × (snk.new ≡ snk.old))
+        ⊎ IsApplied D.view disk.old disk.new result steps.old steps.new
+        (S.left src.old) (S.left src.new) (K.held snk.old) (K.held snk.new) (K.log snk.old) (K.log snk.new) }
     // The faults of the file come exactly by their causes.
-    ensures file { HasFileFaults (D.seen disk.old) result }
+    ensures file { HasFileFaults (D.view disk.old).seen result }
     ensures read { result ≡ Status.ReadFault → HasRisen (S.faults src.old) (S.faults src.new) }
     ensures write { result ≡ Status.WriteFault → HasRisen (K.faults snk.old) (K.faults snk.new) }
     ensures disk { result ≡ Status.DiskFault → HasRisen (D.faults disk.old) (D.faults disk.new) }

@@ -73,18 +73,18 @@ impl Serving {
             → Served self.old.replies.waiting before s
             (running (M.history machine.old) (M.kept machine.old) steps.old) held (K.held snk.old)
             self.old.line.items self.old.replies.text.items
-            → IfErr result (λ why. Writes D.images D.moment D.images_since disk.old disk.new
+            → IfErr result (λ why. Writes D.view disk.old disk.new
             (IsStopped why (AreFirst (SaidFirst Says (ended_lines (before ++ bytes.now)))) self.old.replies.waiting s
             (stand (M.kept machine.new) steps.new)) (M.kept machine.old) (M.kept machine.new) held (K.held snk.new)) }
         ensures upheld { (before : List ℕ) (s : Stand) (held : Option (List ℕ))
             → Served self.old.replies.waiting before s
             (running (M.history machine.old) (M.kept machine.old) steps.old) held (K.held snk.old)
             self.old.line.items self.old.replies.text.items
-            → Upholds (AreReplies (SaidFirst Says (ended_lines (before ++ bytes.now))) s.history) (D.moment disk.new)
-            (D.images_since disk.new) (M.kept machine.new) held (K.log snk.old) (K.log snk.new) }
+            → Upholds (AreReplies (SaidFirst Says (ended_lines (before ++ bytes.now))) s.history)
+            (D.view disk.new) (M.kept machine.new) held (K.log snk.old) (K.log snk.new) }
         ensures empty { OnOk result (self.new.replies.text.items ≡ []) }
         ensures waiting { self.new.replies.waiting ≡ self.old.replies.waiting }
-        ensures disk { OnOk result (OnDisk D.images D.moment D.images_since disk.old disk.new
+        ensures disk { OnOk result (OnDisk D.view disk.old disk.new
             (M.kept machine.old) (M.kept machine.new) []) }
         ensures ready { OnOk result (M.ready machine.new disk.new) }
         ensures later { K.faults snk.old ≤ K.faults snk.new }
@@ -124,17 +124,17 @@ impl Serving {
             → Served self.old.replies.waiting before s
             (running (M.history machine.old) (M.kept machine.old) steps.old) held (K.held snk.old)
             self.old.line.items self.old.replies.text.items
-            → IfErr result (λ why. Writes D.images D.moment D.images_since disk.old disk.new
+            → IfErr result (λ why. Writes D.view disk.old disk.new
             (IsStopped why (AreFirst (SaidFirst Says (ended_lines (before ++ bytes.now)))) self.old.replies.waiting s
             (stand (M.kept machine.new) steps.new)) (M.kept machine.old) (M.kept machine.new) held (K.held snk.new)) }
         ensures upheld { (before : List ℕ) (s : Stand) (held : Option (List ℕ))
             → Served self.old.replies.waiting before s
             (running (M.history machine.old) (M.kept machine.old) steps.old) held (K.held snk.old)
             self.old.line.items self.old.replies.text.items
-            → Upholds (AreReplies (SaidFirst Says (ended_lines (before ++ bytes.now))) s.history) (D.moment disk.new)
-            (D.images_since disk.new) (M.kept machine.new) held (K.log snk.old) (K.log snk.new) }
+            → Upholds (AreReplies (SaidFirst Says (ended_lines (before ++ bytes.now))) s.history)
+            (D.view disk.new) (M.kept machine.new) held (K.log snk.old) (K.log snk.new) }
         ensures waiting { self.new.replies.waiting ≡ self.old.replies.waiting }
-        ensures disk { OnOk result (OnDisk D.images D.moment D.images_since disk.old disk.new
+        ensures disk { OnOk result (OnDisk D.view disk.old disk.new
             (M.kept machine.old) (M.kept machine.new) []) }
         ensures running { OnOk result (M.running machine.new disk.new) }
         ensures later { K.faults snk.old ≤ K.faults snk.new }
@@ -178,7 +178,7 @@ impl Serving {
             → Served self.old.replies.waiting before s
             (running (M.history machine.old) (M.kept machine.old) steps.old) held (K.held snk.old)
             self.old.line.items self.old.replies.text.items
-            → IfErr result (λ why. Writes D.images D.moment D.images_since disk.old disk.new
+            → IfErr result (λ why. Writes D.view disk.old disk.new
             (IsStopped why (AreFirst (SaidFirst Says (ended_lines (before ++ (piece.now ++ 10 ∷ []))))) self.old.replies.waiting s
             (stand (M.kept machine.new) steps.new)) (M.kept machine.old) (M.kept machine.new) held (K.held snk.new)) }
         ensures upheld { (before : List ℕ) (s : Stand) (held : Option (List ℕ))
@@ -186,10 +186,9 @@ impl Serving {
             (running (M.history machine.old) (M.kept machine.old) steps.old) held (K.held snk.old)
             self.old.line.items self.old.replies.text.items
             → Upholds (AreReplies (SaidFirst Says (ended_lines (before ++ (piece.now ++ 10 ∷ [])))) s.history)
-            (D.moment disk.new) (D.images_since disk.new) (M.kept machine.new)
-            held (K.log snk.old) (K.log snk.new) }
+            (D.view disk.new) (M.kept machine.new) held (K.log snk.old) (K.log snk.new) }
         ensures waiting { self.new.replies.waiting ≡ self.old.replies.waiting }
-        ensures disk { OnOk result (OnDisk D.images D.moment D.images_since disk.old disk.new
+        ensures disk { OnOk result (OnDisk D.view disk.old disk.new
             (M.kept machine.old) (M.kept machine.new) []) }
         ensures running { OnOk result (M.running machine.new disk.new) }
         ensures later { K.faults snk.old ≤ K.faults snk.new }
@@ -224,18 +223,18 @@ impl Serving {
             → Served self.old.replies.waiting before s
             (running (M.history machine.old) (M.kept machine.old) steps) held (K.held snk.old)
             self.old.line.items self.old.replies.text.items
-            → IfErr result (λ why. Writes D.images D.moment D.images_since disk.old disk.new
+            → IfErr result (λ why. Writes D.view disk.old disk.new
             (IsStopped why (AreFirst (SaidFirst Says (ended_lines (before ++ piece.now)))) self.old.replies.waiting s
             (stand (M.kept machine.new) steps)) (M.kept machine.old) (M.kept machine.new) held (K.held snk.new)) }
         ensures upheld { (before : List ℕ) (s : Stand) (steps : ℕ) (held : Option (List ℕ))
             → Served self.old.replies.waiting before s
             (running (M.history machine.old) (M.kept machine.old) steps) held (K.held snk.old)
             self.old.line.items self.old.replies.text.items
-            → Upholds (AreReplies (SaidFirst Says (ended_lines (before ++ piece.now))) s.history) (D.moment disk.new)
-            (D.images_since disk.new) (M.kept machine.new) held (K.log snk.old) (K.log snk.new) }
+            → Upholds (AreReplies (SaidFirst Says (ended_lines (before ++ piece.now))) s.history)
+            (D.view disk.new) (M.kept machine.new) held (K.log snk.old) (K.log snk.new) }
         ensures same { OnOk result ((machine.new ≡ machine.old) × (disk.new ≡ disk.old) × (snk.new ≡ snk.old)) }
         ensures waiting { self.new.replies.waiting ≡ self.old.replies.waiting }
-        ensures disk { OnOk result (OnDisk D.images D.moment D.images_since disk.old disk.new
+        ensures disk { OnOk result (OnDisk D.view disk.old disk.new
             (M.kept machine.old) (M.kept machine.new) []) }
         ensures running { OnOk result (M.running machine.new disk.new) }
         ensures later { K.faults snk.old ≤ K.faults snk.new }
@@ -272,17 +271,17 @@ impl Serving {
             → Served self.old.replies.waiting before s
             (running (M.history machine.old) (M.kept machine.old) steps.old) held (K.held snk.old)
             self.old.line.items self.old.replies.text.items
-            → IfErr result (λ why. Writes D.images D.moment D.images_since disk.old disk.new
+            → IfErr result (λ why. Writes D.view disk.old disk.new
             (IsStopped why (AreFirst (SaidFirst Says (ended_lines (before ++ 10 ∷ [])))) self.old.replies.waiting s
             (stand (M.kept machine.new) steps.new)) (M.kept machine.old) (M.kept machine.new) held (K.held snk.new)) }
         ensures upheld { (before : List ℕ) (s : Stand) (held : Option (List ℕ))
             → Served self.old.replies.waiting before s
             (running (M.history machine.old) (M.kept machine.old) steps.old) held (K.held snk.old)
             self.old.line.items self.old.replies.text.items
-            → Upholds (AreReplies (SaidFirst Says (ended_lines (before ++ 10 ∷ []))) s.history) (D.moment disk.new)
-            (D.images_since disk.new) (M.kept machine.new) held (K.log snk.old) (K.log snk.new) }
+            → Upholds (AreReplies (SaidFirst Says (ended_lines (before ++ 10 ∷ []))) s.history)
+            (D.view disk.new) (M.kept machine.new) held (K.log snk.old) (K.log snk.new) }
         ensures waiting { self.new.replies.waiting ≡ self.old.replies.waiting }
-        ensures disk { OnOk result (OnDisk D.images D.moment D.images_since disk.old disk.new
+        ensures disk { OnOk result (OnDisk D.view disk.old disk.new
             (M.kept machine.old) (M.kept machine.new) []) }
         ensures running { OnOk result (M.running machine.new disk.new) }
         ensures later { K.faults snk.old ≤ K.faults snk.new }
@@ -321,16 +320,16 @@ impl Serving {
             → Served self.old.replies.waiting bytes s
             (running (M.history machine.old) (M.kept machine.old) steps.old) held (K.held snk.old)
             self.old.line.items self.old.replies.text.items
-            → IfErr result (λ why. Writes D.images D.moment D.images_since disk.old disk.new
+            → IfErr result (λ why. Writes D.view disk.old disk.new
             (IsStopped why (AreFirst (SaidFirst Says (lines_of bytes))) self.old.replies.waiting s
             (stand (M.kept machine.new) steps.new)) (M.kept machine.old) (M.kept machine.new) held (K.held snk.new)) }
         ensures upheld { (bytes : List ℕ) (s : Stand) (held : Option (List ℕ))
             → Served self.old.replies.waiting bytes s
             (running (M.history machine.old) (M.kept machine.old) steps.old) held (K.held snk.old)
             self.old.line.items self.old.replies.text.items
-            → Upholds (AreReplies (SaidFirst Says (lines_of bytes)) s.history) (D.moment disk.new)
-            (D.images_since disk.new) (M.kept machine.new) held (K.log snk.old) (K.log snk.new) }
-        ensures disk { OnOk result (OnDisk D.images D.moment D.images_since disk.old disk.new
+            → Upholds (AreReplies (SaidFirst Says (lines_of bytes)) s.history) (D.view disk.new)
+            (M.kept machine.new) held (K.log snk.old) (K.log snk.new) }
+        ensures disk { OnOk result (OnDisk D.view disk.old disk.new
             (M.kept machine.old) (M.kept machine.new) []) }
         ensures later { K.faults snk.old ≤ K.faults snk.new }
         ensures cause { result ≡ Err Stop.WriteFault → HasRisen (K.faults snk.old) (K.faults snk.new) }

@@ -32,12 +32,12 @@ pub(crate) fn serve<D: Disk, M: Machine<D>, S: Source, K: Sink, L: Ledger>(
     steps: &mut Steps<L>,
 ) -> Status
     requires { M.ready machine.old disk.old }
-    ensures ends { Leaves D.images D.moment D.images_since disk.old disk.new (λ pending. Ended waiting result
+    ensures ends { Leaves D.view disk.old disk.new (λ pending. Ended waiting result
         (stand (M.history machine.old) steps.old) (stand (M.kept machine.new) steps.new) pending
         (S.left src.old) (S.left src.new) (K.held snk.old) (K.held snk.new))
         (M.history machine.old) (M.kept machine.new) }
     ensures acknowledged { IsAcknowledged (λ taken. AreReplies (SaidFirst Says (lines_of taken)) (M.history machine.old))
-        (D.moment disk.new) (D.images_since disk.new) (M.kept machine.new)
+        (D.view disk.new) (M.kept machine.new)
         (S.left src.old) (S.left src.new) (K.held snk.old) (K.log snk.old) (K.log snk.new) }
     ensures read { result ≡ Status.ReadFault → HasRisen (S.faults src.old) (S.faults src.new) }
     ensures write { result ≡ Status.WriteFault → HasRisen (K.faults snk.old) (K.faults snk.new) }

@@ -102,25 +102,25 @@ pub fn run<S: Source, K: Sink, D: Disk, G: Doors, L: Ledger>(
 
     // Over a journal the same, with what a crash at any moment leaves on the disk; or none was opened.
     ensures apply { task_in (map (λ w. w.now) words.now) ≡ Some Task.Apply
-        → (IsUnopened D.seen D.images D.moment D.images_since D.faults disk.old disk.new result
-        steps.old steps.new × (src.new ≡ src.old) × (snk.new ≡ snk.old))
-        ⊎ IsApplied D.seen D.images D.moment D.images_since disk.old disk.new result steps.old steps.new
+        → (IsUnopened D.view D.faults disk.old disk.new result steps.old steps.new
+        × (src.new ≡ src.old) × (snk.new ≡ snk.old))
+        ⊎ IsApplied D.view disk.old disk.new result steps.old steps.new
         (S.left src.old) (S.left src.new) (K.held snk.old) (K.held snk.new) (K.log snk.old) (K.log snk.new) }
 
     // The rows of a file over a journal: the whole file is taken first.
     ensures import { task_in (map (λ w. w.now) words.now) ≡ Some Task.Import
-        → (IsUnopened D.seen D.images D.moment D.images_since D.faults disk.old disk.new result
-        steps.old steps.new × (src.new ≡ src.old) × (snk.new ≡ snk.old))
-        ⊎ IsImported D.seen D.images D.moment D.images_since disk.old disk.new result steps.old steps.new
+        → (IsUnopened D.view D.faults disk.old disk.new result steps.old steps.new
+        × (src.new ≡ src.old) × (snk.new ≡ snk.old))
+        ⊎ IsImported D.view disk.old disk.new result steps.old steps.new
         (S.left src.old) (S.left src.new) (K.held snk.old) (K.held snk.new) (K.log snk.old) (K.log snk.new) }
 
     // A text over a journal is written: the answer or the reply to a query, or an extract. Where it is about the input,
     // the whole input is taken first; nothing is written where its month has no report.
     ensures text { (text : Text) → IsGiven (map (λ w. w.now) words.now) (Task.Write text)
-        → (IsUnopened D.seen D.images D.moment D.images_since D.faults disk.old disk.new result
-        steps.old steps.new × (src.new ≡ src.old) × (snk.new ≡ snk.old))
-        ⊎ IsTextOver D.seen D.images D.moment D.images_since disk.old disk.new result text
-        steps.old steps.new (S.left src.old) (S.left src.new) (K.held snk.old) (K.held snk.new) }
+        → (IsUnopened D.view D.faults disk.old disk.new result steps.old steps.new
+        × (src.new ≡ src.old) × (snk.new ≡ snk.old))
+        ⊎ IsTextOver D.view disk.old disk.new result text steps.old steps.new
+        (S.left src.old) (S.left src.new) (K.held snk.old) (K.held snk.new) }
     ensures no_report { (text : Text) → IsGiven (map (λ w. w.now) words.now) (Task.Write text)
         → (last : Option ℕ) → result ≡ Status.NoReport last → snk.new ≡ snk.old }
 
@@ -132,28 +132,29 @@ pub fn run<S: Source, K: Sink, D: Disk, G: Doors, L: Ledger>(
 
     // Links are served over a journal, one after another, and handed back; and then their summary is written.
     ensures serve { (port most : ℕ) → task_in (map (λ w. w.now) words.now) ≡ Some (Task.Serve port most)
-        → (IsUnopened D.seen D.images D.moment D.images_since D.faults disk.old disk.new result
-        steps.old steps.new × (snk.new ≡ snk.old) × (doors.new ≡ doors.old))
-        ⊎ IsServedOver D.seen D.images D.moment D.images_since disk.old disk.new
+        → (IsUnopened D.view D.faults disk.old disk.new result steps.old steps.new
+        × (snk.new ≡ snk.old) × (doors.new ≡ doors.old))
+        ⊎ IsServedOver D.view disk.old disk.new
         (ServedLink G.Conn.left G.Conn.held G.Conn.log G.Conn.Source.faults G.Conn.Sink.faults
-        (D.moment disk.new) (D.images_since disk.new)) result most steps.old steps.new
+        (D.view disk.new))
+        result most steps.old steps.new
         (G.coming doors.old) (G.coming doors.new) (G.backed doors.old) (G.backed doors.new)
         (K.held snk.old) (K.held snk.new) }
 
     // Over a journal, a file that is none, is damaged or too long is answered so, but for want of memory or a fault of
     // the disk. A word that reads no input leaves it as it was.
     ensures file { (t : Task) → IsGiven (map (λ w. w.now) words.now) t → IsOverJournal t
-        → HasFileFaults (D.seen disk.old) result }
+        → HasFileFaults (D.view disk.old).seen result }
     ensures unread { (t : Task) → IsGiven (map (λ w. w.now) words.now) t → ¬ ReadsInput t → src.new ≡ src.old }
 
     // A journal is made of a file of at most 9 bytes, and nothing else is touched.
     ensures init { task_in (map (λ w. w.now) words.now) ≡ Some Task.Init
-        → IsInit result (D.seen disk.old) (D.seen disk.new) (D.images disk.new) (D.faults disk.old) (D.faults disk.new)
+        → IsInit result (D.view disk.old) (D.view disk.new) (D.faults disk.old) (D.faults disk.new)
         × (snk.new ≡ snk.old) × (steps.new ≡ steps.old) }
     ensures init_moments { task_in (map (λ w. w.now) words.now) ≡ Some Task.Init
-        → Each (D.images disk.old) (λ c. length c ≤ 9)
-        → LeavesOnly D.moment D.images_since disk.old disk.new (λ c. length c ≤ 9) }
-    ensures already { (s : List ℕ) → D.seen disk.old ≡ Some s → 9 < length s
+        → Each (D.view disk.old).images (λ c. length c ≤ 9)
+        → LeavesOnly D.view disk.old disk.new (λ c. length c ≤ 9) }
+    ensures already { (s : List ℕ) → (D.view disk.old).seen ≡ Some s → 9 < length s
         → task_in (map (λ w. w.now) words.now) ≡ Some Task.Init
         → (result ≡ Status.AlreadyThere) ⊎ (result ≡ Status.DiskFault) }
 
@@ -171,7 +172,7 @@ pub fn run<S: Source, K: Sink, D: Disk, G: Doors, L: Ledger>(
     // Where its input is short, its disk is good for a history and a command, and no object that it uses fails, a run
     // is done, or memory is short, or the journal cannot be written anew; a journal may be there, a report not be.
     ensures complete { (t : Task) → IsGiven (map (λ w. w.now) words.now) t
-        → IsUndisturbed t (S.left src.old) (D.seen disk.old) (D.images disk.old)
+        → IsUndisturbed t (S.left src.old) (D.view disk.old)
         (HasRisen (S.faults src.old) (S.faults src.new)) (HasRisen (K.faults snk.old) (K.faults snk.new))
         (HasRisen (D.faults disk.old) (D.faults disk.new)) (HasRisen (G.faults doors.old) (G.faults doors.new))
         → MayEnd t result }

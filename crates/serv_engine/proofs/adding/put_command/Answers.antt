@@ -9,22 +9,22 @@ use Rattle.serv_engine.proofs.adding.put_command.Goals as goal
 
 pub returns-in_err-line-clause-moments : goal.returns-in_err-line-clause-moments
 returns-in_err-line-clause-moments g c = λ form h begun kept.
-    idle_with g.D.Disk.moment g.D.Disk.images g.D.Disk.images_since c.args.until c.args.disk.now form c.args.journal.now h begun (accepted c.args.key.now c.args.command.now) c.requires.alone
+    idle_with g.D.Disk.view c.args.until c.args.disk.now form c.args.journal.now h begun (accepted c.args.key.now c.args.command.now) c.requires.alone
     (g.met.D.Disk.only_now c.args.disk.now) kept
 
 pub returns-in-Ok-clause-moments : goal.returns-in-Ok-clause-moments
 returns-in-Ok-clause-moments g c = λ form h begun kept.
-    moments_with g.D.Disk.moment g.D.Disk.images g.D.Disk.images_since c.args.until c.args.disk.now c.put_line.new.disk form h begun (accepted c.args.key.now c.args.command.now) c.deref.result.now
+    moments_with g.D.Disk.view c.args.until c.args.disk.now c.put_line.new.disk form h begun (accepted c.args.key.now c.args.command.now) c.deref.result.now
     (c.deref.ensures.value ∙ c.in_ok-line.ensures.text) (c.put_line.ensures.moments form (lines_of_history h) (lines_of_history begun) kept)
 
 pub returns-in-Ok-clause-put : goal.returns-in-Ok-clause-put
 returns-in-Ok-clause-put g c = λ form h begun kept.
-    put_with c.args.until (g.D.Disk.images c.put_line.new.disk) form h begun (accepted c.args.key.now c.args.command.now) c.deref.result.now c.put_line.new.journal
+    put_with c.args.until (g.D.Disk.view c.put_line.new.disk).images form h begun (accepted c.args.key.now c.args.command.now) c.deref.result.now c.put_line.new.journal
     (c.deref.ensures.value ∙ c.in_ok-line.ensures.text) (c.in-Ok.ensures.put form (lines_of_history h) (lines_of_history begun) kept)
 
 pub returns-clause-moments : goal.returns-clause-moments
 returns-clause-moments g c = λ form h begun kept.
-    moments_with g.D.Disk.moment g.D.Disk.images g.D.Disk.images_since c.args.until c.args.disk.now c.put_line.new.disk form h begun (accepted c.args.key.now c.args.command.now) c.deref.result.now
+    moments_with g.D.Disk.view c.args.until c.args.disk.now c.put_line.new.disk form h begun (accepted c.args.key.now c.args.command.now) c.deref.result.now
     (c.deref.ensures.value ∙ c.in_ok-line.ensures.text) (c.put_line.ensures.moments form (lines_of_history h) (lines_of_history begun) kept)
 
 pub returns-clause-fault : goal.returns-clause-fault

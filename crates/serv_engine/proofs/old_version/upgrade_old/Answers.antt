@@ -21,7 +21,7 @@ returns-then-version-eq2-clause-size g c = λ form stands.
 
 pub returns-then-version-eq2-clause-moments : goal.returns-then-version-eq2-clause-moments
 returns-then-version-eq2-clause-moments g c =
-    whole_now g.D.Disk.moment g.D.Disk.images g.D.Disk.images_since c.args.disk.now c.args.journal.now (lines_in c.args.frames.now) (g.met.D.Disk.only_now c.args.disk.now) c.requires.durable
+    whole_now g.D.Disk.view c.args.disk.now c.args.journal.now (lines_in c.args.frames.now) (g.met.D.Disk.only_now c.args.disk.now) c.requires.durable
 
 pub returns-then-version-eq2-clause-room : goal.returns-then-version-eq2-clause-room
 returns-then-version-eq2-clause-room g c = λ one.
@@ -35,13 +35,13 @@ upgrade-requires-clause-lines g c = (stands_all c.requires.durable.form (lines_i
 
 pub upgrade-requires-clause-reaches : goal.upgrade-requires-clause-reaches
 upgrade-requires-clause-reaches g c = λ s is.
-    durable_reaches (g.D.Disk.images c.args.disk.now) c.args.journal.now (lines_in c.args.frames.now) s c.requires.durable (g.met.D.Disk.reads_image c.args.disk.now s is)
+    durable_reaches (g.D.Disk.view c.args.disk.now).images c.args.journal.now (lines_in c.args.frames.now) s c.requires.durable (g.met.D.Disk.reads_image c.args.disk.now s is)
 
 pub returns-in-Ok-clause-durable : goal.returns-in-Ok-clause-durable
 returns-in-Ok-clause-durable g c =
     let d = c.requires.durable in
     let stands = stands_all d.form (lines_in c.args.frames.now) c.args.journal.now d.kept.stands in
-    upgraded_durable d.form (g.D.Disk.images c.upgrade.new.disk) c.upgrade.new.self (lines_in c.args.frames.now) (c.in-Ok.ensures.upgraded d.form stands) c.in-Ok.ensures.none_begun (c.in-Ok.ensures.durable d.form stands d.kept.each)
+    upgraded_durable d.form (g.D.Disk.view c.upgrade.new.disk).images c.upgrade.new.self (lines_in c.args.frames.now) (c.in-Ok.ensures.upgraded d.form stands) c.in-Ok.ensures.none_begun (c.in-Ok.ensures.durable d.form stands d.kept.each)
 
 pub returns-in-Ok-clause-version : goal.returns-in-Ok-clause-version
 returns-in-Ok-clause-version g c = let d = c.requires.durable in (c.in-Ok.ensures.upgraded d.form (stands_all d.form (lines_in c.args.frames.now) c.args.journal.now d.kept.stands)).version

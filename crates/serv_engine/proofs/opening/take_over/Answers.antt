@@ -8,7 +8,7 @@ use Rattle.serv_engine.proofs.opening.take_over.Goals as goal
 
 pub returns-in-Ok-upgrade_old-clause-durable : goal.returns-in-Ok-upgrade_old-clause-durable
 returns-in-Ok-upgrade_old-clause-durable g c =
-    subst (λ l. IsDurableFor (g.D.Disk.images c.upgrade_old.new.disk) c.upgrade_old.new.journal l) (sym c.in-Ok.ensures.lines) c.in-Ok-upgrade_old.ensures.durable
+    subst (λ l. IsDurableFor (g.D.Disk.view c.upgrade_old.new.disk).images c.upgrade_old.new.journal l) (sym c.in-Ok.ensures.lines) c.in-Ok-upgrade_old.ensures.durable
 
 pub returns-in-Err-upgrade_old-clause-fault : goal.returns-in-Err-upgrade_old-clause-fault
 returns-in-Err-upgrade_old-clause-fault g c =
@@ -17,7 +17,7 @@ returns-in-Err-upgrade_old-clause-fault g c =
 
 pub returns-in-Err-clause-moments : goal.returns-in-Err-clause-moments
 returns-in-Err-clause-moments g c =
-    whole_now g.D.Disk.moment g.D.Disk.images g.D.Disk.images_since c.args.disk.now c.args.journal.now (lines_in c.args.frames.now) (g.met.D.Disk.only_now c.args.disk.now) c.requires.durable
+    whole_now g.D.Disk.view c.args.disk.now c.args.journal.now (lines_in c.args.frames.now) (g.met.D.Disk.only_now c.args.disk.now) c.requires.durable
 
 pub returns-in-Err-clause-fault : goal.returns-in-Err-clause-fault
 returns-in-Err-clause-fault g c =

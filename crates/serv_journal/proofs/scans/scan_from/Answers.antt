@@ -22,7 +22,7 @@ loop-frames-preserved g c =
     let next_is : next ≡ place + 1 + head_size c.args.version + length line = omega (arith, c.head_of.ensures, long) in
     let added = c.in_ok-push-in-Record.ensures.added in
     record {
-      reading = reading_on _ _ _ _ _ _ _ _ _ _ _ was.reading c.step_at.ensures.reading;
+      reading = reading_on _ _ _ _ _ _ _ _ was.reading c.step_at.ensures.reading;
       placed = subst (λ (f : List (ℕ × List ℕ)). IsPlaced c.args.version c.args.from f next) (sym added)
           (placed_more c.args.version c.args.from place next c.loop-frames.frames line was.placed is_line next_is);
       within = omega (arith, next_is, fits.1, long, was.reading.size);

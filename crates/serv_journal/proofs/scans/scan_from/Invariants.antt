@@ -5,11 +5,11 @@ use Rattle.serv_journal.proofs.scans.scan_from.Given as goal
 
 abbrev pub invariant-loop-frames : goal.invariant-loop-frames
 invariant-loop-frames g l = record {
-  reading : IsReading g.D.Disk.seen g.D.Disk.images g.D.Disk.moment g.D.Disk.images_since g.D.Disk.faults l.fn.disk l.disk l.fn.window l.window;
+  reading : IsReading g.D.Disk.view g.D.Disk.faults l.fn.disk l.disk l.fn.window l.window;
   placed : IsPlaced l.version l.from l.frames l.place;
   within : l.place ≤ l.fn.window.size;
   few : 4 * length l.frames ≤ l.place;
-  scanned : (s : List ℕ) → g.D.Disk.seen l.fn.disk ≡ Some s → IsScanned l.version l.from l.frames l.place s;
+  scanned : (s : List ℕ) → (g.D.Disk.view l.fn.disk).seen ≡ Some s → IsScanned l.version l.from l.frames l.place s;
 }
 
 abbrev pub decreases-loop-frames : goal.decreases-loop-frames

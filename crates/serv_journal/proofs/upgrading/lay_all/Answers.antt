@@ -15,8 +15,8 @@ loop-i-init g c =
     c.first_piece.ensures ∙ laid_first lines c.commit_after.result c.len-count.result c.commit_after.ensures (c.len-count.ensures ∙ sym (length_lines_in c.args.frames.now)) in
     record {
       place = omega arith;
-      laying = subst (λ (w : List ℕ). IsLaying g.D.Disk.seen g.D.Disk.images g.D.Disk.moment g.D.Disk.images_since g.D.Disk.faults c.args.size c.args.disk.now c.lay.new.disk (c.args.size + 9) w) same
-          (laying_first _ _ _ _ _ c.args.size (c.args.size + 9) _ _ c.first_piece.result c.requires.reaches c.in_ok-lay.ensures.told c.lay.ensures.crash c.lay.ensures.moments c.lay.ensures.cause.later
+      laying = subst (λ (w : List ℕ). IsLaying g.D.Disk.view g.D.Disk.faults c.args.size c.args.disk.now c.lay.new.disk (c.args.size + 9) w) same
+          (laying_first _ _ c.args.size (c.args.size + 9) _ _ c.first_piece.result c.requires.reaches c.in_ok-lay.ensures.told c.lay.ensures.crash c.lay.ensures.moments c.lay.ensures.cause.later
           (omega (arith, ap length same, laid_long lines 0)));
     }
 
@@ -31,7 +31,7 @@ returns-in_err-lay_record-clause-crash g c = λ front long each.
 
 pub returns-in_err-lay_record-clause-moments : goal.returns-in_err-lay_record-clause-moments
 returns-in_err-lay_record-clause-moments g c = λ front long each.
-    joined _ _ _ _ _ _ (c.loop-i.invariant.laying.moments front long each)
+    joined _ _ _ _ _ (c.loop-i.invariant.laying.moments front long each)
     (c.lay_record.ensures.moments front (omega (arith, long, c.loop-i.invariant.place)) (c.loop-i.invariant.laying.crash front long each))
 
 pub overflow_add-at-in-loop-i-2 : goal.overflow_add-at-in-loop-i-2
@@ -54,8 +54,8 @@ loop-i-preserved g c =
     let long : length bytes ≡ 7 + length line = omega (arith, length-append (body Two (i + 1) line) (next ∷ []), length_of_body Two (i + 1) line) in
     record {
       place = total_more lines i c.loop-i.at (c.args.size + 9) _ less c.loop-i.invariant.place (ap (λ (x : List ℕ). c.loop-i.at + (7 + length x)) c.line_of-line.ensures.line);
-      laying = subst (λ (w : List ℕ). IsLaying g.D.Disk.seen g.D.Disk.images g.D.Disk.moment g.D.Disk.images_since g.D.Disk.faults c.args.size c.args.disk.now c.lay_record.new.disk (c.loop-i.at + (7 + length line)) w) written
-          (laying_more _ _ _ _ _ c.args.size c.loop-i.at (c.loop-i.at + (7 + length line)) _ _ _ (laid lines i) bytes c.loop-i.invariant.laying
+      laying = subst (λ (w : List ℕ). IsLaying g.D.Disk.view g.D.Disk.faults c.args.size c.args.disk.now c.lay_record.new.disk (c.loop-i.at + (7 + length line)) w) written
+          (laying_more _ _ c.args.size c.loop-i.at (c.loop-i.at + (7 + length line)) _ _ _ (laid lines i) bytes c.loop-i.invariant.laying
           (omega (arith, c.loop-i.invariant.place, laid_long lines i)) c.in_ok-lay_record.ensures.told c.lay_record.ensures.crash c.lay_record.ensures.moments c.lay_record.ensures.cause.later
           (omega (arith, long)));
     }

@@ -9,5 +9,5 @@ use Rattle.serv_journal.proofs.upgrading.lay_all.Given as goal
 abbrev pub invariant-loop-i : goal.invariant-loop-i
 invariant-loop-i g l = record {
   place : l.at ≡ l.size + 9 + length (records Two 1 (take l.i (lines_in l.frames)));
-  laying : IsLaying g.D.Disk.seen g.D.Disk.images g.D.Disk.moment g.D.Disk.images_since g.D.Disk.faults l.size l.fn.disk l.disk l.at (laid (lines_in l.frames) l.i);
+  laying : IsLaying g.D.Disk.view g.D.Disk.faults l.size l.fn.disk l.disk l.at (laid (lines_in l.frames) l.i);
 }

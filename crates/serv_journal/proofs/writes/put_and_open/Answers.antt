@@ -5,7 +5,7 @@ use Rattle.serv_journal.proofs.PutLemmas.{told_reaches, still_reaches, put_opene
 use Rattle.serv_journal.proofs.writes.put_and_open.Goals as goal
 
 pub returns-in_err-lay-clause-moments : goal.returns-in_err-lay-clause-moments
-returns-in_err-lay-clause-moments g c = laying_around g.D.Disk.images g.D.Disk.moment g.D.Disk.images_since c.args.gate c.args.at _ _ c.lay.ensures.moments
+returns-in_err-lay-clause-moments g c = laying_around g.D.Disk.view c.args.gate c.args.at _ _ c.lay.ensures.moments
 
 pub set_byte-requires : goal.set_byte-requires
 set_byte-requires g c = told_reaches _ _ c.args.bytes.now c.args.at c.args.gate c.requires.reaches c.in_ok-lay.ensures.told (omega (arith, c.requires.gate))
@@ -17,7 +17,7 @@ returns-clause-put g c =
     c.set_byte.ensures.told c.set_byte.ensures.only
 
 pub returns-clause-moments : goal.returns-clause-moments
-returns-clause-moments g c = opening_around g.D.Disk.images g.D.Disk.moment g.D.Disk.images_since c.args.gate c.args.at _ _ _ c.lay.ensures.crash c.lay.ensures.moments c.set_byte.ensures.moments
+returns-clause-moments g c = opening_around g.D.Disk.view c.args.gate c.args.at _ _ _ c.lay.ensures.crash c.lay.ensures.moments c.set_byte.ensures.moments
 
 pub returns-clause-reach : goal.returns-clause-reach
 returns-clause-reach g c =

@@ -11,5 +11,5 @@ returns-clause-durable g c =
 
 pub returns-clause-moments : goal.returns-clause-moments
 returns-clause-moments g c =
-    λ front rest long each. weaker _ _ _ _ _ _ c.put.ensures.moments
+    λ front rest long each. weaker _ _ _ _ _ c.put.ensures.moments
     (λ x h. torn_byte front rest h.0 x c.args.at (each h.0 h.1) long h.2)

@@ -17,8 +17,8 @@ loop-ask-init g c =
       gathered = none_gathered _ (stand (g.M.Machine.kept c.args.machine.now) c.args.steps.now) (running (g.M.Machine.history c.args.machine.now) (g.M.Machine.kept c.args.machine.now) c.args.steps.now) (g.K.Sink.held c.args.link.now) _
           c.new-responses.ensures.answered c.new-responses.ensures.text (sym settled.1) settled.1 (omega arith);
       waiting = c.new-responses.ensures.waiting;
-      upheld = upheld_none (AreReplies (SaidFirst Says c.args.asks.now) (g.M.Machine.kept c.args.machine.now)) (g.D.Disk.moment c.args.disk.now) (g.D.Disk.images_since c.args.disk.now) _ _ _;
-      disk = disk_none g.D.Disk.images g.D.Disk.moment g.D.Disk.images_since c.args.disk.now _ _ refl (g.met.M.Machine.keeps_running c.args.machine.now c.args.disk.now settled.0) (g.met.D.Disk.only_now c.args.disk.now);
+      upheld = upheld_none (AreReplies (SaidFirst Says c.args.asks.now) (g.M.Machine.kept c.args.machine.now)) (g.D.Disk.view c.args.disk.now) _ _ _;
+      disk = disk_none g.D.Disk.view c.args.disk.now _ _ refl (g.met.M.Machine.keeps_running c.args.machine.now c.args.disk.now settled.0) (g.met.D.Disk.only_now c.args.disk.now);
       count = c.new-responses.ensures.answered;
       running = settled.0;
       later = omega arith;
@@ -35,10 +35,10 @@ loop-ask-preserved g c =
     record {
       gathered = rw next (c.in-Ok.ensures.gathered (take i c.args.asks.now) s held c.loop-ask.invariant.gathered);
       waiting = c.answer.ensures.waiting;
-      upheld = call_upheld g.D.Disk.images g.D.Disk.moment g.D.Disk.images_since c.loop-ask.disk c.answer.new.disk c.args.asks.now (take i c.args.asks.now ++ c.ask-item.result ∷ []) (drop (i + 1) c.args.asks.now)
+      upheld = call_upheld g.D.Disk.view c.loop-ask.disk c.answer.new.disk c.args.asks.now (take i c.args.asks.now ++ c.ask-item.result ∷ []) (drop (i + 1) c.args.asks.now)
           (parted i c.args.asks.now c.ask-item.result c.ask-item.result c.loop-ask-test.true c.ask-item.is) _ _ s.history held _ _ _ [] c.in-Ok.ensures.disk
           c.loop-ask.invariant.upheld (c.answer.ensures.upheld (take i c.args.asks.now) s held c.loop-ask.invariant.gathered);
-      disk = disk_more g.D.Disk.images g.D.Disk.moment g.D.Disk.images_since c.args.disk.now c.loop-ask.disk c.answer.new.disk _ _ _ [] c.loop-ask.invariant.disk c.in-Ok.ensures.disk;
+      disk = disk_more g.D.Disk.view c.args.disk.now c.loop-ask.disk c.answer.new.disk _ _ _ [] c.loop-ask.invariant.disk c.in-Ok.ensures.disk;
       count = c.in-Ok.ensures.count ∙ ap (λ n. n + 1) c.loop-ask.invariant.count;
       running = c.in-Ok.ensures.running;
       later = omega (arith, c.loop-ask.invariant.later, c.answer.ensures.later);
@@ -51,7 +51,7 @@ returns-in-Err-clause-stops g c =
     let i = c.loop-ask.ask-index in
     let asks = c.args.asks.now in
     let s = stand (g.M.Machine.kept c.args.machine.now) c.args.steps.now in
-    front_stops g.D.Disk.images g.D.Disk.moment g.D.Disk.images_since c.in-Err.why c.args.disk.now c.loop-ask.disk c.answer.new.disk c.answer.new.self.answered asks (take i asks ++ c.ask-item.result ∷ []) (drop (i + 1) asks)
+    front_stops g.D.Disk.view c.in-Err.why c.args.disk.now c.loop-ask.disk c.answer.new.disk c.answer.new.self.answered asks (take i asks ++ c.ask-item.result ∷ []) (drop (i + 1) asks)
     s (stand (g.M.Machine.kept c.answer.new.machine) c.answer.new.steps) _ _ _ _ _ (parted i asks c.ask-item.result c.ask-item.result c.loop-ask-test.true c.ask-item.is)
     c.loop-ask.invariant.disk (c.in-Err.ensures.stopped (take i asks) s (g.K.Sink.held c.args.link.now) c.loop-ask.invariant.gathered)
 
@@ -61,7 +61,7 @@ returns-in-Err-clause-upheld g c =
     let asks = c.args.asks.now in
     let s = stand (g.M.Machine.kept c.args.machine.now) c.args.steps.now in
     let held = g.K.Sink.held c.args.link.now in
-    stop_upheld g.D.Disk.images g.D.Disk.moment g.D.Disk.images_since c.loop-ask.disk c.answer.new.disk asks (take i asks ++ c.ask-item.result ∷ []) (drop (i + 1) asks)
+    stop_upheld g.D.Disk.view c.loop-ask.disk c.answer.new.disk asks (take i asks ++ c.ask-item.result ∷ []) (drop (i + 1) asks)
     (parted i asks c.ask-item.result c.ask-item.result c.loop-ask-test.true c.ask-item.is) _ _ s.history held _ _ _ c.in-Err.why c.answer.new.self.answered s (stand (g.M.Machine.kept c.answer.new.machine) c.answer.new.steps) _
     (c.in-Err.ensures.stopped (take i asks) s held c.loop-ask.invariant.gathered)
     c.loop-ask.invariant.upheld (c.answer.ensures.upheld (take i asks) s held c.loop-ask.invariant.gathered)
@@ -74,8 +74,8 @@ returns-in-Ok-settle-clause-answered g c =
     let all : take c.loop-ask.ask-index asks ≡ asks = take_all c.loop-ask.ask-index asks (omega (arith, c.loop-ask-test.false)) in
     all_answered _ asks s (running (g.M.Machine.history c.settle.new.machine) (g.M.Machine.kept c.settle.new.machine) c.loop-ask.steps) held _ _
     (c.in-Ok-settle.ensures.gathered asks s c.loop-ask.steps held (rw all at c.loop-ask.invariant.gathered)) c.in-Ok-settle.ensures.empty
-    (g.met.M.Machine.settled c.settle.new.machine c.settle.new.disk c.in-Ok-settle.ensures.ready).1 g.D.Disk.images g.D.Disk.moment g.D.Disk.images_since c.args.disk.now c.settle.new.disk _
-    (disk_more g.D.Disk.images g.D.Disk.moment g.D.Disk.images_since c.args.disk.now c.loop-ask.disk c.settle.new.disk _ _ _ [] c.loop-ask.invariant.disk c.in-Ok-settle.ensures.disk)
+    (g.met.M.Machine.settled c.settle.new.machine c.settle.new.disk c.in-Ok-settle.ensures.ready).1 g.D.Disk.view c.args.disk.now c.settle.new.disk _
+    (disk_more g.D.Disk.view c.args.disk.now c.loop-ask.disk c.settle.new.disk _ _ _ [] c.loop-ask.invariant.disk c.in-Ok-settle.ensures.disk)
 
 pub returns-in-Ok-settle-clause-upheld : goal.returns-in-Ok-settle-clause-upheld
 returns-in-Ok-settle-clause-upheld g c =
@@ -83,7 +83,7 @@ returns-in-Ok-settle-clause-upheld g c =
     let s = stand (g.M.Machine.kept c.args.machine.now) c.args.steps.now in
     let held = g.K.Sink.held c.args.link.now in
     let all : take c.loop-ask.ask-index asks ≡ asks = take_all c.loop-ask.ask-index asks (omega (arith, c.loop-ask-test.false)) in
-    call_upheld g.D.Disk.images g.D.Disk.moment g.D.Disk.images_since c.loop-ask.disk c.settle.new.disk asks asks [] (sym (append-nil asks)) _ _ s.history held _ _ _ [] c.in-Ok-settle.ensures.disk c.loop-ask.invariant.upheld
+    call_upheld g.D.Disk.view c.loop-ask.disk c.settle.new.disk asks asks [] (sym (append-nil asks)) _ _ s.history held _ _ _ [] c.in-Ok-settle.ensures.disk c.loop-ask.invariant.upheld
     (c.settle.ensures.upheld asks s c.loop-ask.steps held (rw all at c.loop-ask.invariant.gathered))
 
 pub returns-clause-stops : goal.returns-clause-stops
@@ -92,7 +92,7 @@ returns-clause-stops g c =
     let s = stand (g.M.Machine.kept c.args.machine.now) c.args.steps.now in
     let held = g.K.Sink.held c.args.link.now in
     let all : take c.loop-ask.ask-index asks ≡ asks = take_all c.loop-ask.ask-index asks (omega (arith, c.loop-ask-test.false)) in
-    front_stops g.D.Disk.images g.D.Disk.moment g.D.Disk.images_since c.in-Err-settle.why c.args.disk.now c.loop-ask.disk c.settle.new.disk c.settle.new.self.answered asks asks [] s
+    front_stops g.D.Disk.view c.in-Err-settle.why c.args.disk.now c.loop-ask.disk c.settle.new.disk c.settle.new.self.answered asks asks [] s
     (stand (g.M.Machine.kept c.settle.new.machine) c.loop-ask.steps) _ _ _ _ _ (sym (append-nil asks)) c.loop-ask.invariant.disk
     (c.in-Err-settle.ensures.stopped asks s c.loop-ask.steps held (rw all at c.loop-ask.invariant.gathered))
 
@@ -102,6 +102,6 @@ returns-clause-upheld g c =
     let s = stand (g.M.Machine.kept c.args.machine.now) c.args.steps.now in
     let held = g.K.Sink.held c.args.link.now in
     let all : take c.loop-ask.ask-index asks ≡ asks = take_all c.loop-ask.ask-index asks (omega (arith, c.loop-ask-test.false)) in
-    stop_upheld g.D.Disk.images g.D.Disk.moment g.D.Disk.images_since c.loop-ask.disk c.settle.new.disk asks asks [] (sym (append-nil asks)) _ _ s.history held _ _ _ c.in-Err-settle.why c.settle.new.self.answered s (stand (g.M.Machine.kept c.settle.new.machine) c.loop-ask.steps) _
+    stop_upheld g.D.Disk.view c.loop-ask.disk c.settle.new.disk asks asks [] (sym (append-nil asks)) _ _ s.history held _ _ _ c.in-Err-settle.why c.settle.new.self.answered s (stand (g.M.Machine.kept c.settle.new.machine) c.loop-ask.steps) _
     (c.in-Err-settle.ensures.stopped asks s c.loop-ask.steps held (rw all at c.loop-ask.invariant.gathered)) c.loop-ask.invariant.upheld
     (c.settle.ensures.upheld asks s c.loop-ask.steps held (rw all at c.loop-ask.invariant.gathered))

@@ -13,9 +13,9 @@ invariant-loop-ask g l = record {
   gathered : AreGathered l.responses.answered (take l.ask-index l.asks) (stand (g.M.Machine.kept l.fn.machine) l.fn.steps)
       (running (g.M.Machine.history l.machine) (g.M.Machine.kept l.machine) l.steps) (g.K.Sink.held l.fn.link) (g.K.Sink.held l.link) l.responses.replies.text.items;
   waiting : l.responses.replies.waiting ≡ 0;
-  upheld : Upholds (AreReplies (SaidFirst Says l.asks) (g.M.Machine.kept l.fn.machine)) (g.D.Disk.moment l.disk) (g.D.Disk.images_since l.disk) (g.M.Machine.kept l.machine)
+  upheld : Upholds (AreReplies (SaidFirst Says l.asks) (g.M.Machine.kept l.fn.machine)) (g.D.Disk.view l.disk) (g.M.Machine.kept l.machine)
       (g.K.Sink.held l.fn.link) (g.K.Sink.log l.fn.link) (g.K.Sink.log l.link);
-  disk : OnDisk g.D.Disk.images g.D.Disk.moment g.D.Disk.images_since l.fn.disk l.disk (g.M.Machine.kept l.fn.machine) (g.M.Machine.kept l.machine) [];
+  disk : OnDisk g.D.Disk.view l.fn.disk l.disk (g.M.Machine.kept l.fn.machine) (g.M.Machine.kept l.machine) [];
   count : l.responses.answered ≡ l.ask-index;
   running : g.M.Machine.running l.machine l.disk;
   later : g.K.Sink.faults l.fn.link ≤ g.K.Sink.faults l.link;

@@ -7,12 +7,12 @@ use Rattle.serv_links.proofs.doors.serve_doors.Given as goal
 -- so many links are served
 abbrev pub invariant-loop : goal.invariant-loop
 invariant-loop g l = record {
-  along : Along g.D.Disk.images g.D.Disk.moment g.D.Disk.images_since g.G.Conn.Source.left g.G.Conn.Sink.held g.G.Conn.Sink.log g.G.Conn.Source.faults g.G.Conn.Sink.faults l.fn.disk l.disk l.summary l.counter
+  along : Along g.D.Disk.view g.G.Conn.Source.left g.G.Conn.Sink.held g.G.Conn.Sink.log g.G.Conn.Source.faults g.G.Conn.Sink.faults l.fn.disk l.disk l.summary l.counter
       (g.G.Doors.coming l.fn.doors) (g.G.Doors.coming l.doors) (g.G.Doors.backed l.fn.doors) (g.G.Doors.backed l.doors)
       (stand (history_of l.fn.engine) l.fn.steps) (stand (kept_history l.engine) l.steps);
   out : g.G.Doors.out l.doors ≡ 0;
   unspent : l.engine.journal.spent ≡ false;
-  durable : IsDurable (g.D.Disk.images l.disk) l.engine;
+  durable : IsDurable (g.D.Disk.view l.disk).images l.engine;
   served : l.summary.served ≡ l.counter;
   requests : l.summary.requests ≤ l.summary.served * 2 ^ 24;
   broken : l.summary.broken ≤ l.summary.served;

@@ -11,12 +11,12 @@ use Rattle.serv_links.proofs.one_link.serve_one.Goals as goal
 pub returns-clause-served : goal.returns-clause-served
 returns-clause-served g c =
     subst
-    (λ (h : History). Writes g.D.Disk.images g.D.Disk.moment g.D.Disk.images_since c.args.disk.now c.serve_link.new.disk
+    (λ (h : History). Writes g.D.Disk.view c.args.disk.now c.serve_link.new.disk
     (Serves c.serve_link.result (HasRisen (g.C.Source.faults c.args.link.now) (g.C.Source.faults c.serve_link.new.link)) (HasRisen (g.C.Sink.faults c.args.link.now) (g.C.Sink.faults c.serve_link.new.link))
-    (λ covers. Upholds covers (g.D.Disk.moment c.serve_link.new.disk) (g.D.Disk.images_since c.serve_link.new.disk) (kept_history c.serve_link.new.machine) (g.C.Sink.held c.args.link.now) (g.C.Sink.log c.args.link.now) (g.C.Sink.log c.serve_link.new.link))
+    (λ covers. Upholds covers (g.D.Disk.view c.serve_link.new.disk) (kept_history c.serve_link.new.machine) (g.C.Sink.held c.args.link.now) (g.C.Sink.log c.args.link.now) (g.C.Sink.log c.serve_link.new.link))
     (g.C.Source.left c.args.link.now) (g.C.Source.left c.serve_link.new.link) (stand h c.args.steps.now) (stand (kept_history c.serve_link.new.machine) c.serve_link.new.steps))
     h (kept_history c.serve_link.new.machine) (g.C.Sink.held c.args.link.now) (g.C.Sink.held c.serve_link.new.link))
-    (durable_kept (g.D.Disk.images c.args.disk.now) c.args.engine.now c.requires.durable) c.serve_link.ensures.served
+    (durable_kept (g.D.Disk.view c.args.disk.now).images c.args.engine.now c.requires.durable) c.serve_link.ensures.served
 
 pub returns-clause-complete : goal.returns-clause-complete
 returns-clause-complete g c = λ input is short reads writes disks.

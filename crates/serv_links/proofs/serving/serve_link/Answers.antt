@@ -14,15 +14,15 @@ pub returns-in_default-clause-served : goal.returns-in_default-clause-served
 returns-in_default-clause-served g c =
     let kept : g.C.Source.left c.write_last.new.link ≡ g.C.Source.left c.args.link.now =
     same_left (g.C.Sink.beside c.args.link.now) (g.C.Sink.beside c.write_last.new.link) _ _ _ _ (g.met.C.Link.reading c.args.link.now) (g.met.C.Link.reading c.write_last.new.link) c.write_last.ensures.beside in
-    starved_at_once g.D.Disk.images g.D.Disk.moment g.D.Disk.images_since c.args.disk.now (g.met.D.Disk.only_now c.args.disk.now)
+    starved_at_once g.D.Disk.view c.args.disk.now (g.met.D.Disk.only_now c.args.disk.now)
     (HasRisen (g.C.Source.faults c.args.link.now) (g.C.Source.faults c.write_last.new.link)) (HasRisen (g.C.Sink.faults c.args.link.now) (g.C.Sink.faults c.write_last.new.link)) _ _ _ _ _ _ (stand (g.M.Machine.kept c.args.machine.now) c.args.steps.now)
     kept c.write_last.ensures.front c.write_last.ensures.noted
-    (disk_none g.D.Disk.images g.D.Disk.moment g.D.Disk.images_since c.args.disk.now _ _ refl (g.met.M.Machine.keeps_running c.args.machine.now c.args.disk.now (g.met.M.Machine.settled c.args.machine.now c.args.disk.now c.requires).0) (g.met.D.Disk.only_now c.args.disk.now))
+    (disk_none g.D.Disk.view c.args.disk.now _ _ refl (g.met.M.Machine.keeps_running c.args.machine.now c.args.disk.now (g.met.M.Machine.settled c.args.machine.now c.args.disk.now c.requires).0) (g.met.D.Disk.only_now c.args.disk.now))
 
 pub pieces-init : goal.pieces-init
 pieces-init g c = record {
-  run = going_none g.D.Disk.images g.D.Disk.moment g.D.Disk.images_since c.args.disk.now _ _ _ c.in-Ok.conn (stand (g.M.Machine.kept c.args.machine.now) c.args.steps.now) c.in-Ok.ensures
-      (disk_none g.D.Disk.images g.D.Disk.moment g.D.Disk.images_since c.args.disk.now _ _ refl (g.met.M.Machine.keeps_running c.args.machine.now c.args.disk.now (g.met.M.Machine.settled c.args.machine.now c.args.disk.now c.requires).0) (g.met.D.Disk.only_now c.args.disk.now));
+  run = going_none g.D.Disk.view c.args.disk.now _ _ _ c.in-Ok.conn (stand (g.M.Machine.kept c.args.machine.now) c.args.steps.now) c.in-Ok.ensures
+      (disk_none g.D.Disk.view c.args.disk.now _ _ refl (g.met.M.Machine.keeps_running c.args.machine.now c.args.disk.now (g.met.M.Machine.settled c.args.machine.now c.args.disk.now c.requires).0) (g.met.D.Disk.only_now c.args.disk.now));
   below = omega arith;
   few = omega arith;
   ready = c.requires;
@@ -38,8 +38,8 @@ returns-in-Ok-eq0-clause-served g c =
     let unnoted : g.C.Sink.log c.read_some.new.src ≡ g.C.Sink.log c.pieces.link =
     same_log (g.C.Source.beside c.pieces.link) (g.C.Source.beside c.read_some.new.src) _ _ _ _ _ _ _ _ (g.met.C.Link.writing c.pieces.link) (g.met.C.Link.writing c.read_some.new.src) c.read_some.ensures.beside in
     let none : c.in-Ok-eq0.field-0 ≡ 0 = omega (arith, c.in-Ok-eq0.field-0-test) in
-    run_ends g.D.Disk.images g.D.Disk.moment g.D.Disk.images_since c.args.disk.now c.pieces.disk
-    (λ log covers. Upholds covers (g.D.Disk.moment c.pieces.disk) (g.D.Disk.images_since c.pieces.disk) (g.M.Machine.kept c.pieces.machine) (g.C.Sink.held c.args.link.now) (g.C.Sink.log c.args.link.now) log) _ _ unnoted _ _ _ _ c.pieces.conn c.pieces.answered c.pieces.taken
+    run_ends g.D.Disk.view c.args.disk.now c.pieces.disk
+    (λ log covers. Upholds covers (g.D.Disk.view c.pieces.disk) (g.M.Machine.kept c.pieces.machine) (g.C.Sink.held c.args.link.now) (g.C.Sink.log c.args.link.now) log) _ _ unnoted _ _ _ _ c.pieces.conn c.pieces.answered c.pieces.taken
     (stand (g.M.Machine.kept c.args.machine.now) c.args.steps.now) (stand (g.M.Machine.kept c.pieces.machine) c.pieces.steps) c.pieces.invariant.run _ _ kept c.pieces.invariant.below _ _
     (rw none at c.in-Ok-eq0.ensures.taken) (c.in-Ok-eq0.ensures.end none)
 
@@ -49,8 +49,8 @@ returns-in-Err-clause-served g c =
     same_held (g.C.Source.beside c.pieces.link) (g.C.Source.beside c.read_some.new.src) _ _ _ _ _ _ _ _ (g.met.C.Link.writing c.pieces.link) (g.met.C.Link.writing c.read_some.new.src) c.read_some.ensures.beside in
     let unnoted : g.C.Sink.log c.read_some.new.src ≡ g.C.Sink.log c.pieces.link =
     same_log (g.C.Source.beside c.pieces.link) (g.C.Source.beside c.read_some.new.src) _ _ _ _ _ _ _ _ (g.met.C.Link.writing c.pieces.link) (g.met.C.Link.writing c.read_some.new.src) c.read_some.ensures.beside in
-    run_breaks g.D.Disk.images g.D.Disk.moment g.D.Disk.images_since c.args.disk.now c.pieces.disk
-    (λ log covers. Upholds covers (g.D.Disk.moment c.pieces.disk) (g.D.Disk.images_since c.pieces.disk) (g.M.Machine.kept c.pieces.machine) (g.C.Sink.held c.args.link.now) (g.C.Sink.log c.args.link.now) log) _ _ unnoted _ _ _ _ c.pieces.conn c.pieces.answered c.pieces.taken
+    run_breaks g.D.Disk.view c.args.disk.now c.pieces.disk
+    (λ log covers. Upholds covers (g.D.Disk.view c.pieces.disk) (g.M.Machine.kept c.pieces.machine) (g.C.Sink.held c.args.link.now) (g.C.Sink.log c.args.link.now) log) _ _ unnoted _ _ _ _ c.pieces.conn c.pieces.answered c.pieces.taken
     (stand (g.M.Machine.kept c.args.machine.now) c.args.steps.now) (stand (g.M.Machine.kept c.pieces.machine) c.pieces.steps) c.pieces.invariant.run _ _ kept c.pieces.invariant.below _ _
     c.in-Err.ensures.kept (risen_last _ _ _ c.pieces.invariant.read_later c.read_some.ensures.cause.later c.in-Err.ensures.cause.failed)
 
@@ -65,7 +65,7 @@ returns-in-Err-WriteFault-clause-served g c =
     let same : g.C.Sink.faults c.read_some.new.src ≡ g.C.Sink.faults c.pieces.link =
     same_writes (g.C.Source.beside c.pieces.link) (g.C.Source.beside c.read_some.new.src) _ _ _ _ _ _ _ _ (g.met.C.Link.writing c.pieces.link) (g.met.C.Link.writing c.read_some.new.src) c.read_some.ensures.beside in
     let within : c.pieces.taken + c.in-Ok-read_some.count ≤ link_limit = omega (arith, c.in-Ok-read_some.ensures.bound, c.min-most.ensures, c.pieces.invariant.below) in
-    run_broken g.D.Disk.images g.D.Disk.moment g.D.Disk.images_since c.args.disk.now c.pieces.disk c.serve_piece-round.new.disk _ _ _ _ _ _ _ _ c.pieces.conn c.serve_piece-round.new.conn c.pieces.answered c.pieces.taken
+    run_broken g.D.Disk.view c.args.disk.now c.pieces.disk c.serve_piece-round.new.disk _ _ _ _ _ _ _ _ c.pieces.conn c.serve_piece-round.new.conn c.pieces.answered c.pieces.taken
     (stand (g.M.Machine.kept c.args.machine.now) c.args.steps.now) (stand (g.M.Machine.kept c.pieces.machine) c.pieces.steps) (stand (g.M.Machine.kept c.serve_piece-round.new.machine) c.serve_piece-round.new.steps)
     (g.C.Sink.log c.args.link.now) (g.C.Sink.log c.pieces.link) (g.C.Sink.log c.read_some.new.src) (g.C.Sink.log c.serve_piece-round.new.link) unnoted c.pieces.invariant.run kept (take c.in-Ok-read_some.count c.read_some.new.room) c.in-Ok-read_some.count c.in-Ok-read_some.ensures.count (omega (arith, c.in-Ok-read_some.ensures.bound, c.min-most.ensures)) c.in-Ok-read_some.ensures.taken stays
     _ c.serve_piece-round.result.outcome c.serve_piece-round.result.answered c.serve_piece-round.ensures.piece c.serve_piece-round.ensures.upheld within _ _
@@ -84,7 +84,7 @@ returns-in-Err-DiskFault-clause-served g c =
     let same : g.C.Sink.faults c.read_some.new.src ≡ g.C.Sink.faults c.pieces.link =
     same_writes (g.C.Source.beside c.pieces.link) (g.C.Source.beside c.read_some.new.src) _ _ _ _ _ _ _ _ (g.met.C.Link.writing c.pieces.link) (g.met.C.Link.writing c.read_some.new.src) c.read_some.ensures.beside in
     let within : c.pieces.taken + c.in-Ok-read_some.count ≤ link_limit = omega (arith, c.in-Ok-read_some.ensures.bound, c.min-most.ensures, c.pieces.invariant.below) in
-    run_disk g.D.Disk.images g.D.Disk.moment g.D.Disk.images_since c.args.disk.now c.pieces.disk c.serve_piece-round.new.disk _ _ _ _ _ _ _ _ c.pieces.conn c.serve_piece-round.new.conn c.pieces.answered c.pieces.taken
+    run_disk g.D.Disk.view c.args.disk.now c.pieces.disk c.serve_piece-round.new.disk _ _ _ _ _ _ _ _ c.pieces.conn c.serve_piece-round.new.conn c.pieces.answered c.pieces.taken
     (stand (g.M.Machine.kept c.args.machine.now) c.args.steps.now) (stand (g.M.Machine.kept c.pieces.machine) c.pieces.steps) (stand (g.M.Machine.kept c.serve_piece-round.new.machine) c.serve_piece-round.new.steps)
     (g.C.Sink.log c.args.link.now) (g.C.Sink.log c.pieces.link) (g.C.Sink.log c.read_some.new.src) (g.C.Sink.log c.serve_piece-round.new.link) unnoted c.pieces.invariant.run kept (take c.in-Ok-read_some.count c.read_some.new.room) c.in-Ok-read_some.count c.in-Ok-read_some.ensures.count (omega (arith, c.in-Ok-read_some.ensures.bound, c.min-most.ensures)) c.in-Ok-read_some.ensures.taken stays
     _ c.serve_piece-round.result.outcome c.serve_piece-round.result.answered c.serve_piece-round.ensures.piece c.serve_piece-round.ensures.upheld within _ _
@@ -101,7 +101,7 @@ returns-in-Err-OutOfMemory-clause-served g c =
     let same : g.C.Sink.faults c.read_some.new.src ≡ g.C.Sink.faults c.pieces.link =
     same_writes (g.C.Source.beside c.pieces.link) (g.C.Source.beside c.read_some.new.src) _ _ _ _ _ _ _ _ (g.met.C.Link.writing c.pieces.link) (g.met.C.Link.writing c.read_some.new.src) c.read_some.ensures.beside in
     let within : c.pieces.taken + c.in-Ok-read_some.count ≤ link_limit = omega (arith, c.in-Ok-read_some.ensures.bound, c.min-most.ensures, c.pieces.invariant.below) in
-    run_memory g.D.Disk.images g.D.Disk.moment g.D.Disk.images_since c.args.disk.now c.pieces.disk c.serve_piece-round.new.disk _ _ _ _ _ _ _ _ c.pieces.conn c.serve_piece-round.new.conn c.pieces.answered c.pieces.taken
+    run_memory g.D.Disk.view c.args.disk.now c.pieces.disk c.serve_piece-round.new.disk _ _ _ _ _ _ _ _ c.pieces.conn c.serve_piece-round.new.conn c.pieces.answered c.pieces.taken
     (stand (g.M.Machine.kept c.args.machine.now) c.args.steps.now) (stand (g.M.Machine.kept c.pieces.machine) c.pieces.steps) (stand (g.M.Machine.kept c.serve_piece-round.new.machine) c.serve_piece-round.new.steps)
     (g.C.Sink.log c.args.link.now) (g.C.Sink.log c.pieces.link) (g.C.Sink.log c.read_some.new.src) (g.C.Sink.log c.serve_piece-round.new.link) unnoted c.pieces.invariant.run kept (take c.in-Ok-read_some.count c.read_some.new.room) c.in-Ok-read_some.count c.in-Ok-read_some.ensures.count (omega (arith, c.in-Ok-read_some.ensures.bound, c.min-most.ensures)) c.in-Ok-read_some.ensures.taken stays
     _ c.serve_piece-round.result.outcome c.serve_piece-round.result.answered c.serve_piece-round.ensures.piece c.serve_piece-round.ensures.upheld within _ _
@@ -116,11 +116,11 @@ returns-then-taken-eq-LINK_LIMIT-clause-served g c =
     let stays : g.C.Source.left c.serve_piece-round.new.link ≡ g.C.Source.left c.read_some.new.src =
     same_left (g.C.Sink.beside c.read_some.new.src) (g.C.Sink.beside c.serve_piece-round.new.link) _ _ _ _ (g.met.C.Link.reading c.read_some.new.src) (g.met.C.Link.reading c.serve_piece-round.new.link) c.serve_piece-round.ensures.beside in
     let passed =
-    run_passes g.D.Disk.images g.D.Disk.moment g.D.Disk.images_since c.args.disk.now c.pieces.disk c.serve_piece-round.new.disk _ _ _ _ _ _ _ _ c.pieces.conn c.serve_piece-round.new.conn c.pieces.answered c.pieces.taken
+    run_passes g.D.Disk.view c.args.disk.now c.pieces.disk c.serve_piece-round.new.disk _ _ _ _ _ _ _ _ c.pieces.conn c.serve_piece-round.new.conn c.pieces.answered c.pieces.taken
     (stand (g.M.Machine.kept c.args.machine.now) c.args.steps.now) (stand (g.M.Machine.kept c.pieces.machine) c.pieces.steps) (stand (g.M.Machine.kept c.serve_piece-round.new.machine) c.serve_piece-round.new.steps)
     (g.C.Sink.log c.args.link.now) (g.C.Sink.log c.pieces.link) (g.C.Sink.log c.read_some.new.src) (g.C.Sink.log c.serve_piece-round.new.link) unnoted c.pieces.invariant.run kept (take c.in-Ok-read_some.count c.read_some.new.room) c.in-Ok-read_some.count c.in-Ok-read_some.ensures.count (omega (arith, c.in-Ok-read_some.ensures.bound, c.min-most.ensures)) c.in-Ok-read_some.ensures.taken stays
     _ c.serve_piece-round.result.outcome c.serve_piece-round.result.answered c.serve_piece-round.ensures.piece c.serve_piece-round.ensures.upheld c.in-Ok-outcome.is in
-    run_cut g.D.Disk.images g.D.Disk.moment g.D.Disk.images_since c.args.disk.now c.serve_piece-round.new.disk _ _ _ _ _ _ _ _ _ _ passed _ _ (omega (arith, c.if-taken-eq-LINK_LIMIT.true))
+    run_cut g.D.Disk.view c.args.disk.now c.serve_piece-round.new.disk _ _ _ _ _ _ _ _ _ _ passed _ _ (omega (arith, c.if-taken-eq-LINK_LIMIT.true))
 
 pub returns-then-is_over-clause-served : goal.returns-then-is_over-clause-served
 returns-then-is_over-clause-served g c =
@@ -132,11 +132,11 @@ returns-then-is_over-clause-served g c =
     same_left (g.C.Sink.beside c.read_some.new.src) (g.C.Sink.beside c.serve_piece-round.new.link) _ _ _ _ (g.met.C.Link.reading c.read_some.new.src) (g.met.C.Link.reading c.serve_piece-round.new.link) c.serve_piece-round.ensures.beside in
     let within : c.pieces.taken + c.in-Ok-read_some.count ≤ link_limit = omega (arith, c.in-Ok-read_some.ensures.bound, c.min-most.ensures, c.pieces.invariant.below) in
     let passed =
-    run_passes g.D.Disk.images g.D.Disk.moment g.D.Disk.images_since c.args.disk.now c.pieces.disk c.serve_piece-round.new.disk _ _ _ _ _ _ _ _ c.pieces.conn c.serve_piece-round.new.conn c.pieces.answered c.pieces.taken
+    run_passes g.D.Disk.view c.args.disk.now c.pieces.disk c.serve_piece-round.new.disk _ _ _ _ _ _ _ _ c.pieces.conn c.serve_piece-round.new.conn c.pieces.answered c.pieces.taken
     (stand (g.M.Machine.kept c.args.machine.now) c.args.steps.now) (stand (g.M.Machine.kept c.pieces.machine) c.pieces.steps) (stand (g.M.Machine.kept c.serve_piece-round.new.machine) c.serve_piece-round.new.steps)
     (g.C.Sink.log c.args.link.now) (g.C.Sink.log c.pieces.link) (g.C.Sink.log c.read_some.new.src) (g.C.Sink.log c.serve_piece-round.new.link) unnoted c.pieces.invariant.run kept (take c.in-Ok-read_some.count c.read_some.new.room) c.in-Ok-read_some.count c.in-Ok-read_some.ensures.count (omega (arith, c.in-Ok-read_some.ensures.bound, c.min-most.ensures)) c.in-Ok-read_some.ensures.taken stays
     _ c.serve_piece-round.result.outcome c.serve_piece-round.result.answered c.serve_piece-round.ensures.piece c.serve_piece-round.ensures.upheld c.in-Ok-outcome.is in
-    run_over g.D.Disk.images g.D.Disk.moment g.D.Disk.images_since c.args.disk.now c.serve_piece-round.new.disk _ _ _ _ _ _ _ _ _ _ passed _ _ (omega (arith, within, c.if-taken-eq-LINK_LIMIT.false))
+    run_over g.D.Disk.view c.args.disk.now c.serve_piece-round.new.disk _ _ _ _ _ _ _ _ _ _ passed _ _ (omega (arith, within, c.if-taken-eq-LINK_LIMIT.false))
     (λ r stands. both_ways c.is_over.result (c.is_over.ensures.stands r stands) c.if-is_over.true)
 
 pub pieces-preserved : goal.pieces-preserved
@@ -153,12 +153,12 @@ pieces-preserved g c =
     same_reads (g.C.Sink.beside c.read_some.new.src) (g.C.Sink.beside c.serve_piece-round.new.link) _ _ _ _ (g.met.C.Link.reading c.read_some.new.src) (g.met.C.Link.reading c.serve_piece-round.new.link) c.serve_piece-round.ensures.beside in
     let within : c.pieces.taken + c.in-Ok-read_some.count ≤ link_limit = omega (arith, c.in-Ok-read_some.ensures.bound, c.min-most.ensures, c.pieces.invariant.below) in
     let passed =
-    run_passes g.D.Disk.images g.D.Disk.moment g.D.Disk.images_since c.args.disk.now c.pieces.disk c.serve_piece-round.new.disk _ _ _ _ _ _ _ _ c.pieces.conn c.serve_piece-round.new.conn c.pieces.answered c.pieces.taken
+    run_passes g.D.Disk.view c.args.disk.now c.pieces.disk c.serve_piece-round.new.disk _ _ _ _ _ _ _ _ c.pieces.conn c.serve_piece-round.new.conn c.pieces.answered c.pieces.taken
     (stand (g.M.Machine.kept c.args.machine.now) c.args.steps.now) (stand (g.M.Machine.kept c.pieces.machine) c.pieces.steps) (stand (g.M.Machine.kept c.serve_piece-round.new.machine) c.serve_piece-round.new.steps)
     (g.C.Sink.log c.args.link.now) (g.C.Sink.log c.pieces.link) (g.C.Sink.log c.read_some.new.src) (g.C.Sink.log c.serve_piece-round.new.link) unnoted c.pieces.invariant.run kept (take c.in-Ok-read_some.count c.read_some.new.room) c.in-Ok-read_some.count c.in-Ok-read_some.ensures.count (omega (arith, c.in-Ok-read_some.ensures.bound, c.min-most.ensures)) c.in-Ok-read_some.ensures.taken stays
     _ c.serve_piece-round.result.outcome c.serve_piece-round.result.answered c.serve_piece-round.ensures.piece c.serve_piece-round.ensures.upheld c.in-Ok-outcome.is in
     record {
-      run = run_goes g.D.Disk.images g.D.Disk.moment g.D.Disk.images_since c.args.disk.now c.serve_piece-round.new.disk _ _ _ _ _ _ _ _ _ _ passed (sym c.is_over.ensures.value ∙ c.if-is_over.false);
+      run = run_goes g.D.Disk.view c.args.disk.now c.serve_piece-round.new.disk _ _ _ _ _ _ _ _ _ _ passed (sym c.is_over.ensures.value ∙ c.if-is_over.false);
       below = omega (arith, within, c.if-taken-eq-LINK_LIMIT.false);
       few = omega (arith, c.pieces.invariant.few, c.serve_piece-round.ensures.few, c.in-Ok-read_some.ensures.count);
       ready = c.serve_piece-round.ensures.ready (λ is. let answered = c.in-Ok-outcome.is in cc);

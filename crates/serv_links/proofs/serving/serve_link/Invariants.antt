@@ -8,8 +8,8 @@ use Rattle.serv_links.proofs.serving.serve_link.Given as goal
 -- the requests of the bytes taken are answered
 abbrev pub invariant-pieces : goal.invariant-pieces
 invariant-pieces g l = record {
-  run : Writes g.D.Disk.images g.D.Disk.moment g.D.Disk.images_since l.fn.disk l.disk
-      (Going (λ covers. Upholds covers (g.D.Disk.moment l.disk) (g.D.Disk.images_since l.disk) (g.M.Machine.kept l.machine) (g.C.Sink.held l.fn.link) (g.C.Sink.log l.fn.link) (g.C.Sink.log l.link))
+  run : Writes g.D.Disk.view l.fn.disk l.disk
+      (Going (λ covers. Upholds covers (g.D.Disk.view l.disk) (g.M.Machine.kept l.machine) (g.C.Sink.held l.fn.link) (g.C.Sink.log l.fn.link) (g.C.Sink.log l.link))
       (g.C.Source.left l.fn.link) (g.C.Source.left l.link) l.conn l.answered l.taken (stand (g.M.Machine.kept l.fn.machine) l.fn.steps) (stand (g.M.Machine.kept l.machine) l.steps))
       (g.M.Machine.kept l.fn.machine) (g.M.Machine.kept l.machine) (g.C.Sink.held l.fn.link) (g.C.Sink.held l.link);
   below : l.taken < 2 ^ 24;

@@ -4,7 +4,7 @@ use Rattle.serv_machine.proofs.answering.answer_request.Goals as goal
 
 pub returns-in_err-answer_query-in-Ask-clause-disk : goal.returns-in_err-answer_query-in-Ask-clause-disk
 returns-in_err-answer_query-in-Ask-clause-disk g c = λ other.
-    disk_none g.D.Disk.images g.D.Disk.moment g.D.Disk.images_since c.args.disk.now _ _ (g.met.M.Machine.settled c.args.machine.now c.args.disk.now c.requires.ready).1
+    disk_none g.D.Disk.view c.args.disk.now _ _ (g.met.M.Machine.settled c.args.machine.now c.args.disk.now c.requires.ready).1
     (g.met.M.Machine.keeps c.args.machine.now c.args.disk.now c.requires.ready) (g.met.D.Disk.only_now c.args.disk.now)
 
 pub returns-in_err-answer_query-in-Ask-clause-kept : goal.returns-in_err-answer_query-in-Ask-clause-kept
@@ -15,7 +15,7 @@ returns-in_err-answer_query-in-Ask-clause-running g c = λ other. (g.met.M.Machi
 
 pub returns-in_ok-answer_query-in-Ask-clause-disk : goal.returns-in_ok-answer_query-in-Ask-clause-disk
 returns-in_ok-answer_query-in-Ask-clause-disk g c = λ other.
-    disk_none g.D.Disk.images g.D.Disk.moment g.D.Disk.images_since c.args.disk.now _ _ (g.met.M.Machine.settled c.args.machine.now c.args.disk.now c.requires.ready).1
+    disk_none g.D.Disk.view c.args.disk.now _ _ (g.met.M.Machine.settled c.args.machine.now c.args.disk.now c.requires.ready).1
     (g.met.M.Machine.keeps c.args.machine.now c.args.disk.now c.requires.ready) (g.met.D.Disk.only_now c.args.disk.now)
 
 pub returns-in_ok-answer_query-in-Ask-clause-kept : goal.returns-in_ok-answer_query-in-Ask-clause-kept

@@ -7,7 +7,7 @@ use Rattle.serv_texts.proofs.journals.open_journal.Goals as goal
 
 pub returns-in-Ok-clause-opened : goal.returns-in-Ok-clause-opened
 returns-in-Ok-clause-opened g c =
-    opened g.D.Disk.seen g.D.Disk.images g.D.Disk.moment g.D.Disk.images_since c.args.disk.now c.open.new.disk c.in-Ok.engine c.args.steps.now c.open.new.steps
+    opened g.D.Disk.view c.args.disk.now c.open.new.disk c.in-Ok.engine c.args.steps.now c.open.new.steps
     c.in-Ok.ensures.history c.in-Ok.ensures.found c.open.ensures.moments c.in-Ok.ensures.either c.in-Ok.ensures.durable c.in-Ok.ensures.version
     (c.in-Ok.ensures.bound (λ a m. le_refl _) (λ a m. refl))
 
@@ -20,7 +20,7 @@ returns-in-Ok-clause-faultless g c = λ status. record {
 
 pub returns-in-Err-clause-unopened : goal.returns-in-Err-clause-unopened
 returns-in-Err-clause-unopened g c = record {
-  cause = rw c.unopened.ensures (cause_of (g.D.Disk.seen c.args.disk.now) (g.D.Disk.faults c.args.disk.now) (g.D.Disk.faults c.open.new.disk) c.in-Err.fault c.in-Err.ensures.fault c.in-Err.ensures.cause);
+  cause = rw c.unopened.ensures (cause_of (g.D.Disk.view c.args.disk.now).seen (g.D.Disk.faults c.args.disk.now) (g.D.Disk.faults c.open.new.disk) c.in-Err.fault c.in-Err.ensures.fault c.in-Err.ensures.cause);
   good = c.open.ensures.moments;
   kept = rw c.unopened.ensures (⊎_elim (λ disk. inl (ap status_of_fault disk)) (λ same. inr same) c.in-Err.ensures.kept);
   cost = c.in-Err.ensures.bound_err (λ a m. le_refl _) (λ a m. refl);

@@ -9,8 +9,8 @@ use Rattle.serv_top.proofs.importing.answer_rows.Given as goal
 abbrev pub invariant-loop-row : goal.invariant-loop-row
 invariant-loop-row g l = record {
   gathers : Gathered 0 (map said_of (take l.row-index l.rows)) (stand (g.M.Machine.history l.fn.machine) l.fn.steps) (running (g.M.Machine.history l.machine) (g.M.Machine.kept l.machine) l.steps) (g.K.Sink.held l.fn.snk) (g.K.Sink.held l.snk) l.replies.text.items;
-  upheld : Upholds (AreReplies (λ saids. saids ≡ map said_of l.rows) (g.M.Machine.history l.fn.machine)) (g.D.Disk.moment l.disk) (g.D.Disk.images_since l.disk) (g.M.Machine.kept l.machine) (g.K.Sink.held l.fn.snk) (g.K.Sink.log l.fn.snk) (g.K.Sink.log l.snk);
-  disk : OnDisk g.D.Disk.images g.D.Disk.moment g.D.Disk.images_since l.fn.disk l.disk (g.M.Machine.history l.fn.machine) (g.M.Machine.kept l.machine) [];
+  upheld : Upholds (AreReplies (λ saids. saids ≡ map said_of l.rows) (g.M.Machine.history l.fn.machine)) (g.D.Disk.view l.disk) (g.M.Machine.kept l.machine) (g.K.Sink.held l.fn.snk) (g.K.Sink.log l.fn.snk) (g.K.Sink.log l.snk);
+  disk : OnDisk g.D.Disk.view l.fn.disk l.disk (g.M.Machine.history l.fn.machine) (g.M.Machine.kept l.machine) [];
   running : g.M.Machine.running l.machine l.disk;
   waiting : l.replies.waiting ≡ 0;
   write_later : g.K.Sink.faults l.fn.snk ≤ g.K.Sink.faults l.snk;

@@ -5,7 +5,7 @@ use Rattle.serv_top.proofs.importing.import.Goals as goal
 
 pub returns-in-Ok-clause-imported : goal.returns-in-Ok-clause-imported
 returns-in-Ok-clause-imported g c =
-    inr (imported g.D.Disk.seen g.D.Disk.images g.D.Disk.moment g.D.Disk.images_since c.args.disk.now c.open_journal.new.disk c.import_by.new.disk c.import_by.result c.in-Ok.engine _
+    inr (imported g.D.Disk.view c.args.disk.now c.open_journal.new.disk c.import_by.new.disk c.import_by.result c.in-Ok.engine _
     c.args.steps.now c.open_journal.new.steps c.import_by.new.steps _ _ _ _ _ _ c.in-Ok.ensures.opened c.in-Ok.ensures.limit c.import_by.ensures.ends c.import_by.ensures.acknowledged)
 
 pub returns-in-Ok-clause-file : goal.returns-in-Ok-clause-file

@@ -6,8 +6,8 @@ use Rattle.serv_top.proofs.importing.import_by.Goals as goal
 
 pub returns-in-Err-clause-ends : goal.returns-in-Err-clause-ends
 returns-in-Err-clause-ends g c =
-    import_unread g.D.Disk.images g.D.Disk.moment g.D.Disk.images_since _ _ _ _ _ _ _ _ c.in-Err.ensures.unread (g.met.M.Machine.settled c.args.machine.now c.args.disk.now c.requires).1 refl
-    (disk_none g.D.Disk.images g.D.Disk.moment g.D.Disk.images_since c.args.disk.now _ _ (g.met.M.Machine.settled c.args.machine.now c.args.disk.now c.requires).1 (g.met.M.Machine.keeps c.args.machine.now c.args.disk.now c.requires) (g.met.D.Disk.only_now c.args.disk.now))
+    import_unread g.D.Disk.view _ _ _ _ _ _ _ _ c.in-Err.ensures.unread (g.met.M.Machine.settled c.args.machine.now c.args.disk.now c.requires).1 refl
+    (disk_none g.D.Disk.view c.args.disk.now _ _ (g.met.M.Machine.settled c.args.machine.now c.args.disk.now c.requires).1 (g.met.M.Machine.keeps c.args.machine.now c.args.disk.now c.requires) (g.met.D.Disk.only_now c.args.disk.now))
 
 pub returns-in-Ok-clause-acknowledged : goal.returns-in-Ok-clause-acknowledged
 returns-in-Ok-clause-acknowledged g c = record {
@@ -20,5 +20,5 @@ pub returns-in-Err-clause-acknowledged : goal.returns-in-Err-clause-acknowledged
 returns-in-Err-clause-acknowledged g c = record {
   taken = c.in-Err.ensures.unread.0;
   took = c.in-Err.ensures.unread.1;
-  upheld = upheld_none _ _ _ _ _ _;
+  upheld = upheld_none _ _ _ _ _;
 }

@@ -6,8 +6,8 @@ use Rattle.serv_top.proofs.over_doors.serve_over.Goals as goal
 
 pub returns-in-Ok-clause-served : goal.returns-in-Ok-clause-served
 returns-in-Ok-clause-served g c =
-    inr (over_engine g.G.Conn.Source.left g.G.Conn.Sink.held g.G.Conn.Sink.log g.G.Conn.Source.faults g.G.Conn.Sink.faults (g.D.Disk.moment c.serve_by.new.disk) (g.D.Disk.images_since c.serve_by.new.disk) c.serve_by.result c.args.most _ _ _ _ _ _ _ _
-    g.D.Disk.seen g.D.Disk.images g.D.Disk.moment g.D.Disk.images_since c.args.disk.now c.open_journal.new.disk c.serve_by.new.disk c.in-Ok.engine (kept_history c.serve_by.new.engine)
+    inr (over_engine g.G.Conn.Source.left g.G.Conn.Sink.held g.G.Conn.Sink.log g.G.Conn.Source.faults g.G.Conn.Sink.faults (g.D.Disk.view c.serve_by.new.disk) c.serve_by.result c.args.most _ _ _ _ _ _ _ _
+    g.D.Disk.view c.args.disk.now c.open_journal.new.disk c.serve_by.new.disk c.in-Ok.engine (kept_history c.serve_by.new.engine)
     c.args.steps.now c.open_journal.new.steps c.serve_by.new.steps refl refl c.in-Ok.ensures.opened c.in-Ok.ensures.limit c.serve_by.ensures.ends)
 
 pub returns-in-Ok-clause-file : goal.returns-in-Ok-clause-file

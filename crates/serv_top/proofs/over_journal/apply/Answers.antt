@@ -5,7 +5,7 @@ use Rattle.serv_top.proofs.over_journal.apply.Goals as goal
 
 pub returns-in-Ok-clause-applied : goal.returns-in-Ok-clause-applied
 returns-in-Ok-clause-applied g c =
-    inr (applied g.D.Disk.seen g.D.Disk.images g.D.Disk.moment g.D.Disk.images_since c.args.disk.now c.open_journal.new.disk c.serve-status.new.disk c.serve-status.result c.in-Ok.engine _
+    inr (applied g.D.Disk.view c.args.disk.now c.open_journal.new.disk c.serve-status.new.disk c.serve-status.result c.in-Ok.engine _
     c.args.steps.now c.open_journal.new.steps c.serve-status.new.steps _ _ _ _ _ _ c.in-Ok.ensures.opened c.in-Ok.ensures.limit c.serve-status.ensures.ends c.serve-status.ensures.acknowledged)
 
 pub returns-in-Ok-clause-file : goal.returns-in-Ok-clause-file

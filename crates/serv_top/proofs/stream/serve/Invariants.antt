@@ -6,8 +6,8 @@ use Rattle.serv_top.proofs.stream.serve.Given as goal
 
 abbrev pub invariant-loop-taken : goal.invariant-loop-taken
 invariant-loop-taken g l = record {
-  going : Going (g.D.Disk.moment l.disk) (g.D.Disk.images_since l.disk) l.waiting (stand (g.M.Machine.history l.fn.machine) l.fn.steps) (running (g.M.Machine.history l.machine) (g.M.Machine.kept l.machine) l.steps) (g.S.Source.left l.fn.src) (g.S.Source.left l.src) (g.K.Sink.held l.fn.snk) (g.K.Sink.held l.snk) l.serving.line.items l.serving.replies.text.items l.taken (g.K.Sink.log l.fn.snk) (g.K.Sink.log l.snk);
-  disk : OnDisk g.D.Disk.images g.D.Disk.moment g.D.Disk.images_since l.fn.disk l.disk (g.M.Machine.history l.fn.machine) (g.M.Machine.kept l.machine) [];
+  going : Going (g.D.Disk.view l.disk) l.waiting (stand (g.M.Machine.history l.fn.machine) l.fn.steps) (running (g.M.Machine.history l.machine) (g.M.Machine.kept l.machine) l.steps) (g.S.Source.left l.fn.src) (g.S.Source.left l.src) (g.K.Sink.held l.fn.snk) (g.K.Sink.held l.snk) l.serving.line.items l.serving.replies.text.items l.taken (g.K.Sink.log l.fn.snk) (g.K.Sink.log l.snk);
+  disk : OnDisk g.D.Disk.view l.fn.disk l.disk (g.M.Machine.history l.fn.machine) (g.M.Machine.kept l.machine) [];
   ready : g.M.Machine.ready l.machine l.disk;
   waiting : l.serving.replies.waiting ≡ l.waiting;
   empty : l.serving.replies.text.items ≡ [];

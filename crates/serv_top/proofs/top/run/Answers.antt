@@ -15,35 +15,35 @@ use Rattle.serv_top.proofs.top.run.Goals as goal
 pub returns-in-Some-Apply-clause-complete : goal.returns-in-Some-Apply-clause-complete
 returns-in-Some-Apply-clause-complete g c = of_task _ _ _ (ap Some (sym c.in-Some-Apply.field-0-is) ∙ c.in-Some-Apply.ensures.task) c.in-Some-Apply.ensures.other
     (λ calm. let disk = calm.1 in
-    complete_run g.D.Disk.seen g.D.Disk.images g.D.Disk.moment g.D.Disk.images_since g.D.Disk.faults c.args.disk.now c.apply.new.disk c.apply.result c.args.steps.now c.apply.new.steps
+    complete_run g.D.Disk.view g.D.Disk.faults c.args.disk.now c.apply.new.disk c.apply.result c.args.steps.now c.apply.new.steps
     _ _ _ _ _ _ calm.0.input disk.content disk.commands disk.next calm.0.told calm.0.short disk.told disk.history (disk.good disk.content (g.met.D.Disk.reads_image c.args.disk.now disk.content disk.told)) (λ is. calm.2 (c.apply.ensures.read is)) (λ is. calm.3 (c.apply.ensures.write is))
     (λ is. calm.4 (c.apply.ensures.disk is)) calm.4 c.apply.ensures.applied)
 
 pub returns-in-Some-Import-clause-complete : goal.returns-in-Some-Import-clause-complete
 returns-in-Some-Import-clause-complete g c = of_task _ _ _ (ap Some (sym c.in-Some-Import.field-0-is) ∙ c.in-Some-Import.ensures.task) c.in-Some-Import.ensures.other
     (λ calm. let disk = calm.1 in
-    complete_import g.D.Disk.seen g.D.Disk.images g.D.Disk.moment g.D.Disk.images_since g.D.Disk.faults c.args.disk.now c.import.new.disk c.import.result c.args.steps.now c.import.new.steps
+    complete_import g.D.Disk.view g.D.Disk.faults c.args.disk.now c.import.new.disk c.import.result c.args.steps.now c.import.new.steps
     _ _ _ _ _ _ calm.0.input disk.content disk.commands disk.next calm.0.told calm.0.short disk.told disk.history (disk.good disk.content (g.met.D.Disk.reads_image c.args.disk.now disk.content disk.told)) (λ is. calm.2 (c.import.ensures.read is)) (λ is. calm.3 (c.import.ensures.write is))
     (λ is. calm.4 (c.import.ensures.disk is)) calm.4 c.import.ensures.imported)
 
 pub returns-in-Some-Write-clause-complete : goal.returns-in-Some-Write-clause-complete
 returns-in-Some-Write-clause-complete g c = of_task _ _ _ (ap Some (sym c.in-Some-Write.field-0-is) ∙ c.in-Some-Write.ensures.task) c.in-Some-Write.ensures.other
     (λ calm. let disk = calm.1 in
-    complete_text g.D.Disk.seen g.D.Disk.images g.D.Disk.moment g.D.Disk.images_since g.D.Disk.faults c.args.disk.now c.write_over_journal-in-Some-Write.new.disk c.write_over_journal-in-Some-Write.result c.in-Some-Write.text c.args.steps.now c.write_over_journal-in-Some-Write.new.steps
+    complete_text g.D.Disk.view g.D.Disk.faults c.args.disk.now c.write_over_journal-in-Some-Write.new.disk c.write_over_journal-in-Some-Write.result c.in-Some-Write.text c.args.steps.now c.write_over_journal-in-Some-Write.new.steps
     _ _ _ _ disk.content disk.commands disk.next (λ reading. let input = calm.0 reading in (input.0, λ is. input.1 (c.write_over_journal-in-Some-Write.ensures.read is))) disk.told disk.history
     (disk.good disk.content (g.met.D.Disk.reads_image c.args.disk.now disk.content disk.told)) (λ is. calm.2 (c.write_over_journal-in-Some-Write.ensures.write is)) calm.3 c.write_over_journal-in-Some-Write.ensures.written)
 
 pub returns-in-Some-Serve-clause-complete : goal.returns-in-Some-Serve-clause-complete
 returns-in-Some-Serve-clause-complete g c = of_task _ _ _ (ap Some (sym c.in-Some-Serve.field-0-is) ∙ c.in-Some-Serve.ensures.task) c.in-Some-Serve.ensures.other
     (λ calm. let disk = calm.0 in
-    complete_served g.D.Disk.seen g.D.Disk.images g.D.Disk.moment g.D.Disk.images_since g.D.Disk.faults c.args.disk.now c.serve_over.new.disk _ c.serve_over.result c.in-Some-Serve.most c.args.steps.now c.serve_over.new.steps
+    complete_served g.D.Disk.view g.D.Disk.faults c.args.disk.now c.serve_over.new.disk _ c.serve_over.result c.in-Some-Serve.most c.args.steps.now c.serve_over.new.steps
     _ _ _ _ _ _ disk.content disk.commands disk.next disk.told disk.history (disk.good disk.content (g.met.D.Disk.reads_image c.args.disk.now disk.content disk.told)) (λ is. calm.1 (c.serve_over.ensures.write is)) (λ is. calm.2 (c.serve_over.ensures.disk is))
     (λ is. calm.3 (c.serve_over.ensures.net is)) calm.2 c.serve_over.ensures.served)
 
 pub returns-in-Some-clause-complete : goal.returns-in-Some-clause-complete
 returns-in-Some-clause-complete g c = of_query _ _ _ c.in-None.ensures.task c.in-Some.ensures.only
     (λ calm. let disk = calm.1 in
-    complete_text g.D.Disk.seen g.D.Disk.images g.D.Disk.moment g.D.Disk.images_since g.D.Disk.faults c.args.disk.now c.write_over_journal.new.disk c.write_over_journal.result (Ask c.in-Some.query) c.args.steps.now c.write_over_journal.new.steps
+    complete_text g.D.Disk.view g.D.Disk.faults c.args.disk.now c.write_over_journal.new.disk c.write_over_journal.result (Ask c.in-Some.query) c.args.steps.now c.write_over_journal.new.steps
     _ _ _ _ disk.content disk.commands disk.next (λ reading. let input = calm.0 reading in (input.0, λ is. input.1 (c.write_over_journal.ensures.read is))) disk.told disk.history
     (disk.good disk.content (g.met.D.Disk.reads_image c.args.disk.now disk.content disk.told)) (λ is. calm.2 (c.write_over_journal.ensures.write is)) calm.3 c.write_over_journal.ensures.written)
 
@@ -52,7 +52,7 @@ returns-in-None-read_asking-clause-complete g c = of_none _ _ c.in-None.ensures.
 
 pub returns-in-Some-Init-clause-complete : goal.returns-in-Some-Init-clause-complete
 returns-in-Some-Init-clause-complete g c = of_task _ _ _ (ap Some (sym c.in-Some-Init.field-0-is) ∙ c.in-Some-Init.ensures.task) c.in-Some-Init.ensures.other
-    (λ calm. init_ends c.make_journal.result _ _ _ _ _ calm c.make_journal.ensures.made)
+    (λ calm. init_ends c.make_journal.result _ _ _ _ calm c.make_journal.ensures.made)
 
 pub returns-in-Some-Session-clause-complete : goal.returns-in-Some-Session-clause-complete
 returns-in-Some-Session-clause-complete g c = of_task _ _ _ (ap Some (sym c.in-Some-Session.field-0-is) ∙ c.in-Some-Session.ensures.task) c.in-Some-Session.ensures.other

@@ -14,7 +14,7 @@ commit-requires-clause-unspent g c = ap (λ (s : EngineState). s.journal.spent) 
 pub commit-requires-clause-reaches : goal.commit-requires-clause-reaches
 commit-requires-clause-reaches g c = λ t is.
     subst (λ (s : EngineState). s.journal.size ≤ length t) (sym c.self.view_is)
-    (running_reaches (g.D.Disk.images c.args.disk.now) c.args.self.now t c.requires.running (g.met.D.Disk.reads_image c.args.disk.now t is))
+    (running_reaches (g.D.Disk.view c.args.disk.now).images c.args.self.now t c.requires.running (g.met.D.Disk.reads_image c.args.disk.now t is))
 
 pub returns-clause-history : goal.returns-clause-history
 returns-clause-history g c = ap (λ (s : EngineState). s.history) c.self.view_is
@@ -24,32 +24,32 @@ returns-clause-durable g c =
     let form = c.requires.running.form in
     let old : EngineState = record { history = c.self.inside.core.history; journal = c.self.inside.journal } in
     let now : EngineState = record { history = c.self.inside.core.history; journal = c.commit.new.self } in
-    let e = subst (λ (s : EngineState). IsRunningIn form (g.D.Disk.images c.args.disk.now) s) (sym c.self.view_is) c.requires.running.kept in
-    on_ok_weaker c.commit.result (λ kept. durable_in form (g.D.Disk.images c.commit.new.disk) now (committed_durable form (g.D.Disk.images c.commit.new.disk) old now refl kept))
+    let e = subst (λ (s : EngineState). IsRunningIn form (g.D.Disk.view c.args.disk.now).images s) (sym c.self.view_is) c.requires.running.kept in
+    on_ok_weaker c.commit.result (λ kept. durable_in form (g.D.Disk.view c.commit.new.disk).images now (committed_durable form (g.D.Disk.view c.commit.new.disk).images old now refl kept))
     (c.commit.ensures.committed form (lines_of_history (kept_of old)) (lines_of_history (begun_of old)) e)
 
 pub returns-clause-durable_in : goal.returns-clause-durable_in
 returns-clause-durable_in g c = λ form r.
     let old : EngineState = record { history = c.self.inside.core.history; journal = c.self.inside.journal } in
     let now : EngineState = record { history = c.self.inside.core.history; journal = c.commit.new.self } in
-    let e = subst (λ (s : EngineState). IsRunningIn form (g.D.Disk.images c.args.disk.now) s) (sym c.self.view_is) r in
-    on_ok_weaker c.commit.result (λ kept. committed_durable form (g.D.Disk.images c.commit.new.disk) old now refl kept)
+    let e = subst (λ (s : EngineState). IsRunningIn form (g.D.Disk.view c.args.disk.now).images s) (sym c.self.view_is) r in
+    on_ok_weaker c.commit.result (λ kept. committed_durable form (g.D.Disk.view c.commit.new.disk).images old now refl kept)
     (c.commit.ensures.committed form (lines_of_history (kept_of old)) (lines_of_history (begun_of old)) e)
 
 pub returns-clause-moments : goal.returns-clause-moments
 returns-clause-moments g c = λ form r.
     let old : EngineState = record { history = c.self.inside.core.history; journal = c.self.inside.journal } in
-    let e = subst (λ (s : EngineState). IsRunningIn form (g.D.Disk.images c.args.disk.now) s) (sym c.self.view_is) r in
-    subst (λ (s : EngineState). LeavesOnly g.D.Disk.moment g.D.Disk.images_since c.args.disk.now c.commit.new.disk (IsAroundFor form (kept_of s) (begun_of s))) c.self.view_is
+    let e = subst (λ (s : EngineState). IsRunningIn form (g.D.Disk.view c.args.disk.now).images s) (sym c.self.view_is) r in
+    subst (λ (s : EngineState). LeavesOnly g.D.Disk.view c.args.disk.now c.commit.new.disk (IsAroundFor form (kept_of s) (begun_of s))) c.self.view_is
     (c.commit.ensures.moments form (lines_of_history (kept_of old)) (lines_of_history (begun_of old)) e)
 
 pub returns-clause-good : goal.returns-clause-good
 returns-clause-good g c = λ form r.
     let old : EngineState = record { history = c.self.inside.core.history; journal = c.self.inside.journal } in
-    let e = subst (λ (s : EngineState). IsRunningIn form (g.D.Disk.images c.args.disk.now) s) (sym c.self.view_is) r in
-    good_now g.D.Disk.moment g.D.Disk.images g.D.Disk.images_since c.args.disk.now c.commit.new.disk (IsAroundFor form (kept_of c.args.self.now) (begun_of c.args.self.now))
+    let e = subst (λ (s : EngineState). IsRunningIn form (g.D.Disk.view c.args.disk.now).images s) (sym c.self.view_is) r in
+    good_now g.D.Disk.view c.args.disk.now c.commit.new.disk (IsAroundFor form (kept_of c.args.self.now) (begun_of c.args.self.now))
     g.met.D.Disk.counts_now
-    (subst (λ (s : EngineState). LeavesOnly g.D.Disk.moment g.D.Disk.images_since c.args.disk.now c.commit.new.disk (IsAroundFor form (kept_of s) (begun_of s))) c.self.view_is
+    (subst (λ (s : EngineState). LeavesOnly g.D.Disk.view c.args.disk.now c.commit.new.disk (IsAroundFor form (kept_of s) (begun_of s))) c.self.view_is
     (c.commit.ensures.moments form (lines_of_history (kept_of old)) (lines_of_history (begun_of old)) e))
 
 pub returns-clause-idle : goal.returns-clause-idle

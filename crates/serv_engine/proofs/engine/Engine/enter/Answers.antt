@@ -67,7 +67,7 @@ returns-in-Repeat-clause-running g c =
     let was = c.args.self.now in
     let judged_at = c.judge.new.self.history in
     let same = still_same h judged_at j was c.judge.ensures.history c.self.view_is in
-    subst (λ (s : EngineState). IsRunning (g.D.Disk.images c.args.disk.now) s) (sym same) c.requires.running
+    subst (λ (s : EngineState). IsRunning (g.D.Disk.view c.args.disk.now).images s) (sym same) c.requires.running
 
 pub returns-in-Repeat-clause-running_in : goal.returns-in-Repeat-clause-running_in
 returns-in-Repeat-clause-running_in g c =
@@ -76,7 +76,7 @@ returns-in-Repeat-clause-running_in g c =
     let was = c.args.self.now in
     let judged_at = c.judge.new.self.history in
     let same = still_same h judged_at j was c.judge.ensures.history c.self.view_is in
-    λ form d. subst (λ (s : EngineState). IsRunningIn form (g.D.Disk.images c.args.disk.now) s) (sym same) d
+    λ form d. subst (λ (s : EngineState). IsRunningIn form (g.D.Disk.view c.args.disk.now).images s) (sym same) d
 
 pub returns-in-Repeat-clause-length : goal.returns-in-Repeat-clause-length
 returns-in-Repeat-clause-length g c =
@@ -89,11 +89,11 @@ returns-in-Repeat-clause-length g c =
 
 pub returns-in-Repeat-clause-moments : goal.returns-in-Repeat-clause-moments
 returns-in-Repeat-clause-moments g c =
-    λ form r. idle_risked g.D.Disk.moment g.D.Disk.images g.D.Disk.images_since c.args.until c.args.disk.now form c.args.self.now (accepted c.args.key.now c.args.command.now) c.requires.alone (g.met.D.Disk.only_now c.args.disk.now) r
+    λ form r. idle_risked g.D.Disk.view c.args.until c.args.disk.now form c.args.self.now (accepted c.args.key.now c.args.command.now) c.requires.alone (g.met.D.Disk.only_now c.args.disk.now) r
 
 pub returns-in-Repeat-clause-good : goal.returns-in-Repeat-clause-good
 returns-in-Repeat-clause-good g c =
-    λ form r. rest_risked c.args.until (g.D.Disk.images c.args.disk.now) form c.args.self.now (accepted c.args.key.now c.args.command.now) c.requires.alone r
+    λ form r. rest_risked c.args.until (g.D.Disk.view c.args.disk.now).images form c.args.self.now (accepted c.args.key.now c.args.command.now) c.requires.alone r
 
 pub returns-in-Repeat-clause-limit : goal.returns-in-Repeat-clause-limit
 returns-in-Repeat-clause-limit g c =
@@ -115,11 +115,11 @@ returns-in-Repeat-clause-bound g c =
 
 pub returns-in-Err-clause-moments : goal.returns-in-Err-clause-moments
 returns-in-Err-clause-moments g c =
-    λ form r. idle_risked g.D.Disk.moment g.D.Disk.images g.D.Disk.images_since c.args.until c.args.disk.now form c.args.self.now (accepted c.args.key.now c.args.command.now) c.requires.alone (g.met.D.Disk.only_now c.args.disk.now) r
+    λ form r. idle_risked g.D.Disk.view c.args.until c.args.disk.now form c.args.self.now (accepted c.args.key.now c.args.command.now) c.requires.alone (g.met.D.Disk.only_now c.args.disk.now) r
 
 pub returns-in-Err-clause-good : goal.returns-in-Err-clause-good
 returns-in-Err-clause-good g c =
-    λ form r. rest_risked c.args.until (g.D.Disk.images c.args.disk.now) form c.args.self.now (accepted c.args.key.now c.args.command.now) c.requires.alone r
+    λ form r. rest_risked c.args.until (g.D.Disk.view c.args.disk.now).images form c.args.self.now (accepted c.args.key.now c.args.command.now) c.requires.alone r
 
 pub returns-in-Err-clause-limit : goal.returns-in-Err-clause-limit
 returns-in-Err-clause-limit g c =
@@ -193,42 +193,42 @@ returns-in-Ok-put_command-clause-history g c =
 
 pub returns-in-Ok-put_command-clause-taken : goal.returns-in-Ok-put_command-clause-taken
 returns-in-Ok-put_command-clause-taken g c =
-    let images = g.D.Disk.images in
+    let view = g.D.Disk.view in
     let h = c.self.inside.core.history in
     let a : Accepted = accepted c.args.key.now c.args.command.now in
     let old : EngineState = record { history = h; journal = c.self.inside.journal } in
     let now : EngineState = record { history = c.accept.new.self.history; journal = c.put_command.new.journal } in
     let more = one_more h c.judge.new.self.history c.accept.new.self.history a c.judge.ensures.history c.accept.ensures.history in
     let form = c.requires.running.form in
-    let e = subst (λ (s : EngineState). IsRunningIn form (images c.args.disk.now) s) (sym c.self.view_is) c.requires.running.kept in
+    let e = subst (λ (s : EngineState). IsRunningIn form (view c.args.disk.now).images s) (sym c.self.view_is) c.requires.running.kept in
     let fresh_is = subst (λ v. IsVerdict (judged h c.args.key.now c.args.command.now) v) c.in-Fresh.is c.in-Ok.ensures.verdict in
-    let parts = enter_parts c.args.until form (images c.put_command.new.disk) old now a more (c.in-Ok-put_command.ensures.put form (kept_of old) (begun_of old) e) in
+    let parts = enter_parts c.args.until form (view c.put_command.new.disk).images old now a more (c.in-Ok-put_command.ensures.put form (kept_of old) (begun_of old) e) in
     (subst (λ (s : EngineState). judged s.history c.args.key.now c.args.command.now ≡ Fresh) c.self.view_is fresh_is, (parts.0 ∙ ap (λ (s : EngineState). kept_after c.args.until s.history a) c.self.view_is, parts.1))
 
 pub returns-in-Ok-put_command-clause-running_in : goal.returns-in-Ok-put_command-clause-running_in
 returns-in-Ok-put_command-clause-running_in g c =
-    let images = g.D.Disk.images in
+    let view = g.D.Disk.view in
     let h = c.self.inside.core.history in
     let a : Accepted = accepted c.args.key.now c.args.command.now in
     let old : EngineState = record { history = h; journal = c.self.inside.journal } in
     let now : EngineState = record { history = c.accept.new.self.history; journal = c.put_command.new.journal } in
     let more = one_more h c.judge.new.self.history c.accept.new.self.history a c.judge.ensures.history c.accept.ensures.history in
     λ form r.
-    let e = subst (λ (s : EngineState). IsRunningIn form (images c.args.disk.now) s) (sym c.self.view_is) r in
-    enter_running c.args.until form (images c.put_command.new.disk) old now a more (c.in-Ok-put_command.ensures.put form (kept_of old) (begun_of old) e)
+    let e = subst (λ (s : EngineState). IsRunningIn form (view c.args.disk.now).images s) (sym c.self.view_is) r in
+    enter_running c.args.until form (view c.put_command.new.disk).images old now a more (c.in-Ok-put_command.ensures.put form (kept_of old) (begun_of old) e)
 
 pub returns-in-Ok-put_command-clause-running : goal.returns-in-Ok-put_command-clause-running
 returns-in-Ok-put_command-clause-running g c =
-    let images = g.D.Disk.images in
+    let view = g.D.Disk.view in
     let h = c.self.inside.core.history in
     let a : Accepted = accepted c.args.key.now c.args.command.now in
     let old : EngineState = record { history = h; journal = c.self.inside.journal } in
     let now : EngineState = record { history = c.accept.new.self.history; journal = c.put_command.new.journal } in
     let more = one_more h c.judge.new.self.history c.accept.new.self.history a c.judge.ensures.history c.accept.ensures.history in
     let form = c.requires.running.form in
-    let e = subst (λ (s : EngineState). IsRunningIn form (images c.args.disk.now) s) (sym c.self.view_is) c.requires.running.kept in
-    running_in form (images c.put_command.new.disk) now
-    (enter_running c.args.until form (images c.put_command.new.disk) old now a more (c.in-Ok-put_command.ensures.put form (kept_of old) (begun_of old) e))
+    let e = subst (λ (s : EngineState). IsRunningIn form (view c.args.disk.now).images s) (sym c.self.view_is) c.requires.running.kept in
+    running_in form (view c.put_command.new.disk).images now
+    (enter_running c.args.until form (view c.put_command.new.disk).images old now a more (c.in-Ok-put_command.ensures.put form (kept_of old) (begun_of old) e))
 
 pub returns-in-Ok-put_command-clause-room : goal.returns-in-Ok-put_command-clause-room
 returns-in-Ok-put_command-clause-room g c =
@@ -244,17 +244,17 @@ returns-in-Ok-put_command-clause-spent g c =
 
 pub returns-in-Ok-put_command-clause-length : goal.returns-in-Ok-put_command-clause-length
 returns-in-Ok-put_command-clause-length g c =
-    let images = g.D.Disk.images in
+    let view = g.D.Disk.view in
     let h = c.self.inside.core.history in
     let a : Accepted = accepted c.args.key.now c.args.command.now in
     let old : EngineState = record { history = h; journal = c.self.inside.journal } in
     let now : EngineState = record { history = c.accept.new.self.history; journal = c.put_command.new.journal } in
     let more = one_more h c.judge.new.self.history c.accept.new.self.history a c.judge.ensures.history c.accept.ensures.history in
     let form = c.requires.running.form in
-    let e = subst (λ (s : EngineState). IsRunningIn form (images c.args.disk.now) s) (sym c.self.view_is) c.requires.running.kept in
+    let e = subst (λ (s : EngineState). IsRunningIn form (view c.args.disk.now).images s) (sym c.self.view_is) c.requires.running.kept in
     λ place is.
-    length_more form (images c.args.disk.now) (images c.put_command.new.disk) c.args.self.now now c.requires.running.kept
-    (enter_running c.args.until form (images c.put_command.new.disk) old now a more (c.in-Ok-put_command.ensures.put form (kept_of old) (begun_of old) e))
+    length_more form (view c.args.disk.now).images (view c.put_command.new.disk).images c.args.self.now now c.requires.running.kept
+    (enter_running c.args.until form (view c.put_command.new.disk).images old now a more (c.in-Ok-put_command.ensures.put form (kept_of old) (begun_of old) e))
     (ap (λ (s : EngineState). s.journal.version) (sym c.self.view_is) ∙ c.self.invariant) (c.put_command.ensures.same_version ∙ c.self.invariant) place is
 
 pub returns-in-Ok-put_command-clause-bound : goal.returns-in-Ok-put_command-clause-bound
@@ -306,25 +306,25 @@ returns-in-Err-put_command-clause-bound g c =
 
 pub returns-in-Ok-put_command-clause-moments : goal.returns-in-Ok-put_command-clause-moments
 returns-in-Ok-put_command-clause-moments g c =
-    let images = g.D.Disk.images in
+    let view = g.D.Disk.view in
     let old : EngineState = record { history = c.self.inside.core.history; journal = c.self.inside.journal } in
     let disk = c.args.disk.now in
     let disk_now = c.put_command.new.disk in
     λ form r.
-    let e = subst (λ (s : EngineState). IsRunningIn form (images c.args.disk.now) s) (sym c.self.view_is) r in
-    subst (λ (s : EngineState). LeavesOnly g.D.Disk.moment g.D.Disk.images_since disk disk_now (IsAroundFor form (kept_of s) (risked c.args.until (begun_of s) (accepted c.args.key.now c.args.command.now)))) c.self.view_is
+    let e = subst (λ (s : EngineState). IsRunningIn form (view c.args.disk.now).images s) (sym c.self.view_is) r in
+    subst (λ (s : EngineState). LeavesOnly g.D.Disk.view disk disk_now (IsAroundFor form (kept_of s) (risked c.args.until (begun_of s) (accepted c.args.key.now c.args.command.now)))) c.self.view_is
     (c.put_command.ensures.moments form (kept_of old) (begun_of old) e)
 
 pub returns-in-Ok-put_command-clause-good : goal.returns-in-Ok-put_command-clause-good
 returns-in-Ok-put_command-clause-good g c =
-    let images = g.D.Disk.images in
+    let view = g.D.Disk.view in
     let old : EngineState = record { history = c.self.inside.core.history; journal = c.self.inside.journal } in
     let disk = c.args.disk.now in
     let disk_now = c.put_command.new.disk in
     λ form r.
-    let e = subst (λ (s : EngineState). IsRunningIn form (images c.args.disk.now) s) (sym c.self.view_is) r in
-    good_now g.D.Disk.moment images g.D.Disk.images_since disk disk_now (IsAroundFor form (kept_of c.args.self.now) (risked c.args.until (begun_of c.args.self.now) (accepted c.args.key.now c.args.command.now))) g.met.D.Disk.counts_now
-    (subst (λ (s : EngineState). LeavesOnly g.D.Disk.moment g.D.Disk.images_since disk disk_now (IsAroundFor form (kept_of s) (risked c.args.until (begun_of s) (accepted c.args.key.now c.args.command.now)))) c.self.view_is
+    let e = subst (λ (s : EngineState). IsRunningIn form (view c.args.disk.now).images s) (sym c.self.view_is) r in
+    good_now view disk disk_now (IsAroundFor form (kept_of c.args.self.now) (risked c.args.until (begun_of c.args.self.now) (accepted c.args.key.now c.args.command.now))) g.met.D.Disk.counts_now
+    (subst (λ (s : EngineState). LeavesOnly g.D.Disk.view disk disk_now (IsAroundFor form (kept_of s) (risked c.args.until (begun_of s) (accepted c.args.key.now c.args.command.now)))) c.self.view_is
     (c.put_command.ensures.moments form (kept_of old) (begun_of old) e))
 
 pub returns-in-Ok-put_command-clause-limit : goal.returns-in-Ok-put_command-clause-limit
@@ -337,25 +337,25 @@ returns-in-Ok-put_command-clause-version g c =
 
 pub returns-in-Err-put_command-clause-moments : goal.returns-in-Err-put_command-clause-moments
 returns-in-Err-put_command-clause-moments g c =
-    let images = g.D.Disk.images in
+    let view = g.D.Disk.view in
     let old : EngineState = record { history = c.self.inside.core.history; journal = c.self.inside.journal } in
     let disk = c.args.disk.now in
     let disk_now = c.put_command.new.disk in
     λ form r.
-    let e = subst (λ (s : EngineState). IsRunningIn form (images c.args.disk.now) s) (sym c.self.view_is) r in
-    subst (λ (s : EngineState). LeavesOnly g.D.Disk.moment g.D.Disk.images_since disk disk_now (IsAroundFor form (kept_of s) (risked c.args.until (begun_of s) (accepted c.args.key.now c.args.command.now)))) c.self.view_is
+    let e = subst (λ (s : EngineState). IsRunningIn form (view c.args.disk.now).images s) (sym c.self.view_is) r in
+    subst (λ (s : EngineState). LeavesOnly g.D.Disk.view disk disk_now (IsAroundFor form (kept_of s) (risked c.args.until (begun_of s) (accepted c.args.key.now c.args.command.now)))) c.self.view_is
     (c.put_command.ensures.moments form (kept_of old) (begun_of old) e)
 
 pub returns-in-Err-put_command-clause-good : goal.returns-in-Err-put_command-clause-good
 returns-in-Err-put_command-clause-good g c =
-    let images = g.D.Disk.images in
+    let view = g.D.Disk.view in
     let old : EngineState = record { history = c.self.inside.core.history; journal = c.self.inside.journal } in
     let disk = c.args.disk.now in
     let disk_now = c.put_command.new.disk in
     λ form r.
-    let e = subst (λ (s : EngineState). IsRunningIn form (images c.args.disk.now) s) (sym c.self.view_is) r in
-    good_now g.D.Disk.moment images g.D.Disk.images_since disk disk_now (IsAroundFor form (kept_of c.args.self.now) (risked c.args.until (begun_of c.args.self.now) (accepted c.args.key.now c.args.command.now))) g.met.D.Disk.counts_now
-    (subst (λ (s : EngineState). LeavesOnly g.D.Disk.moment g.D.Disk.images_since disk disk_now (IsAroundFor form (kept_of s) (risked c.args.until (begun_of s) (accepted c.args.key.now c.args.command.now)))) c.self.view_is
+    let e = subst (λ (s : EngineState). IsRunningIn form (view c.args.disk.now).images s) (sym c.self.view_is) r in
+    good_now view disk disk_now (IsAroundFor form (kept_of c.args.self.now) (risked c.args.until (begun_of c.args.self.now) (accepted c.args.key.now c.args.command.now))) g.met.D.Disk.counts_now
+    (subst (λ (s : EngineState). LeavesOnly g.D.Disk.view disk disk_now (IsAroundFor form (kept_of s) (risked c.args.until (begun_of s) (accepted c.args.key.now c.args.command.now)))) c.self.view_is
     (c.put_command.ensures.moments form (kept_of old) (begun_of old) e))
 
 pub returns-in-Err-put_command-clause-limit : goal.returns-in-Err-put_command-clause-limit
@@ -374,7 +374,7 @@ pub put_command-requires-clause-reaches : goal.put_command-requires-clause-reach
 put_command-requires-clause-reaches g c =
     λ t is.
     subst (λ (s : EngineState). s.journal.size ≤ length t) (sym c.self.view_is)
-    (running_reaches (g.D.Disk.images c.args.disk.now) c.args.self.now t c.requires.running (g.met.D.Disk.reads_image c.args.disk.now t is))
+    (running_reaches (g.D.Disk.view c.args.disk.now).images c.args.self.now t c.requires.running (g.met.D.Disk.reads_image c.args.disk.now t is))
 
 pub returns-in-Err-clause-size : goal.returns-in-Err-clause-size
 returns-in-Err-clause-size g c =
@@ -405,6 +405,6 @@ pub returns-in-Ok-put_command-clause-none : goal.returns-in-Ok-put_command-claus
 returns-in-Ok-put_command-clause-none g c =
     let old : EngineState = record { history = c.self.inside.core.history; journal = c.self.inside.journal } in
     let form = c.requires.running.form in
-    let e = subst (λ (s : EngineState). IsRunningIn form (g.D.Disk.images c.args.disk.now) s) (sym c.self.view_is) c.requires.running.kept in
-    enter_none c.args.until form (g.D.Disk.images c.put_command.new.disk) c.put_command.new.journal _ (accepted c.args.key.now c.args.command.now)
+    let e = subst (λ (s : EngineState). IsRunningIn form (g.D.Disk.view c.args.disk.now).images s) (sym c.self.view_is) c.requires.running.kept in
+    enter_none c.args.until form (g.D.Disk.view c.put_command.new.disk).images c.put_command.new.journal _ (accepted c.args.key.now c.args.command.now)
     (c.in-Ok-put_command.ensures.put form (kept_of old) (begun_of old) e)

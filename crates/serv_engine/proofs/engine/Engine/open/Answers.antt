@@ -13,7 +13,7 @@ use Rattle.serv_engine.proofs.engine.Engine.open.Goals as goal
 pub returns-in-Ok-take_over-clause-found : goal.returns-in-Ok-take_over-clause-found
 returns-in-Ok-take_over-clause-found g c =
     λ s is.
-    found_as (g.D.Disk.seen c.open.new.disk) c.in-Ok.journal c.in-Ok.frames s c.args.limit c.take_over.new.journal.size c.in-Ok-take_over.core.history (c.in-Ok.ensures.opened s is) c.in-Ok.ensures.fresh.0 c.in-Ok-take_over.ensures.lines c.in-Ok-take_over.ensures.room c.in-Ok-take_over.ensures.size
+    found_as (g.D.Disk.view c.open.new.disk).seen c.in-Ok.journal c.in-Ok.frames s c.args.limit c.take_over.new.journal.size c.in-Ok-take_over.core.history (c.in-Ok.ensures.opened s is) c.in-Ok.ensures.fresh.0 c.in-Ok-take_over.ensures.lines c.in-Ok-take_over.ensures.room c.in-Ok-take_over.ensures.size
 
 pub returns-in-Ok-take_over-clause-fresh : goal.returns-in-Ok-take_over-clause-fresh
 returns-in-Ok-take_over-clause-fresh g c =
@@ -25,7 +25,7 @@ returns-in-Ok-take_over-clause-moments g c =
     let disk = c.args.disk.now in
     let disk_opened = c.open.new.disk in
     λ s is h a hist each.
-    moments_taken g.D.Disk.moment g.D.Disk.images_since disk disk_opened c.take_over.new.disk (lines_in frames) h a (which_lines (g.D.Disk.seen disk_opened) c.in-Ok.journal frames s h a hist (each s (g.met.D.Disk.reads_image disk s is)) (c.in-Ok.ensures.opened s is)) (c.open.ensures.moments s is (lines_of_history h) (line_of_command a) (are_lines h (history_front h a hist).formed) (let last = history_last h a hist in command_is_line a last.0 last.1) each) c.take_over.ensures.moments
+    moments_taken g.D.Disk.view disk disk_opened c.take_over.new.disk (lines_in frames) h a (which_lines (g.D.Disk.view disk_opened).seen c.in-Ok.journal frames s h a hist (each s (g.met.D.Disk.reads_image disk s is)) (c.in-Ok.ensures.opened s is)) (c.open.ensures.moments s is (lines_of_history h) (line_of_command a) (are_lines h (history_front h a hist).formed) (let last = history_last h a hist in command_is_line a last.0 last.1) each) c.take_over.ensures.moments
 
 pub returns-in-Ok-take_over-clause-exactly_not_journal : goal.returns-in-Ok-take_over-clause-exactly_not_journal
 returns-in-Ok-take_over-clause-exactly_not_journal g c =
@@ -37,7 +37,7 @@ returns-in-Err-take_over-clause-moments g c =
     let disk = c.args.disk.now in
     let disk_opened = c.open.new.disk in
     λ s is h a hist each.
-    moments_taken g.D.Disk.moment g.D.Disk.images_since disk disk_opened c.take_over.new.disk (lines_in frames) h a (which_lines (g.D.Disk.seen disk_opened) c.in-Ok.journal frames s h a hist (each s (g.met.D.Disk.reads_image disk s is)) (c.in-Ok.ensures.opened s is)) (c.open.ensures.moments s is (lines_of_history h) (line_of_command a) (are_lines h (history_front h a hist).formed) (let last = history_last h a hist in command_is_line a last.0 last.1) each) c.take_over.ensures.moments
+    moments_taken g.D.Disk.view disk disk_opened c.take_over.new.disk (lines_in frames) h a (which_lines (g.D.Disk.view disk_opened).seen c.in-Ok.journal frames s h a hist (each s (g.met.D.Disk.reads_image disk s is)) (c.in-Ok.ensures.opened s is)) (c.open.ensures.moments s is (lines_of_history h) (line_of_command a) (are_lines h (history_front h a hist).formed) (let last = history_last h a hist in command_is_line a last.0 last.1) each) c.take_over.ensures.moments
 
 pub returns-in-Err-take_over-clause-exactly_not_journal : goal.returns-in-Err-take_over-clause-exactly_not_journal
 returns-in-Err-take_over-clause-exactly_not_journal g c =
@@ -51,7 +51,7 @@ returns-in-Err-clause-moments g c =
 pub returns-in-Ok-take_over-clause-either : goal.returns-in-Ok-take_over-clause-either
 returns-in-Ok-take_over-clause-either g c =
     λ s is h a hist each.
-    which_history h c.in-Ok-take_over.core.history a hist c.in-Ok-take_over.ensures.history (subst (λ l. (l ≡ lines_of_history h) ⊎ (l ≡ lines_of_history h ++ line_of_command a ∷ [])) (sym c.in-Ok-take_over.ensures.lines) (which_lines (g.D.Disk.seen c.open.new.disk) c.in-Ok.journal c.in-Ok.frames s h a hist (each s (g.met.D.Disk.reads_image c.args.disk.now s is)) (c.in-Ok.ensures.opened s is)))
+    which_history h c.in-Ok-take_over.core.history a hist c.in-Ok-take_over.ensures.history (subst (λ l. (l ≡ lines_of_history h) ⊎ (l ≡ lines_of_history h ++ line_of_command a ∷ [])) (sym c.in-Ok-take_over.ensures.lines) (which_lines (g.D.Disk.view c.open.new.disk).seen c.in-Ok.journal c.in-Ok.frames s h a hist (each s (g.met.D.Disk.reads_image c.args.disk.now s is)) (c.in-Ok.ensures.opened s is)))
 
 pub returns-in-Ok-take_over-clause-exactly_damaged : goal.returns-in-Ok-take_over-clause-exactly_damaged
 returns-in-Ok-take_over-clause-exactly_damaged g c =
@@ -64,7 +64,7 @@ returns-in-Ok-take_over-clause-exactly_full g c =
     let j_now = c.take_over.new.journal in
     let history = c.in-Ok-take_over.core.history in
     λ s bytes is long.
-    absurd (long_or_found limit bytes j_now.size s history long (found_as (g.D.Disk.seen c.open.new.disk) c.in-Ok.journal c.in-Ok.frames s limit j_now.size history (c.in-Ok.ensures.opened s is) c.in-Ok.ensures.fresh.0 c.in-Ok-take_over.ensures.lines c.in-Ok-take_over.ensures.room c.in-Ok-take_over.ensures.size))
+    absurd (long_or_found limit bytes j_now.size s history long (found_as (g.D.Disk.view c.open.new.disk).seen c.in-Ok.journal c.in-Ok.frames s limit j_now.size history (c.in-Ok.ensures.opened s is) c.in-Ok.ensures.fresh.0 c.in-Ok-take_over.ensures.lines c.in-Ok-take_over.ensures.room c.in-Ok-take_over.ensures.size))
 
 pub returns-in-Ok-take_over-clause-faults : goal.returns-in-Ok-take_over-clause-faults
 returns-in-Ok-take_over-clause-faults g c =
@@ -79,7 +79,7 @@ returns-in-Err-take_over-clause-fault g c =
     let disk_opened = c.open.new.disk in
     let failed = c.in-Err-take_over.fault in
     λ s is.
-    (taking_fault (g.D.Disk.seen disk_opened) journal_is frames s c.args.limit old_faults new_faults failed (c.in-Ok.ensures.opened s is) c.in-Ok.ensures.fresh.0 (taking_later journal_is frames old_faults (g.D.Disk.faults disk_opened) new_faults failed c.open.ensures.faults c.take_over.ensures.faults c.in-Err-take_over.ensures.fault))
+    (taking_fault (g.D.Disk.view disk_opened).seen journal_is frames s c.args.limit old_faults new_faults failed (c.in-Ok.ensures.opened s is) c.in-Ok.ensures.fresh.0 (taking_later journal_is frames old_faults (g.D.Disk.faults disk_opened) new_faults failed c.open.ensures.faults c.take_over.ensures.faults c.in-Err-take_over.ensures.fault))
 
 pub returns-in-Err-take_over-clause-cause : goal.returns-in-Err-take_over-clause-cause
 returns-in-Err-take_over-clause-cause g c =
@@ -100,7 +100,7 @@ returns-in-Err-take_over-clause-exactly_damaged g c =
     let disk_opened = c.open.new.disk in
     let failed = c.in-Err-take_over.fault in
     λ s place is damaged.
-    let o = (c.in-Ok.ensures.opened s is) in only_damaged limit place old_faults new_faults s failed o.form (lines_in frames) o.commit o.rest o.read damaged (taking_fault (g.D.Disk.seen disk_opened) journal_is frames s limit old_faults new_faults failed (c.in-Ok.ensures.opened s is) c.in-Ok.ensures.fresh.0 (taking_later journal_is frames old_faults (g.D.Disk.faults disk_opened) new_faults failed c.open.ensures.faults c.take_over.ensures.faults c.in-Err-take_over.ensures.fault))
+    let o = (c.in-Ok.ensures.opened s is) in only_damaged limit place old_faults new_faults s failed o.form (lines_in frames) o.commit o.rest o.read damaged (taking_fault (g.D.Disk.view disk_opened).seen journal_is frames s limit old_faults new_faults failed (c.in-Ok.ensures.opened s is) c.in-Ok.ensures.fresh.0 (taking_later journal_is frames old_faults (g.D.Disk.faults disk_opened) new_faults failed c.open.ensures.faults c.take_over.ensures.faults c.in-Err-take_over.ensures.fault))
 
 pub returns-in-Err-take_over-clause-exactly_full : goal.returns-in-Err-take_over-clause-exactly_full
 returns-in-Err-take_over-clause-exactly_full g c =
@@ -112,11 +112,11 @@ returns-in-Err-take_over-clause-exactly_full g c =
     let disk_opened = c.open.new.disk in
     let failed = c.in-Err-take_over.fault in
     λ s bytes is long.
-    only_full limit bytes old_faults new_faults s failed long (taking_fault (g.D.Disk.seen disk_opened) journal_is frames s limit old_faults new_faults failed (c.in-Ok.ensures.opened s is) c.in-Ok.ensures.fresh.0 (taking_later journal_is frames old_faults (g.D.Disk.faults disk_opened) new_faults failed c.open.ensures.faults c.take_over.ensures.faults c.in-Err-take_over.ensures.fault))
+    only_full limit bytes old_faults new_faults s failed long (taking_fault (g.D.Disk.view disk_opened).seen journal_is frames s limit old_faults new_faults failed (c.in-Ok.ensures.opened s is) c.in-Ok.ensures.fresh.0 (taking_later journal_is frames old_faults (g.D.Disk.faults disk_opened) new_faults failed c.open.ensures.faults c.take_over.ensures.faults c.in-Err-take_over.ensures.fault))
 
 pub returns-in-Err-take_over-clause-kept : goal.returns-in-Err-take_over-clause-kept
 returns-in-Err-take_over-clause-kept g c =
-    taken_kept g.D.Disk.seen c.in-Err-take_over.fault c.in-Ok.journal c.in-Ok.frames c.args.disk.now c.open.new.disk c.take_over.new.disk c.in-Ok.ensures.opened c.in-Err-take_over.ensures.kept
+    taken_kept g.D.Disk.view c.in-Err-take_over.fault c.in-Ok.journal c.in-Ok.frames c.args.disk.now c.open.new.disk c.take_over.new.disk c.in-Ok.ensures.opened c.in-Err-take_over.ensures.kept
 
 pub returns-in-Err-take_over-clause-faults : goal.returns-in-Err-take_over-clause-faults
 returns-in-Err-take_over-clause-faults g c =
@@ -133,12 +133,12 @@ returns-in-Err-take_over-clause-bound_err g c =
 
 pub returns-in-Err-clause-fault : goal.returns-in-Err-clause-fault
 returns-in-Err-clause-fault g c =
-    let seen = g.D.Disk.seen in
+    let view = g.D.Disk.view in
     let old_faults = (g.D.Disk.faults c.args.disk.now) in
     let mid_faults = (g.D.Disk.faults c.open.new.disk) in
     let limit = c.args.limit in
     let disk = c.args.disk.now in
-    subst (λ f. (s : List ℕ) → (seen disk) ≡ Some s → IsOpenFault limit s old_faults mid_faults f) (sym c.of_journal.ensures) (journal_fault (seen disk) limit old_faults mid_faults c.in-Err.fault c.in-Err.ensures.fault (λ is. c.in-Err.ensures.not_journal (ap (λ x. Err x) is)) c.in-Err.ensures.damaged)
+    subst (λ f. (s : List ℕ) → (view disk).seen ≡ Some s → IsOpenFault limit s old_faults mid_faults f) (sym c.of_journal.ensures) (journal_fault (view disk).seen limit old_faults mid_faults c.in-Err.fault c.in-Err.ensures.fault (λ is. c.in-Err.ensures.not_journal (ap (λ x. Err x) is)) c.in-Err.ensures.damaged)
 
 pub returns-in-Err-clause-cause : goal.returns-in-Err-clause-cause
 returns-in-Err-clause-cause g c =
@@ -158,22 +158,22 @@ returns-in-Err-clause-exactly_damaged g c =
     let old_faults = (g.D.Disk.faults c.args.disk.now) in
     let mid_faults = (g.D.Disk.faults c.open.new.disk) in
     λ s place is damaged.
-    subst (λ f. (f ≡ fault.Damaged place) ⊎ IsPassing old_faults mid_faults f) (sym c.of_journal.ensures) (journal_damaged (g.D.Disk.seen c.args.disk.now) old_faults mid_faults c.in-Err.fault s place c.in-Err.ensures.fault (λ is. c.in-Err.ensures.not_journal (ap (λ x. Err x) is)) c.in-Err.ensures.damaged is (c.in-Err.ensures.exactly_damaged s place is) damaged)
+    subst (λ f. (f ≡ fault.Damaged place) ⊎ IsPassing old_faults mid_faults f) (sym c.of_journal.ensures) (journal_damaged (g.D.Disk.view c.args.disk.now).seen old_faults mid_faults c.in-Err.fault s place c.in-Err.ensures.fault (λ is. c.in-Err.ensures.not_journal (ap (λ x. Err x) is)) c.in-Err.ensures.damaged is (c.in-Err.ensures.exactly_damaged s place is) damaged)
 
 pub returns-in-Err-clause-exactly_full : goal.returns-in-Err-clause-exactly_full
 returns-in-Err-clause-exactly_full g c =
     let old_faults = (g.D.Disk.faults c.args.disk.now) in
     let mid_faults = (g.D.Disk.faults c.open.new.disk) in
     λ s bytes is long.
-    subst (λ f. (f ≡ fault.JournalFull bytes) ⊎ IsPassing old_faults mid_faults f) (sym c.of_journal.ensures) (inr (journal_passes (g.D.Disk.seen c.args.disk.now) old_faults mid_faults c.in-Err.fault long.form (lines_of_history long.history) long.commit long.rest s c.in-Err.ensures.fault (λ is. c.in-Err.ensures.not_journal (ap (λ x. Err x) is)) c.in-Err.ensures.damaged is long.read))
+    subst (λ f. (f ≡ fault.JournalFull bytes) ⊎ IsPassing old_faults mid_faults f) (sym c.of_journal.ensures) (inr (journal_passes (g.D.Disk.view c.args.disk.now).seen old_faults mid_faults c.in-Err.fault long.form (lines_of_history long.history) long.commit long.rest s c.in-Err.ensures.fault (λ is. c.in-Err.ensures.not_journal (ap (λ x. Err x) is)) c.in-Err.ensures.damaged is long.read))
 
 pub returns-in-Err-clause-kept : goal.returns-in-Err-clause-kept
 returns-in-Err-clause-kept g c =
-    let seen = g.D.Disk.seen in
+    let view = g.D.Disk.view in
     let disk = c.args.disk.now in
     let disk_opened = c.open.new.disk in
-    let told = seen disk_opened in
-    subst (λ f. (f ≡ fault.DiskFault) ⊎ ((seen disk_opened ≡ seen disk) ⊎ ((s : List ℕ) → seen disk ≡ Some s → IsClosed s told))) (sym c.of_journal.ensures) (journal_kept_or c.in-Err.fault (seen disk_opened ≡ seen disk) ((s : List ℕ) → seen disk ≡ Some s → IsClosed s told) c.in-Err.ensures.kept)
+    let told = (view disk_opened).seen in
+    subst (λ f. (f ≡ fault.DiskFault) ⊎ (((view disk_opened).seen ≡ (view disk).seen) ⊎ ((s : List ℕ) → (view disk).seen ≡ Some s → IsClosed s told))) (sym c.of_journal.ensures) (journal_kept_or c.in-Err.fault ((view disk_opened).seen ≡ (view disk).seen) ((s : List ℕ) → (view disk).seen ≡ Some s → IsClosed s told) c.in-Err.ensures.kept)
 
 pub returns-in-Err-clause-bound_err : goal.returns-in-Err-clause-bound_err
 returns-in-Err-clause-bound_err g c =

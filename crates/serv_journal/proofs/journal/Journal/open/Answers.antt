@@ -20,8 +20,8 @@ pub returns-in_err-close_byte-clause-moments : goal.returns-in_err-close_byte-cl
 returns-in_err-close_byte-clause-moments g c = λ s is lines line fit is_line good.
     let stays = c.read_all.ensures.stays in
     let found = c.in_ok-found.found in
-    stays_then _ _ _ _ _ _ _ _ stays good
-    (weaker _ _ _ _ _ _ c.close_byte.ensures.moments
+    stays_then _ _ _ _ _ stays good
+    (weaker _ _ _ _ _ c.close_byte.ensures.moments
     (λ x h. ⊎_elim (λ old. good x (stays.crash x old))
     (λ torn. close_keeps _ _ found.version found.frames found.place found.commit s x lines line (stays.told ∙ is) c.in_ok-found.ensures.only fit is_line
     (good s (g.met.D.Disk.reads_image c.args.disk.now s is)) (c.in_ok-found.ensures.found s is) torn) h))
@@ -38,7 +38,7 @@ returns-clause-opened g c = λ s is.
 pub returns-clause-durable : goal.returns-clause-durable
 returns-clause-durable g c =
     let found = c.in_ok-found.found in
-    durable_for (g.D.Disk.seen c.args.disk.now) _ _ _ found.frames found.place c.in_ok-found.ensures.form c.len.ensures refl refl refl
+    durable_for (g.D.Disk.view c.args.disk.now).seen _ _ _ found.frames found.place c.in_ok-found.ensures.form c.len.ensures refl refl refl
     (λ s is. opened_found _ found.version found.frames found.place found.commit s _ (c.in_ok-found.ensures.found s is) refl c.len.ensures refl
     (λ front rest long e. c.in_ok-close_byte.ensures.told front rest long (c.read_all.ensures.stays.told ∙ (is ∙ ap (λ x. Some x) e))))
     (c.in_ok-close_byte.ensures.only c.in_ok-found.ensures.only)
@@ -48,8 +48,8 @@ pub returns-clause-moments : goal.returns-clause-moments
 returns-clause-moments g c = λ s is lines line fit is_line good.
     let stays = c.read_all.ensures.stays in
     let found = c.in_ok-found.found in
-    stays_then _ _ _ _ _ _ _ _ stays good
-    (weaker _ _ _ _ _ _ c.close_byte.ensures.moments
+    stays_then _ _ _ _ _ stays good
+    (weaker _ _ _ _ _ c.close_byte.ensures.moments
     (λ x h. ⊎_elim (λ old. good x (stays.crash x old))
     (λ torn. close_keeps _ _ found.version found.frames found.place found.commit s x lines line (stays.told ∙ is) c.in_ok-found.ensures.only fit is_line
     (good s (g.met.D.Disk.reads_image c.args.disk.now s is)) (c.in_ok-found.ensures.found s is) torn) h))

@@ -19,7 +19,7 @@ returns-in-Ok-clause-moments g c = λ form stands each.
     let one : form.version ≡ One = sym stands.version ∙ c.requires.version in
     let size = ap (λ (j : JournalState). j.size) c.self.view_is in
     let long : length (base form lines) + 1 ≡ c.self.inside.size = omega (arith, size, stands.size) in
-    weaker _ _ _ _ _ _ (c.write_upgrade.ensures.moments (base form lines) long each) (λ x h. rewritten_whole form lines x stands.is_form one stands.fit h)
+    weaker _ _ _ _ _ (c.write_upgrade.ensures.moments (base form lines) long each) (λ x h. rewritten_whole form lines x stands.is_form one stands.fit h)
 
 pub returns-in-Err-clause-moments : goal.returns-in-Err-clause-moments
 returns-in-Err-clause-moments g c = λ form stands each.
@@ -27,7 +27,7 @@ returns-in-Err-clause-moments g c = λ form stands each.
     let one : form.version ≡ One = sym stands.version ∙ c.requires.version in
     let size = ap (λ (j : JournalState). j.size) c.self.view_is in
     let long : length (base form lines) + 1 ≡ c.self.inside.size = omega (arith, size, stands.size) in
-    weaker _ _ _ _ _ _ (c.write_upgrade.ensures.moments (base form lines) long each) (λ x h. rewritten_whole form lines x stands.is_form one stands.fit h)
+    weaker _ _ _ _ _ (c.write_upgrade.ensures.moments (base form lines) long each) (λ x h. rewritten_whole form lines x stands.is_form one stands.fit h)
 
 pub returns-in-Ok-clause-upgraded : goal.returns-in-Ok-clause-upgraded
 returns-in-Ok-clause-upgraded g c = λ form stands.

@@ -7,7 +7,7 @@ use Rattle.serv_journal.proofs.window.Window.load.Goals as goal
 
 pub returns-clause-reading : goal.returns-clause-reading
 returns-clause-reading g c = record {
-  stays = stays_call _ _ _ _ _ _ _ (stays_here _ _ _ _ c.args.disk.now (g.met.D.Disk.only_now c.args.disk.now)) c.read.ensures.kept c.read.ensures.crash c.read.ensures.time;
+  stays = stays_call _ _ _ _ (stays_here _ c.args.disk.now (g.met.D.Disk.only_now c.args.disk.now)) c.read.ensures.kept c.read.ensures.crash c.read.ensures.time;
   later = c.read.ensures.cause.later;
   size = ap (λ (w : WindowState). w.size) c.self.view_is;
   shows = λ s is.

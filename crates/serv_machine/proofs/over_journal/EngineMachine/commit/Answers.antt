@@ -15,10 +15,10 @@ pub returns-in-Ok-clause-disk : goal.returns-in-Ok-clause-disk
 returns-in-Ok-clause-disk g c =
     let e = c.args.self.now in
     let same = same_history e c.commit.new.self c.commit.ensures.history c.commit.ensures.size c.commit.ensures.limit in
-    behind_disk g.D.Disk.images g.D.Disk.moment g.D.Disk.images_since c.args.disk.now c.commit.new.disk e c.commit.new.self
+    behind_disk g.D.Disk.view c.args.disk.now c.commit.new.disk e c.commit.new.self
     (g.met.D.Disk.only_now c.args.disk.now) c.requires.running.1 c.requires.running.2 c.commit.ensures.moments (history_of e) refl refl
     (subst IsHistory c.core.ensures c.history_holds.ensures.history)
-    (subst (λ h. Each (g.D.Disk.images c.commit.new.disk) (HasHistory h)) same (durable_whole (g.D.Disk.images c.commit.new.disk) c.commit.new.self c.commit.ensures.version c.in-Ok.ensures.durable))
+    (subst (λ h. Each (g.D.Disk.view c.commit.new.disk).images (HasHistory h)) same (durable_whole (g.D.Disk.view c.commit.new.disk).images c.commit.new.self c.commit.ensures.version c.in-Ok.ensures.durable))
 
 is_no : false ≡ true → ⊥
 is_no is = cc
@@ -27,7 +27,7 @@ pub returns-in-Err-clause-torn : goal.returns-in-Err-clause-torn
 returns-in-Err-clause-torn g c =
     let e = c.args.self.now in
     let runs = c.requires.running.2 in
-    torn_disk g.D.Disk.images g.D.Disk.moment g.D.Disk.images_since c.args.disk.now c.commit.new.disk e c.commit.new.self
+    torn_disk g.D.Disk.view c.args.disk.now c.commit.new.disk e c.commit.new.self
     (g.met.D.Disk.only_now c.args.disk.now) c.requires.running.1 runs c.commit.ensures.moments [] (history_of e) (sym (append-nil e.history))
     (λ none. absurd (is_no (subst IsOk c.in-Err.is (c.commit.ensures.idle (runs.kept.gate ∙ ap (λ h. gate_of runs.form (lines_of_history (kept_of e)) (lines_of_history h)) (sym (append-nil (begun_of e)) ∙ none))).0)))
     (subst IsHistory c.core.ensures c.history_holds.ensures.history) c.commit.ensures.good

@@ -16,9 +16,9 @@ pub returns-in-Ok-write_over-clause-upheld : goal.returns-in-Ok-write_over-claus
 returns-in-Ok-write_over-clause-upheld g c = λ said s steps held gathers.
     let settled = g.met.M.Machine.settled c.commit.new.self c.commit.new.disk c.in-Ok.ensures.ready in
     let same = settled.1 ∙ c.commit.ensures.history in
-    let has = subst (λ (h : History). Each (g.D.Disk.images c.commit.new.disk) (HasHistory h)) same (g.met.M.Machine.keeps_running c.commit.new.self c.commit.new.disk settled.0) in
-    writes_all g.D.Disk.images g.D.Disk.moment g.D.Disk.images_since gathers c.commit.new.disk c.commit.new.disk (g.met.D.Disk.only_now c.commit.new.disk) _ []
-    (disk_none g.D.Disk.images g.D.Disk.moment g.D.Disk.images_since c.commit.new.disk _ _ same has (g.met.D.Disk.only_now c.commit.new.disk)) c.write_over.ensures.noted
+    let has = subst (λ (h : History). Each (g.D.Disk.view c.commit.new.disk).images (HasHistory h)) same (g.met.M.Machine.keeps_running c.commit.new.self c.commit.new.disk settled.0) in
+    writes_all g.D.Disk.view gathers c.commit.new.disk c.commit.new.disk (g.met.D.Disk.only_now c.commit.new.disk) _ []
+    (disk_none g.D.Disk.view c.commit.new.disk _ _ same has (g.met.D.Disk.only_now c.commit.new.disk)) c.write_over.ensures.noted
 
 pub returns-in-Ok-write_over-clause-disk : goal.returns-in-Ok-write_over-clause-disk
 returns-in-Ok-write_over-clause-disk g c =
@@ -27,19 +27,19 @@ returns-in-Ok-write_over-clause-disk g c =
 pub returns-in-Err-write_over-clause-stopped : goal.returns-in-Err-write_over-clause-stopped
 returns-in-Err-write_over-clause-stopped g c = λ said s steps held gathers.
     let same = (g.met.M.Machine.settled c.commit.new.self c.commit.new.disk c.in-Ok.ensures.ready).1 ∙ c.commit.ensures.history in
-    cut_stops _ said s gathers g.D.Disk.images g.D.Disk.moment g.D.Disk.images_since c.args.disk.now c.commit.new.disk _ _ same c.in-Err-write_over.ensures.part c.in-Ok.ensures.disk
+    cut_stops _ said s gathers g.D.Disk.view c.args.disk.now c.commit.new.disk _ _ same c.in-Err-write_over.ensures.part c.in-Ok.ensures.disk
 
 pub returns-in-Err-write_over-clause-upheld : goal.returns-in-Err-write_over-clause-upheld
 returns-in-Err-write_over-clause-upheld g c = λ said s steps held gathers.
     let settled = g.met.M.Machine.settled c.commit.new.self c.commit.new.disk c.in-Ok.ensures.ready in
     let same = settled.1 ∙ c.commit.ensures.history in
-    let has = subst (λ (h : History). Each (g.D.Disk.images c.commit.new.disk) (HasHistory h)) same (g.met.M.Machine.keeps_running c.commit.new.self c.commit.new.disk settled.0) in
-    writes_all g.D.Disk.images g.D.Disk.moment g.D.Disk.images_since gathers c.commit.new.disk c.commit.new.disk (g.met.D.Disk.only_now c.commit.new.disk) _ []
-    (disk_none g.D.Disk.images g.D.Disk.moment g.D.Disk.images_since c.commit.new.disk _ _ same has (g.met.D.Disk.only_now c.commit.new.disk)) c.write_over.ensures.noted
+    let has = subst (λ (h : History). Each (g.D.Disk.view c.commit.new.disk).images (HasHistory h)) same (g.met.M.Machine.keeps_running c.commit.new.self c.commit.new.disk settled.0) in
+    writes_all g.D.Disk.view gathers c.commit.new.disk c.commit.new.disk (g.met.D.Disk.only_now c.commit.new.disk) _ []
+    (disk_none g.D.Disk.view c.commit.new.disk _ _ same has (g.met.D.Disk.only_now c.commit.new.disk)) c.write_over.ensures.noted
 
 pub returns-in-Err-clause-stopped : goal.returns-in-Err-clause-stopped
 returns-in-Err-clause-stopped g c = λ said s steps held gathers.
-    torn_stops _ said s gathers g.D.Disk.images g.D.Disk.moment g.D.Disk.images_since c.args.disk.now c.commit.new.disk _ c.in-Err.ensures.same c.in-Err.ensures.torn
+    torn_stops _ said s gathers g.D.Disk.view c.args.disk.now c.commit.new.disk _ c.in-Err.ensures.same c.in-Err.ensures.torn
 
 pub returns-in-Err-clause-upheld : goal.returns-in-Err-clause-upheld
-returns-in-Err-clause-upheld g c = λ said s steps held gathers. upheld_none _ _ _ _ _ _
+returns-in-Err-clause-upheld g c = λ said s steps held gathers. upheld_none _ _ _ _ _

@@ -12,15 +12,15 @@ returns-in-Ok-clause-fed g c = λ before s held run.
 
 pub returns-in-Ok-clause-upheld : goal.returns-in-Ok-clause-upheld
 returns-in-Ok-clause-upheld g c = λ before s held run.
-    replies_wider _ (SaidFirst Says _) (g.D.Disk.moment c.act.new.disk) (g.D.Disk.images_since c.act.new.disk) (g.M.Machine.kept c.act.new.machine) s.history held _ _
+    replies_wider _ (SaidFirst Says _) (g.D.Disk.view c.act.new.disk) (g.M.Machine.kept c.act.new.machine) s.history held _ _
     (λ done first. first_line _ before run (saying_of c.said_in-said.result) (rw c.deref.ensures.value at c.said_in-said.ensures.says) _ [] (sym (append-nil _)) done [] first) (c.act.ensures.upheld run.said s held run.gathers)
 
 pub returns-in-Err-clause-stopped : goal.returns-in-Err-clause-stopped
 returns-in-Err-clause-stopped g c = λ before s held run.
     stops_wider _ _ (first_line _ before run (saying_of c.said_in-said.result) (rw c.deref.ensures.value at c.said_in-said.ensures.says) _ [] (sym (append-nil _))) _ s _
-    g.D.Disk.images g.D.Disk.moment g.D.Disk.images_since c.args.disk.now c.act.new.disk c.in-Err.stop _ _ held _ (c.in-Err.ensures.stopped run.said s held run.gathers)
+    g.D.Disk.view c.args.disk.now c.act.new.disk c.in-Err.stop _ _ held _ (c.in-Err.ensures.stopped run.said s held run.gathers)
 
 pub returns-in-Err-clause-upheld : goal.returns-in-Err-clause-upheld
 returns-in-Err-clause-upheld g c = λ before s held run.
-    replies_wider _ (SaidFirst Says _) (g.D.Disk.moment c.act.new.disk) (g.D.Disk.images_since c.act.new.disk) (g.M.Machine.kept c.act.new.machine) s.history held _ _
+    replies_wider _ (SaidFirst Says _) (g.D.Disk.view c.act.new.disk) (g.M.Machine.kept c.act.new.machine) s.history held _ _
     (λ done first. first_line _ before run (saying_of c.said_in-said.result) (rw c.deref.ensures.value at c.said_in-said.ensures.says) _ [] (sym (append-nil _)) done [] first) (c.act.ensures.upheld run.said s held run.gathers)

@@ -14,8 +14,8 @@ invariant-loop-at g l = record {
   served : (before : List ℕ) (s : Stand) (held : Option (List ℕ)) → Served l.fn.self.replies.waiting before s (running (g.M.Machine.history l.fn.machine) (g.M.Machine.kept l.fn.machine) l.fn.steps) held (g.K.Sink.held l.fn.snk) l.fn.self.line.items l.fn.self.replies.text.items
       → Served l.fn.self.replies.waiting (before ++ take l.at l.bytes) s (running (g.M.Machine.history l.machine) (g.M.Machine.kept l.machine) l.steps) held (g.K.Sink.held l.snk) l.self.line.items l.self.replies.text.items;
   upheld : (before : List ℕ) (s : Stand) (held : Option (List ℕ)) → Served l.fn.self.replies.waiting before s (running (g.M.Machine.history l.fn.machine) (g.M.Machine.kept l.fn.machine) l.fn.steps) held (g.K.Sink.held l.fn.snk) l.fn.self.line.items l.fn.self.replies.text.items
-      → Upholds (AreReplies (SaidFirst Says (ended_lines (before ++ l.bytes))) s.history) (g.D.Disk.moment l.disk) (g.D.Disk.images_since l.disk) (g.M.Machine.kept l.machine) held (g.K.Sink.log l.fn.snk) (g.K.Sink.log l.snk);
-  disk : OnDisk g.D.Disk.images g.D.Disk.moment g.D.Disk.images_since l.fn.disk l.disk (g.M.Machine.kept l.fn.machine) (g.M.Machine.kept l.machine) [];
+      → Upholds (AreReplies (SaidFirst Says (ended_lines (before ++ l.bytes))) s.history) (g.D.Disk.view l.disk) (g.M.Machine.kept l.machine) held (g.K.Sink.log l.fn.snk) (g.K.Sink.log l.snk);
+  disk : OnDisk g.D.Disk.view l.fn.disk l.disk (g.M.Machine.kept l.fn.machine) (g.M.Machine.kept l.machine) [];
   running : g.M.Machine.running l.machine l.disk;
   waiting : l.self.replies.waiting ≡ l.fn.self.replies.waiting;
   later : g.K.Sink.faults l.fn.snk ≤ g.K.Sink.faults l.snk;

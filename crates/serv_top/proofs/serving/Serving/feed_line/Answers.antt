@@ -32,11 +32,11 @@ returns-in-Err-clause-stopped g c = λ before s held run.
     let piece = c.args.piece.now in
     rw (append_assoc before piece (10 ∷ [])) at
     (stops_wider (AreFirst (SaidFirst Says (ended_lines (before ++ piece)))) _ (λ done ahead is. first_further (before ++ piece) (10 ∷ []) done ahead is) _ s _
-    g.D.Disk.images g.D.Disk.moment g.D.Disk.images_since c.args.disk.now c.feed_piece.new.disk c.in-Err.stop _ _ held _ (c.in-Err.ensures.stopped before s _ held run))
+    g.D.Disk.view c.args.disk.now c.feed_piece.new.disk c.in-Err.stop _ _ held _ (c.in-Err.ensures.stopped before s _ held run))
 
 pub returns-in-Err-clause-upheld : goal.returns-in-Err-clause-upheld
 returns-in-Err-clause-upheld g c = λ before s held run.
     let piece = c.args.piece.now in
     rw (append_assoc before piece (10 ∷ [])) at
-    (upheld_taken (g.D.Disk.moment c.feed_piece.new.disk) (g.D.Disk.images_since c.feed_piece.new.disk) (g.M.Machine.kept c.feed_piece.new.machine) s.history held _ _ (before ++ piece) (10 ∷ [])
+    (upheld_taken (g.D.Disk.view c.feed_piece.new.disk) (g.M.Machine.kept c.feed_piece.new.machine) s.history held _ _ (before ++ piece) (10 ∷ [])
     (c.feed_piece.ensures.upheld before s _ held run))

@@ -24,10 +24,10 @@ returns-in-Err-clause-stopped g c = λ before s held run.
     let n = c.in-Some.at + 1 in
     let front = line_before bytes c.in-Some.at (sym c.line_feed_in.ensures ∙ c.in-Some.is) in
     let stops = rw (sym front) at (c.in-Err.ensures.stopped before s held run) in
-    let none = disk_none g.D.Disk.images g.D.Disk.moment g.D.Disk.images_since c.args.disk.now _ _ refl
+    let none = disk_none g.D.Disk.view c.args.disk.now _ _ refl
     (g.met.M.Machine.keeps_running c.args.machine.now c.args.disk.now c.requires.running) (g.met.D.Disk.only_now c.args.disk.now) in
     rw (sym (part_rest before bytes n))
-    (stops_after (AreFirst (SaidFirst Says (ended_lines (before ++ take n bytes)))) _ (λ done ahead is. first_further (before ++ take n bytes) (drop n bytes) done ahead is) _ s _ g.D.Disk.images g.D.Disk.moment g.D.Disk.images_since
+    (stops_after (AreFirst (SaidFirst Says (ended_lines (before ++ take n bytes)))) _ (λ done ahead is. first_further (before ++ take n bytes) (drop n bytes) done ahead is) _ s _ g.D.Disk.view
     c.args.disk.now c.args.disk.now c.feed_line.new.disk c.in-Err.stop _ _ _ held _ none stops)
 
 pub returns-in-Err-feed_piece-clause-stopped : goal.returns-in-Err-feed_piece-clause-stopped
@@ -39,7 +39,7 @@ returns-in-Ok-clause-upheld g c = λ before s held run.
     let n = c.in-Some.at + 1 in
     let front = line_before bytes c.in-Some.at (sym c.line_feed_in.ensures ∙ c.in-Some.is) in
     rw (part_rest before bytes n) at
-    (upheld_taken (g.D.Disk.moment c.feed_line.new.disk) (g.D.Disk.images_since c.feed_line.new.disk) (g.M.Machine.kept c.feed_line.new.machine) s.history held _ _ (before ++ take n bytes) (drop n bytes)
+    (upheld_taken (g.D.Disk.view c.feed_line.new.disk) (g.M.Machine.kept c.feed_line.new.machine) s.history held _ _ (before ++ take n bytes) (drop n bytes)
     (rw (sym front) at (c.feed_line.ensures.upheld before s held run)))
 
 pub returns-in-Err-clause-upheld : goal.returns-in-Err-clause-upheld
@@ -48,7 +48,7 @@ returns-in-Err-clause-upheld g c = λ before s held run.
     let n = c.in-Some.at + 1 in
     let front = line_before bytes c.in-Some.at (sym c.line_feed_in.ensures ∙ c.in-Some.is) in
     rw (part_rest before bytes n) at
-    (upheld_taken (g.D.Disk.moment c.feed_line.new.disk) (g.D.Disk.images_since c.feed_line.new.disk) (g.M.Machine.kept c.feed_line.new.machine) s.history held _ _ (before ++ take n bytes) (drop n bytes)
+    (upheld_taken (g.D.Disk.view c.feed_line.new.disk) (g.M.Machine.kept c.feed_line.new.machine) s.history held _ _ (before ++ take n bytes) (drop n bytes)
     (rw (sym front) at (c.feed_line.ensures.upheld before s held run)))
 
 pub returns-in-Ok-feed_piece-clause-upheld : goal.returns-in-Ok-feed_piece-clause-upheld

@@ -20,11 +20,11 @@ returns-then-is_empty-clause-served g c = λ bytes s held run.
 
 pub returns-then-is_empty-clause-disk : goal.returns-then-is_empty-clause-disk
 returns-then-is_empty-clause-disk g c =
-    disk_none g.D.Disk.images g.D.Disk.moment g.D.Disk.images_since c.args.disk.now _ _ refl
+    disk_none g.D.Disk.view c.args.disk.now _ _ refl
     (g.met.M.Machine.keeps_running c.args.machine.now c.args.disk.now (g.met.M.Machine.settled c.args.machine.now c.args.disk.now c.requires.ready).0) (g.met.D.Disk.only_now c.args.disk.now)
 
 pub returns-then-is_empty-clause-upheld : goal.returns-then-is_empty-clause-upheld
-returns-then-is_empty-clause-upheld g c = λ bytes s held run. upheld_none _ _ _ _ _ _
+returns-then-is_empty-clause-upheld g c = λ bytes s held run. upheld_none _ _ _ _ _
 
 pub returns-in-Ok-clause-served : goal.returns-in-Ok-clause-served
 returns-in-Ok-clause-served g c = λ bytes s held run.
@@ -42,7 +42,7 @@ returns-in-Ok-clause-stopped g c = λ bytes s held run.
     let gone = rw c.end_line.ensures.waiting at c.let_go.ensures.stopped in
     IfErr-weaker c.let_go.result _ _
     (λ why stops. stops_after _ (AreFirst (SaidFirst Says (lines_of bytes))) (λ done ahead is. first_here _ (bytes ++ 10 ∷ []) fed (lines_of bytes) [] (last_ended _ bytes run some ∙ sym (append-nil _)) done ahead (first_exact fed.said done ahead is)) _ s _
-    g.D.Disk.images g.D.Disk.moment g.D.Disk.images_since c.args.disk.now c.end_line.new.disk c.let_go.new.disk why _ _ _ held _ c.in-Ok.ensures.disk stops)
+    g.D.Disk.view c.args.disk.now c.end_line.new.disk c.let_go.new.disk why _ _ _ held _ c.in-Ok.ensures.disk stops)
     (gone fed.said s _ held fed.gathers)
 
 pub returns-in-Ok-clause-upheld : goal.returns-in-Ok-clause-upheld
@@ -51,11 +51,11 @@ returns-in-Ok-clause-upheld g c = λ bytes s held run.
     let fed = c.in-Ok.ensures.fed bytes s held run in
     let gone = rw c.end_line.ensures.waiting at c.let_go.ensures in
     let last = last_ended _ bytes run some in
-    upheld_result g.D.Disk.images g.D.Disk.moment g.D.Disk.images_since c.end_line.new.disk c.let_go.new.disk c.let_go.result _ _ _ _ s _ _ (SaidFirst Says (lines_of bytes)) held _ _ _ _ c.let_go.ensures.disk
+    upheld_result g.D.Disk.view c.end_line.new.disk c.let_go.new.disk c.let_go.result _ _ _ _ s _ _ (SaidFirst Says (lines_of bytes)) held _ _ _ _ c.let_go.ensures.disk
     (gone.stopped fed.said s _ held fed.gathers) (λ done first. first_here _ (bytes ++ 10 ∷ []) fed (lines_of bytes) [] (last ∙ sym (append-nil _)) done [] first) (rw (sym last) at (c.end_line.ensures.upheld bytes s held run)) (gone.upheld fed.said s _ held fed.gathers)
 
 pub returns-in-Ok-clause-disk : goal.returns-in-Ok-clause-disk
-returns-in-Ok-clause-disk g c = on_ok_weaker c.let_go.result (λ second. disk_more g.D.Disk.images g.D.Disk.moment g.D.Disk.images_since _ _ _ _ _ _ _ c.in-Ok.ensures.disk second) c.let_go.ensures.disk
+returns-in-Ok-clause-disk g c = on_ok_weaker c.let_go.result (λ second. disk_more g.D.Disk.view _ _ _ _ _ _ _ c.in-Ok.ensures.disk second) c.let_go.ensures.disk
 
 pub returns-in-Err-clause-stopped : goal.returns-in-Err-clause-stopped
 returns-in-Err-clause-stopped g c = λ bytes s held run.
