@@ -20,6 +20,7 @@ mod stating;
 
 pub use confirm_fault::ConfirmFault;
 pub use confirming::confirm;
-pub use laws::{histories_split, parts_are_kept};
+pub use laws::{a_text_is_one_statement, histories_split, parts_are_kept};
 pub use splitting::{Halves, split};
+pub use statement_line::{StatedCents, StatementLine};
 pub use stating::statement;

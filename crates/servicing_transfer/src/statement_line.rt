@@ -13,12 +13,12 @@ use svc_base::{Month, OutOfMemory, push_signed};
 
 /// An amount of a statement, in cents. It has up to eighteen digits before its point, which is more than
 /// `Cents` holds.
-pub(crate) type StatedCents = i128;
+pub type StatedCents = i128;
 
 /// What a statement says of a loan: its balance and open installment, what is held for it, and what was
 /// advanced.
 #[derive(Clone, Copy, Debug, PartialEq, Eq)]
-pub(crate) struct StatementLine {
+pub struct StatementLine {
     pub loan: u32,
     pub upb: StatedCents,
     pub next: Option<Month>,

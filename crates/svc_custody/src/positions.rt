@@ -1,6 +1,6 @@
 //! What custody holds for each loan, in the order of numbers.
 
-ghost use Rattle.std.specs.Prelude.{◌≡◌, ◌≤◌, ◌<◌, [], insert, length, set, slice_index_or, OnOk};
+ghost use Rattle.std.specs.Prelude.{◌≡◌, ◌≤◌, ◌<◌, [], insert, length, set, slice_index_or, IsOk, OnOk};
 ghost use Rattle.svc_custody.specs.declared.position.Position as kept;
 
 use crate::position::Position;
@@ -46,6 +46,7 @@ impl Positions {
     pub fn reserve(&mut self) -> Result<(), OutOfMemory>
         ensures items { self.new.items ≡ self.old.items }
         ensures room { OnOk result (1 ≤ self.new.room) }
+        ensures succeeds { 1 ≤ self.old.room → IsOk result }
     {
         make_room(&mut self.items, 1, 0)?;
         make_room(&mut self.places, 1, 0)

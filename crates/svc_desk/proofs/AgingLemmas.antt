@@ -1,6 +1,6 @@
 -- One loan more among those that were counted and listed.
 use Rattle.std.proofs.Common.{◌≡◌, ℕ, ◌+◌, ◌≤◌, ◌<◌, Bool, true, false, cond, List, [], ◌∷◌, ◌++◌, length, map, take, get_or, arith, refl, sym, ap, ◌∙◌, rules}
-use Rattle.std.specs.Prelude.{not, ◌&&◌, nat_le, nat_lt, ℤ, pos, int_le, int_lt, if◌then◌else◌}
+use Rattle.std.specs.Prelude.{not, ◌&&◌, nat_le, ℤ, pos, int_le, int_lt, if◌then◌else◌}
 use Rattle.std.specs.List.{filter}
 use Rattle.std.proofs.lemmas.Bool.Decides.{nat_tests}
 use Rattle.std.proofs.lemmas.List.{take_more, map-append, length-take}

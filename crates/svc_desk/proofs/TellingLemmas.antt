@@ -1,18 +1,17 @@
 -- A loan's books on a day, and by how many days they are late.
-use Rattle.std.proofs.Common.{◌≡◌, ℕ, suc, ◌+◌, ◌-◌, ◌≤◌, ◌<◌, true, false, arith, refl, sym, ap, ◌∙◌}
-use Rattle.std.specs.Prelude.{nat_le, nat_lt, Option, Some, None, ℤ, pos, ◌<ℤ◌, int_lt, if◌then◌else◌}
+use Rattle.std.proofs.Common.{◌≡◌, ℕ, suc, ◌+◌, ◌-◌, ◌≤◌, ◌<◌, true, false, arith, refl, ap}
+use Rattle.std.specs.Prelude.{nat_le, Some, None, pos, ◌<ℤ◌, int_lt, if◌then◌else◌}
 use Rattle.std.specs.Option.{option_map_or}
-use Rattle.std.proofs.lemmas.Int.{ints}
 use Rattle.std.proofs.lemmas.Bool.Decides.{nat_tests}
-use Rattle.svc_base.specs.Calendar.{month_of, month_length, day_in_month, last_day}
+use Rattle.svc_base.specs.Calendar.{month_length, day_in_month, last_day}
 use Rattle.svc_base.specs.DayLemmas.{month_length_least, month_length_most}
 use Rattle.svc_base.proofs.CentsRules.{from_int_lt}
 use Rattle.svc_types.specs.declared.terms.Terms.{Terms}
 use Rattle.svc_types.specs.declared.books.Books.{Books}
 use Rattle.svc_spec.specs.Accounts.{advanced_to, books_of}
-use Rattle.svc_spec.specs.Installments.{installment, open_installment}
+use Rattle.svc_spec.specs.Installments.{installment}
 use Rattle.svc_world.specs.Held.{Held}
-use Rattle.svc_world.specs.Desk.{books_on, days_of_months, days_since, late_by, late_days}
+use Rattle.svc_world.specs.Desk.{books_on, days_of_months, late_by, late_days}
 
 -- ---- the books on a day
 

@@ -1,5 +1,5 @@
 -- Counts of loans by how late they are.
-use Rattle.std.specs.Prelude.{◌≡◌, ℕ, ◌+◌, ◌≤◌, ◌<◌, ◌&&◌, nat_le, not, Bool, if◌then◌else◌}
+use Rattle.std.specs.Prelude.{ℕ, ◌+◌, ◌≤◌, ◌&&◌, nat_le, not, Bool, if◌then◌else◌}
 use Rattle.svc_world.specs.declared.desk.AgingCounts.{AgingCounts}
 
 -- the counts of two lists of loans together

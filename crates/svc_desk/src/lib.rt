@@ -3,6 +3,7 @@
 
 mod aging;
 mod lateness;
+pub mod laws;
 mod telling;
 
 pub use aging::aging_answer;

@@ -46,6 +46,16 @@ step v g h olds news i d y lt count before here =
     ∙ ap (map h) (sym (mapped_more v (take i olds) (get_or olds i d)))
     ∙ ap (λ xs. map h (map v xs)) (sym (take_more olds i d lt))
 
+-- behind the next place all are still the old ones
+pub rest_more : {X : Type 0} (olds news : List X) (i : ℕ) (y : X) → drop i news ≡ drop i olds → drop (i + 1) (set news i y) ≡ drop (i + 1) olds
+rest_more {X = X} olds news i y same = drop-set-lt (i + 1) news i y (omega arith) ∙ sym (one news i) ∙ ap (drop 1) same ∙ one olds i
+  where
+    one : (zs : List X) (i : ℕ) → drop 1 (drop i zs) ≡ drop (i + 1) zs
+    one [] zero = refl
+    one [] (suc i) = let e : suc i + 1 ≡ suc (i + 1) = omega arith in sym (ap (λ n. drop {A = X} n []) e)
+    one (z ∷ zs) zero = refl
+    one (z ∷ zs) (suc i) = let e : suc i + 1 ≡ suc (i + 1) = omega arith in one zs i ∙ sym (ap (λ n. drop n (z ∷ zs)) e)
+
 pub one_done : {X : Type 0} (v : X → KeptLoan) (fh : KeptLoan → Held) (fc : KeptLoan → ℕ) (olds news : List X) (i : ℕ) (d y : X) → i < length olds → Done v fh fc olds news i → (v y).held ≡ fh (v (get_or news i d)) → (v y).closed ≡ fc (v (get_or news i d)) → (v y).remitted ≡ (v (get_or news i d)).remitted → Done v fh fc olds (set news i y) (i + 1)
 one_done {X = X} v fh fc olds news i d y lt h held closed remitted =
     let same = ap v (next_old olds news i d h.rest) in
@@ -53,18 +63,9 @@ one_done {X = X} v fh fc olds news i d y lt h held closed remitted =
       held = step v (λ (k : KeptLoan). k.held) fh olds news i d y lt h.count h.held (held ∙ ap fh same);
       closed = step v (λ (k : KeptLoan). k.closed) fc olds news i d y lt h.count h.closed (closed ∙ ap fc same);
       remitted = step v (λ (k : KeptLoan). k.remitted) (λ (k : KeptLoan). k.remitted) olds news i d y lt h.count h.remitted (remitted ∙ ap (λ (k : KeptLoan). k.remitted) same);
-      rest = drop-set-lt (i + 1) news i y (omega arith) ∙ shorter news olds i h.rest;
+      rest = rest_more olds news i y h.rest;
       count = length-set news i y ∙ h.count;
     }
-  where
-    shorter : (xs ys : List X) (i : ℕ) → drop i xs ≡ drop i ys → drop (i + 1) xs ≡ drop (i + 1) ys
-    shorter xs ys i same = sym (one xs i) ∙ ap (drop 1) same ∙ one ys i
-      where
-        one : (zs : List X) (i : ℕ) → drop 1 (drop i zs) ≡ drop (i + 1) zs
-        one [] zero = refl
-        one [] (suc i) = let e : suc i + 1 ≡ suc (i + 1) = omega arith in sym (ap (λ n. drop {A = X} n []) e)
-        one (z ∷ zs) zero = refl
-        one (z ∷ zs) (suc i) = let e : suc i + 1 ≡ suc (i + 1) = omega arith in one zs i ∙ sym (ap (λ n. drop n (z ∷ zs)) e)
 
 -- where all are changed
 pub record AllDone (fh : KeptLoan → Held) (fc : KeptLoan → ℕ) (ks js : List KeptLoan) : Type 0 where

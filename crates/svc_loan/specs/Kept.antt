@@ -52,6 +52,12 @@ pub record IsAhead (until closings : ℕ) (k : KeptLoan) : Type 0 where
   pub months : until ≤ months_ahead k
   pub closing : closings ≤ k.room.closings
 
+-- a loan has room for one more entry and reversal, for business days up to a month, and for so many closed months
+pub record HasAmpleRoom (until closings : ℕ) (k : KeptLoan) : Type 0 where
+  pub entry : 1 ≤ k.room.books.entries
+  pub reversal : 1 ≤ k.room.books.reversals
+  pub ahead : IsAhead until closings k
+
 -- the room of a loan for business days and closed months is lowered by no more than so many closed months
 pub record KeepsMonths (used : ℕ) (old new : KeptLoan) : Type 0 where
   pub months : months_ahead old ≤ months_ahead new

@@ -12,7 +12,7 @@ ghost use Rattle.svc_world.specs.Held as held;
 ghost use Rattle.svc_world.specs.LoanDues.{type_change};
 ghost use Rattle.svc_loan.specs.Closed as closed;
 ghost use Rattle.svc_loan.specs.Loans.{Rise, IsPlaceIn, IsThere, IsFound, OfLoan, find_kept, with_kept, held_in, closed_in, remitted_in};
-ghost use Rattle.svc_loan.specs.Kept.{IsReady, HasMonth, IsAhead, KeepsMonths};
+ghost use Rattle.svc_loan.specs.Kept.{IsReady, HasMonth, HasAmpleRoom, IsAhead, KeepsMonths};
 ghost use Rattle.svc_loan.specs.Loans.{remitted_by, MayCloseMonth, closed_by, advance_cost, close_cost};
 ghost use Rattle.svc_loan.specs.Loans.{first_boarded, earlier_of};
 
@@ -149,13 +149,15 @@ impl<B: LoanBooks> Loans<B> {
         loan.reserve(today)
     }
 
-    /// Makes room in all loans for a business day and for one more closed month; fails for want of memory alone.
+    /// Makes room in all loans for a business day and for one more closed month, and at once for those of some months on;
+    /// fails for want of memory alone.
     pub fn reserve_all(&mut self, today: Day) -> Result<(), OutOfMemory>
         ensures held { held_in self.new.loans ≡ held_in self.old.loans }
         ensures closed { closed_in self.new.loans ≡ closed_in self.old.loans }
         ensures remitted { remitted_in self.new.loans ≡ remitted_in self.old.loans }
         ensures loan_room { self.new.room ≡ self.old.room }
         ensures ready { OnOk result (All (HasMonth today) self.new.loans) }
+        ensures succeeds { All (HasAmpleRoom (month_number today + AHEAD) AHEAD) self.old.loans → IsOk result }
     {
         if self.is_ahead(today) {
             return Ok(());
@@ -180,6 +182,7 @@ impl<B: LoanBooks> Loans<B> {
         ensures remitted { remitted_in self.new.loans ≡ remitted_in self.old.loans }
         ensures loan_room { self.new.room ≡ self.old.room }
         ensures ready { OnOk result (All (IsAhead (month_number later) AHEAD) self.new.loans) }
+        ensures succeeds { All (HasAmpleRoom (month_number later) AHEAD) self.old.loans → IsOk result }
     {
         for i in 0..self.loans.len() {
             let loan = &mut self.loans[i];
@@ -372,7 +375,8 @@ impl<B: LoanBooks> Loans<B> {
 
 /// The first day of the month that is some months after a day's, where the calendar has it.
 fn some_months_after(day: Day) -> Day
-    ensures { month_number day ≤ month_number result }
+    ensures since { month_number day ≤ month_number result }
+    ensures until { month_number result ≤ month_number day + AHEAD }
 {
     let month = month_of(day);
     if month.number() + AHEAD < MONTHS {

@@ -21,7 +21,7 @@ use Rattle.svc_world.proofs.HistoryLemmas.{fresh_none, is_world, world-push}
 -- ---- quotes come true
 
 -- a business day is after the one before it
-day_is_later : (n d : ℕ) (w : World) → refusal_of n w (command.Day d) ≡ None → nat_le d w.today ≡ false
+pub day_is_later : (n d : ℕ) (w : World) → refusal_of n w (command.Day d) ≡ None → nat_le d w.today ≡ false
 unfolding refusal_of
 day_is_later n d w e =
     let p = past (full_of_commands n) (cases_by_command w (command.Day d)) e in
@@ -46,7 +46,7 @@ due_of_mapped w later rows rows' ps ps' id d cents perday loans late e =
           ap (option_map (λ (k : Held). answer.Payoff id d (payoff_due_on k d))) found ∙ ap (λ c. Some (answer.Payoff id d c)) same
     ] refl e
 
-loans_on : (n d : ℕ) (w : World) → (after n w (command.Day d)).loans ≡ map (on_day d) w.loans
+pub loans_on : (n d : ℕ) (w : World) → (after n w (command.Day d)).loans ≡ map (on_day d) w.loans
 unfolding after loans_after
 loans_on n d w = refl
 

@@ -34,3 +34,9 @@ pub mod StayLemmas
 pub mod KindLemmas
 pub mod DeskLemmas
 pub mod TakenLemmas
+pub mod AnswerLemmas
+pub mod QuoteLemmas
+pub mod OwedLemmas
+pub mod FrontLemmas
+pub mod LineOrderLemmas
+pub mod UnsignedRefusalLemmas

@@ -54,7 +54,7 @@ today_is h = today_from 0 first_world h
 
 -- ---- what is said, taken in one after another
 
-abbrev run : {S : Type 0} → (S → Saying → S) → S → List Saying → S
+abbrev pub run : {S : Type 0} → (S → Saying → S) → S → List Saying → S
 run take s [] = s
 run take s (x ∷ xs) = run take (take s x) xs
 
@@ -63,17 +63,17 @@ run_append take s [] ys = refl
 run_append take s (x ∷ xs) ys = run_append take (take s x) xs ys
 
 -- what is kept of a loan follows what is said of it, from nothing on
-record Follows {S : Type 0} (kept : Held → S) (none : S) (take : S → Saying → S) : Type 0 where
-  begins : (id today : ℕ) (t : Terms) → kept (boarded id t today) ≡ take none (Boards t)
-  enters : (e : Entry) (l : Held) → kept (with_entry e l) ≡ take (kept l) (Enters e)
-  reverses : (number by : ℕ) (l : Held) → kept (with_reversal number by l) ≡ take (kept l) (Reverses number by)
-  sets : (line : Line) (l : Held) → kept (with_bill line l) ≡ take (kept l) (Sets line)
-  drops : (id : ℕ) (l : Held) → kept (without_bill id l) ≡ take (kept l) (Drops id)
-  retypes : (c : TypeChange) (l : Held) → kept (with_type c l) ≡ take (kept l) (Retypes c)
-  stays : (d : ℕ) (l : Held) → kept (on_day d l) ≡ kept l
+pub record Follows {S : Type 0} (kept : Held → S) (none : S) (take : S → Saying → S) : Type 0 where
+  pub begins : (id today : ℕ) (t : Terms) → kept (boarded id t today) ≡ take none (Boards t)
+  pub enters : (e : Entry) (l : Held) → kept (with_entry e l) ≡ take (kept l) (Enters e)
+  pub reverses : (number by : ℕ) (l : Held) → kept (with_reversal number by l) ≡ take (kept l) (Reverses number by)
+  pub sets : (line : Line) (l : Held) → kept (with_bill line l) ≡ take (kept l) (Sets line)
+  pub drops : (id : ℕ) (l : Held) → kept (without_bill id l) ≡ take (kept l) (Drops id)
+  pub retypes : (c : TypeChange) (l : Held) → kept (with_type c l) ≡ take (kept l) (Retypes c)
+  pub stays : (d : ℕ) (l : Held) → kept (on_day d l) ≡ kept l
 
 module _ {S : Type 0} (kept : Held → S) (none : S) (take : S → Saying → S) (follows : Follows kept none take) where
-  abbrev kept_of : ℕ → List Held → S
+  abbrev pub kept_of : ℕ → List Held → S
   kept_of id ls = option_map_or kept (find_loan id ls) none
 
   changed_run : (loan id : ℕ) (f : Held → Held) (ls : List Held) (l : Held) (s : Saying) → find_loan loan ls ≡ Some l → KeepsNumber f → kept (f l) ≡ take (kept l) s → kept_of id (changed loan f ls) ≡ run take (kept_of id ls) (own loan id s)
@@ -171,7 +171,7 @@ module _ {S : Type 0} (kept : Held → S) (none : S) (take : S → Saying → S)
       ∙ ap (λ s. run take s (said_from id (h ++ a ∷ []) more)) (pushed_run id h a (fresh_none h a.key a.command fresh.0))
       ∙ sym (run_append take (kept_of id (world h).loans) (said_by id h a.command) (said_from id (h ++ a ∷ []) more))
 
-  all_run : (id : ℕ) (h : List Accepted) → IsHistory h → kept_of id (world h).loans ≡ run take none (said_of id h)
+  pub all_run : (id : ℕ) (h : List Accepted) → IsHistory h → kept_of id (world h).loans ≡ run take none (said_of id h)
   unfolding world_from
   all_run id h is = run_from id [] h is.fresh
 

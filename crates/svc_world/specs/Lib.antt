@@ -15,3 +15,7 @@ pub mod Changing
 pub mod LoanCommands
 pub mod Laws
 pub mod Unsigned
+pub mod Answered
+pub mod Owed
+pub mod LineOrder
+pub mod UnsignedRefusals

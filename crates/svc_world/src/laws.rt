@@ -6,21 +6,26 @@ ghost use Rattle.svc_types.specs.declared.terms.Terms.{Terms};
 ghost use Rattle.svc_types.specs.declared.requests.TypeChange.{TypeChange};
 ghost use Rattle.svc_types.specs.declared.requests.Command.{Command};
 ghost use Rattle.svc_types.specs.declared.requests.Command.TheVariants as command;
+ghost use Rattle.svc_types.specs.declared.replies.Refusal.{Refusal};
 ghost use Rattle.svc_types.specs.declared.requests.Query.{Query};
 ghost use Rattle.svc_types.specs.declared.requests.Query.TheVariants as query;
 ghost use Rattle.escrow_analysis.specs.AggregateAnalysis.{IsLeastOpening};
 ghost use Rattle.svc_world.specs.Analysing.{least_opening};
 ghost use Rattle.svc_world.specs.declared.answer.Answer.{Answer};
 ghost use Rattle.svc_world.specs.declared.answer.Answer.TheVariants as answer;
-ghost use Rattle.svc_world.specs.Answers.{answer_to};
+ghost use Rattle.svc_world.specs.Answers.{answer_to, query_refusal};
+ghost use Rattle.svc_world.specs.Answered.{IsAnswerTo};
 ghost use Rattle.svc_world.specs.World.{Accepted, accepted, first_world, world};
 ghost use Rattle.svc_world.specs.Worlds.{AreWorlds};
 ghost use Rattle.custodial_book.specs.declared.part.Part.{Part};
 ghost use Rattle.svc_world.specs.Custody.{custody_of, rows_in};
-ghost use Rattle.svc_world.specs.Judging.{IsHistory, Fresh, judged};
+ghost use Rattle.svc_world.specs.Judging.{IsHistory, Fresh, Refused, judged};
 ghost use Rattle.svc_world.specs.LoanCommands.{business_day, IsAsSaid};
 ghost use Rattle.svc_world.specs.Laws.{AreLawful, HasSoundBooks, IsInRange, IsKindIn, IsLawfulStep, IsReversedOnce, IsUnsigned, IsUnsignedReport, ReportsGrow, rows_sum, total_for};
+ghost use Rattle.svc_world.specs.LineOrder.{AreInOrder};
+ghost use Rattle.svc_world.specs.Owed.{IsCashOwed};
 ghost use Rattle.svc_world.specs.Unsigned.{IsUnsignedAnswer};
+ghost use Rattle.svc_world.specs.UnsignedRefusals.{IsUnsignedRefusal};
 
 /// What is held after each command of a history is sound: loans by rising number with accounts within
 /// their limits, closed months in a row, and reports that add up to the dues.
@@ -98,12 +103,35 @@ pub fn last_change_counts()
     ensures kind { (t : Terms) (types : List TypeChange) (month : ℕ) → IsKindIn t types month }
 {}
 
-/// Quotes come true: where a business day is accepted next, what is then due to pay a loan off on it is what the quote for
-/// that day said before.
+/// Quotes come true: where a business day is accepted next, what is then due to pay a loan off on it is answered, and is what
+/// the quote for that day said before.
 pub fn quotes_come_true()
     ensures due { (h : List Accepted) (key : List ℕ) (id day : ℕ) (cents perday : ℤ) → IsHistory h
         → judged h key (command.Day day) ≡ Fresh
         → answer_to h (query.Quote id day) ≡ Some (answer.Quote id day cents perday)
-        → answer_to (h ++ accepted key (command.Day day) ∷ []) (query.Payoff id day)
-        ≡ Some (answer.Payoff id day cents) }
+        → IsAnswerTo (h ++ accepted key (command.Day day) ∷ []) (query.Payoff id day) (answer.Payoff id day cents) }
+{}
+
+/// The first commands of a history are a history: what is said of every history holds after each of its commands.
+pub fn first_parts_are_histories()
+    ensures first { (h more : List Accepted) → IsHistory (h ++ more) → IsHistory h }
+{}
+
+/// Custodial cash is, to the cent, what borrowers, the investor and the servicer are owed: by the rows of all commands and by
+/// the custodial line, for each account and for both.
+pub fn cash_is_owed()
+    ensures owed { (h : List Accepted) → IsHistory h → IsCashOwed h }
+{}
+
+/// A loan's escrow lines stand in the order of the commands that made them; one that is set again keeps its place.
+pub fn lines_are_in_order()
+    ensures order { (h : List Accepted) (id : ℕ) → IsHistory h → AreInOrder h id }
+{}
+
+/// An amount that a refusal names, of a command or of a query, is not below 0.
+pub fn refusals_want_no_sign()
+    ensures commands { (h : List Accepted) (key : List ℕ) (c : Command) (why : Refusal) → IsHistory h
+        → judged h key c ≡ Refused why → IsUnsignedRefusal why }
+    ensures queries { (h : List Accepted) (q : Query) (why : Refusal) → query_refusal h q ≡ Some why
+        → IsUnsignedRefusal why }
 {}

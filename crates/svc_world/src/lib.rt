@@ -5,7 +5,7 @@
 mod answer;
 mod custody;
 mod desk;
-mod laws;
+pub mod laws;
 mod list_of;
 mod row_list;
 mod scope;
@@ -14,11 +14,6 @@ mod worked;
 pub use answer::Answer;
 pub use custody::Custody;
 pub use desk::{AgingCounts, BooksStatus, LateLoan};
-pub use laws::{
-    books_are_sound, entries_are_reversed_once, histories_are_lawful, last_change_counts,
-    openings_are_least, quotes_come_true, reports_stay, rows_add_up, steps_are_lawful,
-    texts_want_no_sign, worlds_are_sound,
-};
 pub use list_of::ListOf;
 pub use row_list::RowList;
 pub use scope::{Scope, scope_of};

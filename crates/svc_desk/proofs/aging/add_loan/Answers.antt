@@ -1,4 +1,4 @@
-use Rattle.std.proofs.Common.{◌≡◌, ◌≤◌, ◌++◌, ◌∷◌, [], ℕ, List, FitsSigned, w64, arith, sym, ap, subst, ◌∙◌, append-nil}
+use Rattle.std.proofs.Common.{◌≡◌, ◌≤◌, ◌++◌, ◌∷◌, [], List, FitsSigned, w64, arith, sym, ap, subst, ◌∙◌, append-nil}
 use Rattle.std.specs.Prelude.{pos, int_le}
 use Rattle.std.proofs.lemmas.Int.{ints, to_z-of_z}
 use Rattle.svc_types.specs.declared.terms.Terms.{Terms}

@@ -1,4 +1,4 @@
-use Rattle.std.proofs.Common.{◌≡◌, ◌≤◌, ◌∙◌, arith, sym, subst}
+use Rattle.std.proofs.Common.{◌≤◌, arith, sym, subst}
 use Rattle.std.specs.Prelude.{pos, ◌<ℤ◌}
 use Rattle.svc_types.specs.declared.books.Books.{Books}
 use Rattle.svc_world.specs.Desk as desk

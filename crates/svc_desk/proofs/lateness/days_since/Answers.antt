@@ -1,4 +1,4 @@
-use Rattle.std.proofs.Common.{◌≡◌, ◌+◌, ◌-◌, ◌<◌, arith, ap, ◌∙◌}
+use Rattle.std.proofs.Common.{◌≡◌, ◌-◌, ◌<◌, arith, ap, ◌∙◌}
 use Rattle.svc_base.specs.Calendar.{day_in_month, month_length}
 use Rattle.svc_base.specs.DayLemmas.{month_length_most}
 use Rattle.svc_world.specs.Desk as desk

@@ -1,4 +1,4 @@
-use Rattle.std.proofs.Common.{◌≤◌, ◌<◌, ◌∙◌, arith}
+use Rattle.std.proofs.Common.{◌∙◌, arith}
 use Rattle.std.proofs.lemmas.Bool.Decides.{nat_tests}
 use Rattle.svc_desk.proofs.TellingLemmas.{on_or_before, after_today}
 use Rattle.svc_desk.proofs.telling.books_on_day.Goals as goal

@@ -1,5 +1,4 @@
-use Rattle.std.proofs.Common.{◌≡◌, FitsSigned, w64, to_z, of_z, arith, ap, sym, ◌∙◌}
-use Rattle.std.specs.Prelude.{ℤ}
+use Rattle.std.proofs.Common.{◌≡◌, FitsSigned, w64, to_z, of_z, arith, ap, ◌∙◌}
 use Rattle.std.proofs.lemmas.Int.{ints, to_z-of_z}
 use Rattle.svc_base.specs.Money.{day_interest}
 use Rattle.svc_types.specs.declared.terms.Terms.{Terms}

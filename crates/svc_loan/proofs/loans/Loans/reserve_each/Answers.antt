@@ -1,12 +1,12 @@
-use Rattle.std.proofs.Common.{◌≡◌, ◌≤◌, ◌<◌, Box, Global, List, ℕ, map, length, get_or, refl, arith, sym, ap, ◌∙◌}
+use Rattle.std.proofs.Common.{rules, vec_len, ◌≡◌, ◌≤◌, ◌<◌, Box, Global, List, ℕ, map, length, get_or, refl, arith, sym, ap, ◌∙◌}
 use Rattle.std.specs.Box.{with_value}
 use Rattle.std.proofs.Math.ListN.{set}
 use Rattle.std.proofs.lemmas.List.{length-set}
 use Rattle.svc_base.specs.Calendar.{month_of as month_number}
-use Rattle.svc_loan.specs.Kept.{KeptLoan, IsAhead}
+use Rattle.svc_loan.specs.Kept.{KeptLoan, IsAhead, HasAmpleRoom}
 use Rattle.svc_loan.specs.Loans.{KeptLoans, held_in, closed_in, remitted_in, first_boarded}
 use Rattle.svc_loan.proofs.KeptLemmas.{ahead_at}
-use Rattle.svc_loan.proofs.EachLemmas.{AllDone, done_rises, replaced_same, holds_more, holds_all}
+use Rattle.svc_loan.proofs.EachLemmas.{AllDone, asked_lent, done_rises, replaced_same, rest_more, holds_more, holds_all}
 use Rattle.svc_loan.proofs.loans.Loans.reserve_each.Given.{Over}
 use Rattle.svc_loan.proofs.loans.Loans.reserve_each.Goals as goal
 
@@ -53,6 +53,18 @@ returns-in_err-reserve_months-clause-closed g c = (set_err g c).closed ∙ ap (�
 pub returns-in_err-reserve_months-clause-remitted : goal.returns-in_err-reserve_months-clause-remitted
 returns-in_err-reserve_months-clause-remitted g c = (set_err g c).remitted ∙ ap (λ (s : KeptLoans). remitted_in s.loans) c.self.view_is
 
+-- a loan that has room does not fail
+pub returns-in_err-reserve_months-clause-succeeds : goal.returns-in_err-reserve_months-clause-succeeds
+returns-in_err-reserve_months-clause-succeeds g c = λ ample.
+    let olds = c.self.inside.loans.items in
+    let news = c.loop-i.self-inside.loans.items in
+    let old : vec_len c.self.inside.loans ≡ length olds = search rules in
+    let new : vec_len c.loop-i.self-inside.loans ≡ length news = search rules in
+    let lt : c.loop-i.i < length olds = (let t = c.loop-i-test.true in let e = c.loop-i.invariant.end in let count = c.loop-i.invariant.count in omega (arith, old, new)) in
+    let room = asked_lent (HasAmpleRoom (month_number c.args.later) 4) c.args.self.now.loans olds news c.loop-i.i c.index_mut-loan.result.now c.deref_mut.result.now (ap (λ (s : KeptLoans). s.loans) c.self.view_is) ample lt c.loop-i.invariant.rest c.index_mut-loan.ensures.value c.deref_mut.ensures.value in
+    let fails = c.in_err-reserve_months.ensures.succeeds room.entry room.reversal room.ahead in
+    absurd (cc)
+
 pub loop-i-preserved : goal.loop-i-preserved
 loop-i-preserved g c =
     let news = c.loop-i.self-inside.loans.items in
@@ -63,6 +75,7 @@ loop-i-preserved g c =
     let count = length-set news i (with_value x c.reserve_months.new.self) in
     record {
       same = set_ok g c;
+      rest = rest_more c.self.inside.loans.items news i (with_value x c.reserve_months.new.self) inv.rest;
       ready = holds_more (λ (b : Box KeptLoan Global). b.value) (IsAhead (month_number c.args.later) 4) news i (with_value x c.reserve_months.new.self) lt inv.ready c.in_ok-reserve_months.ensures.ahead;
       ahead = ahead_at (λ (b : Box KeptLoan Global). b.value) c.loop-i.self-inside.until c.loop-i.self-inside.closings news i x (with_value x c.reserve_months.new.self) c.deref_mut.result.now inv.ahead lt (c.deref_mut.ensures.value ∙ ap (λ (b : Box KeptLoan Global). b.value) c.index_mut-loan.ensures.value) c.reserve_months.ensures.months;
       first = inv.first;
