@@ -1,5 +1,6 @@
 #!/usr/bin/env python3
-"""Tests on real processes of what lies around the journal: descriptors, the lock on its file, causes, and its syncs.
+"""Tests on real processes of what lies around the journal: descriptors, the lock on its file, its name, mode and room, causes,
+and its syncs.
 
     edges.py [WORD..]    all cases, or those whose names have the words
 
@@ -13,6 +14,7 @@ import signal
 import socket
 import subprocess
 import sys
+import time
 
 from harness import TOP, Skipped, case, named, read, run, run_all, same, start, write
 import bodies
@@ -96,6 +98,173 @@ def no_summary(room):
     link.close()
     same(4, it.wait(timeout=60))
     same(before, read(path))
+
+
+@case("descriptors: one that is the journal ends with its status, whatever the word, and nothing is written")
+def own_file(room):
+    path = month(room)
+    before = read(path)
+    kinds = ((0, 3, b"status 3 ReadFault standard input: it is the journal\n"),
+             (1, 4, b"status 4 WriteFault standard output: it is the journal\n"), (2, 4, b""))
+    for words in (*READS, *WRITES, "init", "serve 8080 1", "frob"):
+        for number, status, said in kinds:
+            with open(path, "r+b") as file:
+                how = {("stdin", "stdout", "stderr")[number]: file}
+                ran = run(path, *words.split(), **how)
+            same(status, ran[0], f"{words} with {number}")
+            same([said] if number < 2 else [], [ran[2]] if number < 2 else [], f"{words} with {number}")
+            same(before, read(path), f"{words} with {number}")
+
+
+@case("descriptors: the same by another name, a link or a symbolic link; another file is no such descriptor")
+def own_file_by_another_name(room):
+    path, other = month(room), os.path.join(room, "other")
+    before = read(path)
+    os.link(path, os.path.join(room, "link"))
+    os.symlink(path, os.path.join(room, "symbolic"))
+    for name in ("link", "symbolic"):
+        with open(os.path.join(room, name), "r+b") as file:
+            same(4, run(path, "custodial", stdout=file)[0], name)
+            same(3, run(os.path.join(room, name), "apply", stdin=file)[0], name)
+        same(before, read(path), name)
+    with open(other, "w+b") as file:
+        same(0, run(path, "custodial", stdout=file)[0])
+    same(run(path, "custodial")[1], read(other))
+
+
+# The file at the path
+
+def told_gone(path, why):
+    return f"status 5 DiskFault {path}: {why}\n".encode()
+
+
+NO_FILE, OTHER_FILE = "No such file or directory (os error 2)", "another file is at the path"
+OTHER_BYTES, OTHER_LENGTH = "another program has written the file", "another program has changed the length"
+
+
+def moved_away(path, copy):
+    os.rename(path, path + ".moved")
+
+
+def copy_in_place(path, copy):
+    os.replace(copy, path)
+
+
+def copied_over(path, copy):
+    shutil.copyfile(copy, path)
+
+
+def cut_short(path, copy):
+    os.truncate(path, os.path.getsize(path) - 1)
+
+
+def lengthened(path, copy):
+    with open(path, "ab") as file:
+        file.write(b"x")
+
+
+GOES = ((moved_away, NO_FILE), (copy_in_place, OTHER_FILE), (copied_over, OTHER_BYTES), (cut_short, OTHER_LENGTH),
+        (lengthened, OTHER_LENGTH))
+
+
+def at_work(room, name):
+    """A journal, a backup of it of the same length, and an `apply` that has answered one command more and waits."""
+    path, copy = os.path.join(room, f"{name}.journal"), os.path.join(room, f"{name}.copy")
+    month(room, f"{name}.journal")
+    shutil.copyfile(path, copy)
+    it = start(path, "apply")
+    it.stdin.write(b"z1 deposit 1 2024-02-01 0.01\n")
+    it.stdin.flush()
+    same(b"ok 15\n", it.stdout.readline())
+    same(os.path.getsize(copy), os.path.getsize(path), "the lengths")
+    return path, copy, it
+
+
+@case("the file at the path: moved, replaced, written over or of another length under an apply, it ends with 5, unanswered")
+def gone_under_apply(room):
+    for goes, why in GOES:
+        path, copy, it = at_work(room, goes.__name__)
+        before = read(copy)
+        goes(path, copy)
+        out, log = it.communicate(b"z2 deposit 1 2024-02-01 0.01\n", timeout=60)
+        same((5, b"", told_gone(path, why)), (it.returncode, out, log), goes.__name__)
+        if goes in (copy_in_place, copied_over):
+            same(before, read(path), f"{goes.__name__}: the backup")
+        elif goes is not moved_away:
+            same((0, b"ok 16\n", b""), run(path, "apply", given=b"z2 deposit 1 2024-02-01 0.01\n"), goes.__name__)
+
+
+@case("the file at the path: moved or replaced under a serve, it answers 500 and ends with 5")
+def gone_under_serve(room):
+    for goes, why in GOES[:3]:
+        path, copy = month(room, f"{goes.__name__}.journal"), os.path.join(room, f"{goes.__name__}.copy")
+        shutil.copyfile(path, copy)
+        it, port = serving(path)
+        link = bodies.link_to(port)
+        for number, status in ((15, 200), (16, 500)):
+            line = f"z{number} deposit 1 2024-02-01 0.01"
+            wanted = bodies.reply_of(f"ok {number}") if status == 200 else (500, b"")
+            same(wanted, bodies.ask(link, *bodies.request_of(line)), f"{goes.__name__}, {number}")
+            if status == 200:
+                goes(path, copy)
+        link.close()
+        out, log = it.communicate(timeout=60)
+        same((5, b"", told_gone(path, why)), (it.returncode, out, log), goes.__name__)
+
+
+@case("the file at the path: replaced between its opening and its lock, it is not touched")
+def gone_before_the_lock(room):
+    if not shutil.which("strace"):
+        raise Skipped("strace is not installed")
+    path, copy = month(room), os.path.join(room, "copy")
+    shutil.copyfile(path, copy)
+    before = read(path)
+    words = ["strace", "-e", "trace=flock", "-e", "inject=flock:delay_exit=1000000", program.find(), path, "apply"]
+    it = subprocess.Popen(words, stdin=subprocess.PIPE, stdout=subprocess.PIPE, stderr=subprocess.PIPE)
+    time.sleep(0.5)
+    os.replace(copy, path)
+    out, log = it.communicate(b"z1 deposit 1 2024-02-01 0.01\n", timeout=60)
+    same((5, b""), (it.returncode, out))
+    if told_gone(path, OTHER_FILE) not in log:
+        raise AssertionError(log)
+    same(before, read(path))
+
+
+@case("mode: a journal is its owner's alone, whatever the umask; one that is there keeps its mode")
+def mode(room):
+    for mask in (0o000, 0o022, 0o077, 0o277, 0o777):
+        path = os.path.join(room, f"{mask:o}.journal")
+        same(0, run(path, "init", preexec_fn=lambda: os.umask(mask))[0])
+        same(0o600, os.stat(path).st_mode & 0o7777, oct(mask))
+    os.chmod(path, 0o640)
+    same(0, run(path, "custodial")[0])
+    same(0o640, os.stat(path).st_mode & 0o7777)
+
+
+# A nearly full disk
+
+@case("room: on a disk of 48 kB commands are accepted until no record fits; then a run ends with 5, and they are all there")
+def nearly_full(room):
+    disk = os.path.join(room, "disk")
+    os.mkdir(disk)
+    mount = ["mount", "-t", "tmpfs", "-o", "size=48k", "tmpfs", disk]
+    if os.geteuid() or subprocess.run(mount, capture_output=True, check=False).returncode:
+        raise Skipped("no mount is allowed here")
+    try:
+        path = month(disk)
+        given = b"".join(b"z%d deposit 1 2024-02-01 0.01\n" % number for number in range(2000))
+        status, out, log = run(path, "apply", given=given)
+        same((5, told_gone(path, "No space left on device (os error 28)")), (status, log))
+        kept = reckon.lines_of_journal(read(path))
+        answered = out.count(b"ok ")
+        if not 14 + answered <= len(kept) <= 15 + answered:
+            raise AssertionError(f"{answered} were answered, and {len(kept)} are there")
+        size = sum(7 + len(line) for line in kept) + 9
+        if size < 48 * 1024 - 4096:
+            raise AssertionError(f"the records end at {size}")
+        same((0, b""), run(path, "custodial")[::2])
+    finally:
+        subprocess.run(["umount", disk], check=False)
 
 
 # The lock
@@ -310,6 +479,29 @@ def folder_synced(room):
     ran = subprocess.run(words, capture_output=True, check=False, timeout=60)
     synced = re.findall(r"^(fsync|fdatasync)\(\d+<(.*?)>\)", ran.stderr.decode(), re.MULTILINE)
     same([("fsync", room), ("fdatasync", path)], synced[:2])
+
+
+@case("the folder is synced at each opening: where that fails no run makes a journal or answers, and a later one syncs it")
+def folder_not_synced(room):
+    if not shutil.which("strace"):
+        raise Skipped("strace is not installed")
+    path = os.path.join(room, "new.journal")
+
+    def syncs(word, given, *more):
+        words = ["strace", "-y", "-e", "trace=fsync,fdatasync", *more, program.find(), path, word]
+        ran = subprocess.run(words, input=given, capture_output=True, check=False, timeout=60)
+        return ran, re.findall(r"^(fsync|fdatasync)\(\d+<(.*?)>\)", ran.stderr.decode(), re.MULTILINE)
+
+    day = b"z1 day 2024-02-01\n"
+    for word, given in (("init", b""), ("init", b""), ("apply", day)):
+        ran, synced = syncs(word, given, "-e", "inject=fsync:error=EIO")
+        same((5, b"", [("fsync", room)]), (ran.returncode, ran.stdout, synced), word)
+        if told_gone(path, "Input/output error (os error 5)") not in ran.stderr:
+            raise AssertionError(ran.stderr)
+        same(b"", read(path), word)
+    for word, given, out in (("init", b"", b""), ("apply", day, b"ok 1\n"), ("apply", day, b"ok 1\n")):
+        ran, synced = syncs(word, given)
+        same((0, out, ("fsync", room)), (ran.returncode, ran.stdout, synced[0]), word)
 
 
 if __name__ == "__main__":

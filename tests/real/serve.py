@@ -10,16 +10,19 @@ import os
 import random
 import re
 import resource
+import shutil
 import signal
 import socket
 import struct
+import subprocess
 import sys
 import threading
 import time
 
-from harness import TOP, case, named, read, run, run_all, same, start, write
+from harness import STARTED, TOP, Skipped, case, named, read, run, run_all, same, start, write
 import bodies
 import forty
+import program
 import reckon
 import replay
 
@@ -364,6 +367,125 @@ def cut(room):
     same((200, FIRST), bodies.ask(link, "POST", "/v1/commands", DAY))
     link.close()
     it.ends(summary(2, whole + 1, cut=1))
+
+
+@case("serve: a peer that sends no more, or reads no more, is let go after 30 seconds, counted as broken; the next is served")
+def stuck(room):
+    silent, deaf = Served(room, 2, "silent"), Served(room, 2, "deaf")
+    began, first, second = time.monotonic(), silent.plain(), deaf.plain()
+    first.sendall(POST + POST[:60])
+    same(POSTED, take(first, len(POSTED)))
+    second.setblocking(False)
+    sent, last = 0, time.monotonic()
+    while time.monotonic() - last < 1:
+        try:
+            sent += second.send(b"GET /v1/custodial HTTP/1.1\r\n\r\n" * 100)
+            last = time.monotonic()
+        except BlockingIOError:
+            time.sleep(0.05)
+    for it in (silent, deaf):
+        link = it.link()
+        link.sock.settimeout(60)
+        same((200, FIRST), bodies.ask(link, "POST", "/v1/commands", DAY))
+        link.close()
+    same(True, 29 < time.monotonic() - began < 40, "they are let go after 30 seconds")
+    same(b"", take_all(first))
+    for link in (first, second):
+        link.close()
+    silent.ends(summary(2, 2, broken=1))
+    out = deaf.it.communicate(timeout=60)[0]
+    if b" broken 1 cut 0 " not in out or not out.startswith(b"served 2 "):
+        raise AssertionError(out)
+
+
+@case("serve: close among the words of a Connection line ends the connection, wherever it stands")
+def close_among_words(room):
+    words = (b"close, x", b"x,CLOSE", b"keep-alive , \tClose,", b"close")
+    it = Served(room, len(words) + 1)
+    asked = b"GET /v1/nowhere HTTP/1.1\r\nConnection: %s\r\n\r\n"
+    for word in words:
+        link = it.plain()
+        link.sendall(asked % word)
+        same(b"HTTP/1.1 404 Not Found\r\nConnection: close\r\nContent-Length: 0\r\n\r\n", take_all(link), word)
+        link.close()
+    link = it.plain()
+    link.sendall(asked % b"closed, x" + asked % b"close")
+    link.shutdown(socket.SHUT_WR)
+    same(2, take_all(link).count(b"HTTP/1.1 404 Not Found\r\n"), "closed is another word")
+    link.close()
+    it.ends(summary(len(words) + 1, len(words) + 2))
+
+
+def traced(path, port, links, inject):
+    """A program that serves so many connections, of which calls of the system fail."""
+    if not shutil.which("strace"):
+        raise Skipped("strace is not installed")
+    words = ["strace", "-e", "trace=accept4", "-e", f"inject=accept4:{inject}", program.find(), path, "serve", str(port), links]
+    STARTED.append(subprocess.Popen(words, stdout=subprocess.PIPE, stderr=subprocess.PIPE))
+    return STARTED[-1]
+
+
+@case("serve: a failure to take a connection that passes by itself does not end the run; another does, with 9")
+def passing_failures(room):
+    path = os.path.join(room, "books")
+    same(0, run(path, "init")[0])
+    for error in ("ECONNABORTED", "EINTR", "EMFILE", "ENFILE", "ENOBUFS", "ENOMEM", "EPROTO", "ENETDOWN"):
+        port = replay.free_port()
+        it = traced(path, port, "2", f"error={error}:when=1..3")
+        for _ in range(2):
+            link = bodies.link_to(port)
+            link.sock = replay.connect(port)
+            same((200, FIRST), bodies.ask(link, "POST", "/v1/commands", DAY), error)
+            link.close()
+        out, log = it.communicate(timeout=60)
+        same((0, summary(2, 2)), (it.returncode, out), error)
+        same(3, log.count(b"(INJECTED)"), error)
+    it = traced(path, replay.free_port(), "2", "error=EBADF:when=1")
+    out, log = it.communicate(timeout=60)
+    same((9, b""), (it.returncode, out))
+    if b"status 9 NetFault 127.0.0.1: Bad file descriptor (os error 9)\n" not in log:
+        raise AssertionError(log)
+
+
+REFUSED = b"HTTP/1.1 503 Service Unavailable\r\nConnection: close\r\nContent-Length: 0\r\n\r\n"
+
+
+def waiting(it, count):
+    """Connections that wait behind the one that is served: with a request, with many bytes, and silent ones."""
+    links = [it.plain() for _ in range(count)]
+    for number, link in enumerate(links):
+        link.sendall((POST, POST + b"x" * 20_000, b"", b"\0")[number % 4])
+    return links
+
+
+@case("serve: where the count runs out, those that wait are refused by a 503, not reset; what they asked is not done")
+def refused(room):
+    it = Served(room, 1)
+    link = it.link()
+    same((404, b""), bodies.ask(link, "GET", "/v1/nowhere"))
+    links = waiting(it, 8)
+    link.close()
+    for other in links:
+        same(REFUSED, take_all(other))
+        other.close()
+    it.ends(summary(1, 1))
+    same([], it.commands())
+    same(0, bool(socket.socket().connect_ex(("127.0.0.1", it.port)) == 0), "nobody listens")
+
+
+@case("serve: where the journal is gone, the one that is served gets a 500, those that wait a 503, and the run ends with 5")
+def refused_at_fault(room):
+    it = Served(room, 9)
+    link = it.link()
+    same((404, b""), bodies.ask(link, "GET", "/v1/nowhere"))
+    links = waiting(it, 4)
+    os.rename(it.path, it.path + ".moved")
+    same((500, b""), bodies.ask(link, "POST", "/v1/commands", DAY))
+    for other in links:
+        same(REFUSED, take_all(other))
+        other.close()
+    link.close()
+    it.ends(b"", 5, b"status 5 DiskFault")
 
 
 # The program ends in the middle

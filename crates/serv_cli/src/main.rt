@@ -10,14 +10,16 @@ use serv_disk::{Disk, Doors, FileDisk, Hold, ReadSource, Sink, Source, TcpDoors,
 use serv_top::{Status, port_in};
 use std::alloc::{AllocError, Global};
 use std::env;
-use std::fs::{File, Files};
+use std::fs::{File, Files, Metadata};
 use std::io::{self, Eprint, ErrorKind};
 use std::marker::Brand;
 use std::net::Net;
 use std::os::fd::AsRawFd;
+use std::os::unix::fs::MetadataExt;
 use std::process::ExitCode;
 use std::rt::Env;
 use std::sync::ledger::{Blank, Ledger};
+use std::time::Clock;
 use svc_base::Steps;
 use usage::{VERSION, WORDS};
 
@@ -66,6 +68,53 @@ fn told(rt: &impl Eprint, status: Status, what: &str, cause: Option<io::Error>) 
     status.number()
 }
 
+/// A descriptor with which a program is started.
+#[derive(Clone, Copy)]
+enum Descriptor {
+    Input,
+    Output,
+    Error,
+}
+
+/// The descriptors, and where the system shows what each of them is.
+const DESCRIPTORS: [(Descriptor, &str); 3] = [
+    (Descriptor::Error, "/proc/self/fd/2"),
+    (Descriptor::Output, "/proc/self/fd/1"),
+    (Descriptor::Input, "/proc/self/fd/0"),
+];
+
+/// Whether a path leads to this file.
+fn leads_to<F: Files>(files: &F, path: &str, about: &Metadata) -> bool {
+    match files.metadata(path) {
+        Ok(other) => other.dev() == about.dev() && other.ino() == about.ino(),
+        Err(_) => false,
+    }
+}
+
+/// The descriptor that is the file at a path, where one is: the journal would be read as lines, or be written over.
+fn descriptor_at<F: Files>(files: &F, path: &str) -> Option<Descriptor> {
+    let about = match files.metadata(path) {
+        Ok(about) if about.is_file() => about,
+        _ => return None,
+    };
+    for (descriptor, shown) in DESCRIPTORS.iter() {
+        if leads_to(files, shown, &about) {
+            return Some(*descriptor);
+        }
+    }
+    None
+}
+
+/// Says that a descriptor is the journal's own file, unless that would be written into it; and gives the exit status.
+fn told_own(rt: &impl Eprint, descriptor: Descriptor) -> u8 {
+    let own = Some(io::Error::other("it is the journal"));
+    match descriptor {
+        Descriptor::Input => told(rt, Status::ReadFault, "standard input", own),
+        Descriptor::Output => told(rt, Status::WriteFault, "standard output", own),
+        Descriptor::Error => Status::WriteFault.number(),
+    }
+}
+
 /// Runs what the words ask for over these objects. What is said of a run is kept out of `start`, which proves nothing by
 /// it.
 fn run_over<S: Source, K: Sink, D: Disk, G: Doors, L: Ledger>(
@@ -87,7 +136,7 @@ fn run_over<S: Source, K: Sink, D: Disk, G: Doors, L: Ledger>(
 fn start<
     R: Env + Input + Print + Eprint + AllocGlobal,
     F: Files + Drop,
-    N: Net + Eprint + Drop,
+    N: Net + Eprint + Clock + Drop,
     L: Ledger,
 >(rt: &R, files: F, net: N, blank: Blank) -> u8
 where
@@ -107,6 +156,9 @@ where
         Some(word) => word.as_str(),
         None => "",
     };
+    if let Some(descriptor) = descriptor_at(&files, path) {
+        return told_own(rt, descriptor);
+    }
     let Ok(mut disk) = FileDisk::new(rt.alloc(), files, path) else {
         return told(rt, Status::OutOfMemory, "", None);
     };
@@ -123,11 +175,13 @@ where
         &mut doors,
         &mut steps,
     );
+    doors.close();
     match status {
         Status::ReadFault => told(rt, status, "standard input", src.cause()),
         Status::WriteFault => told(rt, status, "standard output", snk.cause()),
         Status::NetFault => told(rt, status, "127.0.0.1", doors.cause()),
-        _ => told(rt, status, path, disk.cause()),
+        Status::DiskFault => told(rt, status, path, disk.cause()),
+        _ => told(rt, status, "", None),
     }
 }
 

@@ -5,9 +5,11 @@ ghost use Rattle.std.specs.Prelude.{◌≡◌, ℕ, ◌+◌, ◌≤◌, None, If
 use crate::disk::Disk;
 use crate::ended::noted;
 use crate::failed::Failed;
+use crate::known::{Known, check_last, check_path, read_from};
 use std::alloc::Global;
-use std::fs::{File, Files, OpenFile, OpenOptions};
+use std::fs::{File, Files, OpenFile, OpenOptions, Permissions};
 use std::io::{self, ErrorKind, Read, Seek, SeekFrom, Write};
+use std::os::unix::fs::{OpenOptionsExt, PermissionsExt};
 use svc_base::OutOfMemory;
 
 /// A file that one process at a time can hold for itself.
@@ -24,17 +26,19 @@ impl Hold for File {
     }
 }
 
-/// A file at a path. It is opened and locked at the first call, and made empty where none is; the folder of one that was
-/// made is synced then. It tells nothing of what the file holds. Trusted, and not proved: that reads give what was
-/// written, that no program writes the file which does not ask for its lock, that a write which fails leaves every byte
-/// outside of its range, that bytes written again as they are stay what they are, and that `sync_data`, the system's own
-/// sync of data and of the size that reading them takes, returns Ok only once both are kept which were written since the
-/// sync before it.
+/// A file at a path. It is opened and locked at the first call, and made empty where none is, to be read and written by its
+/// owner alone; its folder is synced then. It tells nothing of what the file holds. A write fails where the bytes of the
+/// one before it are gone, and so does a sync, or where another file is at the path or the length is not what was written.
+/// Trusted, and not proved: that reads give what was written, that no program writes the file unseen which does not ask
+/// for its lock, that a write which fails leaves every byte outside of its range, that bytes written again as they are
+/// stay what they are, and that `sync_data`, the system's own sync of data and of the size that reading them takes,
+/// returns Ok only once both are kept which were written since the sync before it.
 #[derive(Drop)]
 pub struct FileDisk<R: Files + Drop> {
     runtime: R,
     path: String,
     file: Option<R::File>,
+    known: Known,
     faults: u64,
     cause: Option<io::Error>,
 }
@@ -52,6 +56,7 @@ where
             runtime,
             path,
             file: None,
+            known: Known::new(),
             faults: 0,
             cause: None,
         })
@@ -75,12 +80,17 @@ where
     if file.is_none() {
         let found = found_or_made(runtime, path)?;
         found.hold()?;
+        File::open(runtime, folder_of(path))?.sync_all()?;
+        check_path(runtime, path, &found, &Known::new())?;
         *file = Some(found);
     }
     file.as_mut().ok_or(io::Error::from(ErrorKind::NotFound))
 }
 
-/// The file at a path. Where there is none it is made, and its folder synced, so that its name stays after a crash.
+/// Who may use a journal: its owner.
+const OWNER: u32 = 0o600;
+
+/// The file at a path. Where there is none it is made.
 fn found_or_made<R: Files>(runtime: &R, path: &str) -> io::Result<R::File> {
     match OpenOptions::new()
         .read(true)
@@ -92,8 +102,9 @@ fn found_or_made<R: Files>(runtime: &R, path: &str) -> io::Result<R::File> {
                 .read(true)
                 .write(true)
                 .create(true)
+                .mode(OWNER)
                 .open(runtime, path)?;
-            File::open(runtime, folder_of(path))?.sync_all()?;
+            made.set_permissions(Permissions::from_mode(OWNER))?;
             Ok(made)
         }
         found => found,
@@ -107,12 +118,6 @@ fn folder_of(path: &str) -> &str {
         Some((folder, _)) => folder,
         None => ".",
     }
-}
-
-/// Reads as many bytes as there is room for, from this place on.
-fn read_from<F: Read + Seek>(file: &mut F, at: u64, buf: &mut [u8]) -> io::Result<()> {
-    file.seek(SeekFrom::Start(at))?;
-    file.read_exact(buf)
 }
 
 /// Writes all bytes, from this place on.
@@ -136,6 +141,51 @@ fn write_again<F: Read + Write + Seek>(file: &mut F, from: u64, to: u64) -> io::
     write_from(file, from, piece)
 }
 
+/// Writes where the bytes of the write before it are still there, and takes note of it.
+fn write_known<F: Read + Write + Seek>(
+    file: &mut F,
+    known: &mut Known,
+    at: u64,
+    bytes: &[u8],
+) -> io::Result<()> {
+    check_last(file, known)?;
+    match write_from(file, at, bytes) {
+        Ok(()) => {
+            known.note(at, bytes);
+            Ok(())
+        }
+        Err(error) => {
+            known.forget();
+            Err(error)
+        }
+    }
+}
+
+/// Cuts the file, and forgets what was written to it.
+fn cut_known<F: OpenFile>(file: &mut F, known: &mut Known, len: u64) -> io::Result<()> {
+    known.forget();
+    file.set_len(len)
+}
+
+/// Syncs. What was written is then in the file that is at the path.
+fn sync_known<R: Files>(
+    runtime: &R,
+    path: &str,
+    file: &mut R::File,
+    known: &Known,
+) -> io::Result<()> {
+    file.sync_data()?;
+    check_path(runtime, path, file, known)?;
+    check_last(file, known)
+}
+
+/// The length, of which note is taken.
+fn length_known<F: OpenFile>(file: &F, known: &mut Known) -> io::Result<u64> {
+    let size = file.metadata()?.len();
+    known.size = Some(size);
+    Ok(size)
+}
+
 impl<R: Files + Drop> Disk for FileDisk<R>
 where
     R::File: Hold,
@@ -153,7 +203,7 @@ where
 
     fn len(&mut self) -> Result<u64, Failed> {
         let done = match opened(&self.runtime, self.path.as_str(), &mut self.file) {
-            Ok(file) => file.metadata().map(|about| about.len()),
+            Ok(file) => length_known(file, &mut self.known),
             Err(error) => Err(error),
         };
         noted(done, &mut self.faults, &mut self.cause)
@@ -169,7 +219,7 @@ where
 
     fn write_at(&mut self, at: u64, bytes: &[u8]) -> Result<(), Failed> {
         let done = match opened(&self.runtime, self.path.as_str(), &mut self.file) {
-            Ok(file) => write_from(file, at, bytes),
+            Ok(file) => write_known(file, &mut self.known, at, bytes),
             Err(error) => Err(error),
         };
         noted(done, &mut self.faults, &mut self.cause)
@@ -177,7 +227,7 @@ where
 
     fn cut(&mut self, len: u64) -> Result<(), Failed> {
         let done = match opened(&self.runtime, self.path.as_str(), &mut self.file) {
-            Ok(file) => file.set_len(len),
+            Ok(file) => cut_known(file, &mut self.known, len),
             Err(error) => Err(error),
         };
         noted(done, &mut self.faults, &mut self.cause)
@@ -193,7 +243,7 @@ where
 
     fn sync(&mut self) -> Result<(), Failed> {
         let done = match opened(&self.runtime, self.path.as_str(), &mut self.file) {
-            Ok(file) => file.sync_data(),
+            Ok(file) => sync_known(&self.runtime, self.path.as_str(), file, &self.known),
             Err(error) => Err(error),
         };
         noted(done, &mut self.faults, &mut self.cause)

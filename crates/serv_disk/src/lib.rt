@@ -7,6 +7,7 @@ mod doors;
 mod ended;
 mod failed;
 mod file_disk;
+mod known;
 mod link;
 mod links;
 mod mem_disk;

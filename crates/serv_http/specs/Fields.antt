@@ -1,7 +1,7 @@
 -- The header lines of a head, as names and values without the spaces and tabs around them.
-use Rattle.std.specs.Prelude.{ℕ, List, [], ◌∷◌, length, map, Bool, ◌&&◌, nat_lt, nat_le, if◌then◌else◌}
-use Rattle.std.specs.List.{list_any, list_all, filter}
-use Rattle.std.specs.Char.{is_ascii_digit}
+use Rattle.std.specs.Prelude.{ℕ, ◌-◌, List, [], ◌∷◌, length, take, drop, map, Bool, ◌&&◌, ◌==◌, nat_lt, nat_le, if◌then◌else◌}
+use Rattle.std.specs.List.{list_any, list_all, filter, prefix_len, suffix_len, slice_split}
+use Rattle.std.specs.Char.{is_ascii_digit, is_ascii_whitespace}
 use Rattle.std.specs.Str.{str_eq_ignore_ascii_case}
 use Rattle.std.specs.Str.Parse.{digits_value}
 use Rattle.serv_http.specs.declared.route.ContentLength.{ContentLength}
@@ -15,9 +15,27 @@ Line = List ℕ × List ℕ
 abbrev pub is_named : List ℕ → Line → Bool
 is_named name line = str_eq_ignore_ascii_case line.0 name
 
--- the line has this name and this value, both in any ASCII case
+-- a text without the blanks around it
+abbrev pub after_blanks : List ℕ → List ℕ
+after_blanks text = drop (prefix_len is_ascii_whitespace text) text
+
+abbrev pub before_blanks : List ℕ → List ℕ
+before_blanks text = take (length text - suffix_len is_ascii_whitespace text) text
+
+abbrev pub trimmed : List ℕ → List ℕ
+trimmed text = before_blanks (after_blanks text)
+
+-- a text is this word, in any ASCII case
+abbrev pub is_word : List ℕ → List ℕ → Bool
+is_word word text = str_eq_ignore_ascii_case (trimmed text) word
+
+-- what stands between the commas of a value
+abbrev pub parts_of : List ℕ → List (List ℕ)
+parts_of value = slice_split (λ b. b == 44) value
+
+-- the line has this name, and this word is one of those between the commas of its value
 abbrev pub is_saying : List ℕ → List ℕ → Line → Bool
-is_saying name value line = is_named name line && str_eq_ignore_ascii_case line.1 value
+is_saying name word line = is_named name line && list_any (is_word word) (parts_of line.1)
 
 -- a line of this name is there
 abbrev pub has_line : List ℕ → List Line → Bool

@@ -27,12 +27,26 @@ fn is_line_named(buf: &[u8], line: &HeaderSpan, name: &[u8]) -> bool
     line.name.of(buf).eq_ignore_ascii_case(name)
 }
 
-/// Whether a line has a name and a value, both in any ASCII case.
-fn is_line_saying(buf: &[u8], line: &HeaderSpan, name: &[u8], value: &[u8]) -> bool
-    requires { IsHeaderWithin (length buf.now) line.now }
-    ensures { result ≡ fields.is_saying name.now value.now (header_bytes buf.now line.now) }
+/// Whether a text is a word, in any ASCII case, with blanks around it or without.
+fn is_word(text: &[u8], word: &[u8]) -> bool
+    ensures { result ≡ fields.is_word word.now text.now }
 {
-    is_line_named(buf, line, name) && line.value.of(buf).eq_ignore_ascii_case(value)
+    text.trim_ascii().eq_ignore_ascii_case(word)
+}
+
+/// Whether a word stands between the commas of a value.
+fn has_word(value: &[u8], word: &[u8]) -> bool
+    ensures { result ≡ list_any (fields.is_word word.now) (fields.parts_of value.now) }
+{
+    value.split(|b| *b == b',').any(|text| is_word(text, word))
+}
+
+/// Whether a line has a name, and a word between the commas of its value, both in any ASCII case.
+fn is_line_saying(buf: &[u8], line: &HeaderSpan, name: &[u8], word: &[u8]) -> bool
+    requires { IsHeaderWithin (length buf.now) line.now }
+    ensures { result ≡ fields.is_saying name.now word.now (header_bytes buf.now line.now) }
+{
+    is_line_named(buf, line, name) && has_word(line.value.of(buf), word)
 }
 
 /// Whether a line of this name is there.
@@ -48,13 +62,13 @@ pub(crate) fn has_line(buf: &[u8], lines: &[HeaderSpan], name: &[u8]) -> bool
     false
 }
 
-/// Whether a line of this name has this value.
-pub(crate) fn says(buf: &[u8], lines: &[HeaderSpan], name: &[u8], value: &[u8]) -> bool
+/// Whether a line of this name says this word.
+pub(crate) fn says(buf: &[u8], lines: &[HeaderSpan], name: &[u8], word: &[u8]) -> bool
     requires { All (IsHeaderWithin (length buf.now)) lines.now }
-    ensures { result ≡ list_any (fields.is_saying name.now value.now) (map (header_bytes buf.now) lines.now) }
+    ensures { result ≡ list_any (fields.is_saying name.now word.now) (map (header_bytes buf.now) lines.now) }
 {
     for line in lines {
-        if is_line_saying(buf, line, name, value) {
+        if is_line_saying(buf, line, name, word) {
             return true;
         }
     }

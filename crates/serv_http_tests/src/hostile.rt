@@ -49,7 +49,7 @@ const TARGETS_AND_HEADS: [(&str, &str); 10] = [
         "post 2 false\nget Custodial false\n",
     ),
     (
-        "GET /v1/custodial HTTP/1.1\r\nConnection: keep-alive, close\r\n\r\n",
+        "GET /v1/custodial HTTP/1.1\r\nConnection: keep-alive, closed, c lose\r\n\r\n",
         "get Custodial false\nget Custodial false\n",
     ),
     (
@@ -157,7 +157,15 @@ fn a_wrong_length_ends_the_connection(rt: HostRuntime) -> Result<(), Fail> {
     Ok(())
 }
 
-const LAST_ONES: [(&str, &str); 7] = [
+const LAST_ONES: [(&str, &str); 9] = [
+    (
+        "GET /v1/custodial HTTP/1.1\r\nConnection: close, x\r\n\r\n",
+        "get Custodial true\n",
+    ),
+    (
+        "GET /v1/custodial HTTP/1.1\r\nConnection: keep-alive ,\tClose ,\r\n\r\n",
+        "get Custodial true\n",
+    ),
     (
         "GET /v1/custodial HTTP/1.1\r\nConnection: keep-alive\r\nConnection: close\r\n\r\n",
         "get Custodial true\n",

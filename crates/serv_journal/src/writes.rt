@@ -118,6 +118,7 @@ pub(crate) fn lay<D: Disk>(disk: &mut D, at: u64, bytes: &[u8]) -> Result<(), Fa
         → Each (D.view disk.new).images (Starts front) }
     ensures moments { (front : List ℕ) → length front ≤ at → Each (D.view disk.old).images (Starts front)
         → LeavesOnly D.view disk.old disk.new (Starts front) }
+    ensures reach { Reaches (D.view disk.new).seen at }
     ensures cause { HasCause (D.faults disk.old) (D.faults disk.new) result }
 {
     disk.write_at(at, bytes)
@@ -126,22 +127,35 @@ pub(crate) fn lay<D: Disk>(disk: &mut D, at: u64, bytes: &[u8]) -> Result<(), Fa
 /// How many zeros are laid at once behind a file that does not reach far enough.
 const AHEAD: usize = 1 << 16;
 
-/// Puts zeros after all that is of account.
+/// Fewer than twice as many are not laid: a record has at most 520 bytes.
+const FEWEST: usize = 1 << 10;
+
+/// Puts zeros after all that is of account: half as many as often as the disk does not take them, and none in the end.
+/// Gives how far the file then reaches.
 #[inline(never)]
-fn lay_zeros<D: Disk>(disk: &mut D, at: u64) -> Result<(), Failed>
-    requires { Reaches (D.view disk.old).seen at }
-    ensures reach { OnOk result (Reaches (D.view disk.new).seen at) }
+fn lay_zeros<D: Disk>(disk: &mut D, at: u64) -> u64
+    requires small { at < 2 ^ 63 }
+    requires reaches { Reaches (D.view disk.old).seen at }
+    ensures reach { Reaches (D.view disk.new).seen at }
     ensures crash { (front : List ℕ) → length front ≤ at → Each (D.view disk.old).images (Starts front)
         → Each (D.view disk.new).images (Starts front) }
     ensures moments { (front : List ℕ) → length front ≤ at → Each (D.view disk.old).images (Starts front)
         → LeavesOnly D.view disk.old disk.new (Starts front) }
-    ensures cause { HasCause (D.faults disk.old) (D.faults disk.new) result }
+    ensures faults { D.faults disk.old ≤ D.faults disk.new }
 {
-    lay(disk, at, &[0; AHEAD])
+    let zeros = [0; AHEAD];
+    let mut count = AHEAD;
+    while FEWEST <= count {
+        match lay(disk, at, &zeros[..count]) {
+            Ok(()) => return at + count as u64,
+            Err(_) => count /= 2,
+        }
+    }
+    at
 }
 
-/// Lets a file reach past what is of account in it, up to a place or further, by zeros behind its end. Gives how far it
-/// reaches.
+/// Lets a file reach past what is of account in it, up to a place or further, by zeros behind its end, as far as the disk
+/// takes them. Gives how far it reaches.
 pub(crate) fn reach_to<D: Disk>(disk: &mut D, reach: u64, size: u64, to: u64) -> Result<u64, Failed>
     requires small { to < 2 ^ 63 }
     requires reaches { Reaches (D.view disk.old).seen size }
@@ -159,6 +173,5 @@ pub(crate) fn reach_to<D: Disk>(disk: &mut D, reach: u64, size: u64, to: u64) ->
     if to <= end {
         return Ok(end);
     }
-    lay_zeros(disk, end)?;
-    Ok(end + AHEAD as u64)
+    Ok(lay_zeros(disk, end))
 }

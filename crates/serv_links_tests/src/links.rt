@@ -81,12 +81,12 @@ fn stops_at(alloc: Global, call: u32, answered: u32) -> Result<bool, OutOfMemory
     Ok(ended == end && is_told(&link, said, last))
 }
 
-/// How many of the three days are answered where this call fails. Two calls lay the file ahead. The first
-/// record takes a write and a sync, each further one two writes, the other of the commit byte before it, and a sync; the
-/// last commit byte a write and a sync.
+/// How many of the three days are answered where this call fails. Two calls lay the file ahead; where the second fails,
+/// fewer zeros are laid. The first record takes a write and a sync, each further one two writes, the other of the commit
+/// byte before it, and a sync; the last commit byte a write and a sync.
 const STOPS: [(u32, u32); 13] = [
     (4, 0),
-    (5, 0),
+    (5, 3),
     (6, 0),
     (7, 0),
     (8, 0),
