@@ -31,7 +31,7 @@ put 644 deploy/completion.bash usr/share/bash-completion/completions/jaqhendulu
 put 644 deploy/debian/overrides usr/share/lintian/overrides/jaqhendulu
 put 644 deploy/debian/copyright usr/share/doc/jaqhendulu/copyright
 put 644 deploy/README.md usr/share/doc/jaqhendulu/README.md
-for file in docs/*.md docs/guide/*.md; do
+for file in docs/*.md docs/*.json docs/guide/*.md; do
     put 644 "$file" "usr/share/doc/jaqhendulu/$file"
 done
 for file in deploy/systemd/books.conf deploy/nginx/jaqhendulu.conf; do
@@ -47,7 +47,7 @@ for file in deploy/jobs/*; do
     sed "s/@VERSION@/$version/" "$file" > "$room/job"
     put 644 "$room/job" "usr/share/doc/jaqhendulu/examples/$(basename "$file")"
 done
-git ls-files examples | grep -v '\.py$' | while read -r file; do
+git ls-files examples | grep -v '\.\(py\|sh\)$' | while read -r file; do
     put 644 "$file" "usr/share/doc/jaqhendulu/$file"
 done
 

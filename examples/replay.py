@@ -4,9 +4,10 @@
     replay.py            with the program that `rt` built (or the one that the variable JAQHENDULU names)
     replay.py --reckon   the texts of examples/ against reckon.py alone; needs no program
 
-Each set of steps runs on a fresh journal in a folder of its own that is removed afterwards. The documents run in one
-folder, once in their order and once backwards, so that each comes before and after each other one. Standard library
-alone. Prints a line a step and `N passed, M failed` at its end.
+Each set of steps runs on a fresh journal in a folder of its own that is removed afterwards. Of every document the
+blocks `sh` and `console` are run in one shell, at the top of what stands for a checkout, and pasted there once more: the
+second time they print the same, and what stood in the checkout is there as it was. The documents run one after another,
+and once more backwards. Standard library alone. Prints a line a step and `N passed, M failed` at its end.
 """
 import csv
 import io
@@ -28,9 +29,8 @@ import further  # noqa: E402
 import program  # noqa: E402
 import reckon  # noqa: E402
 
-# The documents whose blocks of commands are run; guides that are not there are passed over.
-DOCUMENTS = ["README.md", "examples/README.md", "docs/REFUSALS.md", "docs/guide/cashier.md",
-             "docs/guide/operator.md", "docs/guide/auditor.md", "tools/README.md"]
+# Where documents stand, from the top of the repository.
+FOLDERS = [".", "examples", "docs", "docs/guide", "tools", "deploy", "desk"]
 MARK = "\x01end of "
 
 
@@ -256,30 +256,51 @@ def fits(shown, got):
     return any(fits(shown[at + 1:], got[i:]) for i in range(at, len(got) + 1))
 
 
+def documents():
+    """The paths of all documents, from the top of the repository. What CONTRIBUTING.md shows is the gate itself."""
+    for folder in FOLDERS:
+        for name in sorted(os.listdir(os.path.join(TOP, folder))):
+            if name.endswith(".md") and name != "CONTRIBUTING.md":
+                yield os.path.normpath(os.path.join(folder, name))
+
+
 def lay_out(room, built):
-    """A folder with what the documents' commands name. Its `rt` runs the built program, and its `.ci/run` does nothing:
-    proofs are rt's own work."""
-    for it in ("bin", "here/crates/serv_cli/out", "here/.ci"):
+    """A folder with what the documents' commands name. Its `rt` runs the built program."""
+    for it in ("bin", "temporary", "here/crates/serv_cli/out"):
         os.makedirs(f"{room}/{it}")
     shutil.copytree(HERE, f"{room}/here/examples", ignore=shutil.ignore_patterns("__pycache__"))
     os.symlink(os.path.join(TOP, "tools"), f"{room}/here/tools")
     for place in ("bin/jaqhendulu", "here/crates/serv_cli/out/serv_cli"):
         os.symlink(built, f"{room}/{place}")
-    for place, text in (("bin/rt", 'shift 2\nexec jaqhendulu "$@"'), ("here/.ci/run", "exit 0")):
-        with open(f"{room}/{place}", "w", encoding="utf-8") as file:
-            file.write(f"#!/bin/sh\n{text}\n")
-        os.chmod(f"{room}/{place}", 0o755)
+    with open(f"{room}/bin/rt", "w", encoding="utf-8") as file:
+        file.write('#!/bin/sh\nshift 2\nexec jaqhendulu "$@"\n')
+    os.chmod(f"{room}/bin/rt", 0o755)
+
+
+def files_in(room):
+    """What stands in the folder that stands for a checkout: each file's path with its size."""
+    there = []
+    for folder, _, names in os.walk(f"{room}/here"):
+        if not folder.endswith("__pycache__"):
+            there += [f"{os.path.join(folder, it)} {os.lstat(os.path.join(folder, it)).st_size}" for it in names]
+    return "\n".join(sorted(there)).encode()
 
 
 def replay_document(name, room, order, count):
-    """Runs the commands of a document in one shell, in a folder that others may have worked in."""
+    """Runs the commands of a document in one shell, and all of them there once more."""
     with open(os.path.join(TOP, name), encoding="utf-8") as file:
         blocks = list(blocks_of(file.read()))
+    if not blocks:
+        return
+    before, blocks = files_in(room), blocks + blocks
     script = "".join(f"{command}\nprintf '%s\\n' \"{MARK}{at}\"\n" for at, command, _ in blocks)
-    env = {"PATH": f"{room}/bin:{room}/.local/bin:{os.environ['PATH']}", "HOME": room, "LC_ALL": "C.UTF-8"}
+    env = {"PATH": f"{room}/bin:{room}/.local/bin:{os.environ['PATH']}", "HOME": room, "LC_ALL": "C.UTF-8",
+           "TMPDIR": f"{room}/temporary"}
     ran = subprocess.run(["bash", "-c", script], cwd=f"{room}/here", env=env, stdin=subprocess.DEVNULL,
                          stdout=subprocess.PIPE, stderr=subprocess.DEVNULL)
     pieces = re.split(f"{MARK}\\d+\n", ran.stdout.decode(errors="replace"))
+    count.compare(f"{order}: {name}: each command ends", b"%d" % len(blocks), b"%d" % (len(pieces) - 1))
+    count.compare(f"{order}: {name}: the checkout is as it was", before, files_in(room))
     for (at, command, shown), got in zip(blocks, pieces):
         name_of = f"{order}: {name}:{at}: {command.splitlines()[0][:60]}"
         if fits(shown, got.splitlines()):
@@ -289,7 +310,7 @@ def replay_document(name, room, order, count):
 
 
 def replay_documents(names, order, count, built):
-    """Runs the documents one after another in one folder: each has files of its own, so any order will do."""
+    """Runs the documents one after another beside one checkout."""
     with tempfile.TemporaryDirectory() as room:
         lay_out(room, built)
         for name in names:
@@ -315,7 +336,7 @@ def main():
     if os.path.isfile(os.path.join(HERE, "http", "requests")):
         replay_requests("http", count, built)
     if built:
-        there = [name for name in DOCUMENTS if os.path.isfile(os.path.join(TOP, name))]
+        there = list(documents())
         replay_documents(there, "forwards", count, built)
         replay_documents(there[::-1], "backwards", count, built)
         for name in there:

@@ -115,8 +115,8 @@ def behind(data, journal):
 
 # The text
 
-WHY = ["a command that was being written when the system stopped, which was not answered; or the commit byte at the "
-       "end was changed, and an answered command is lost: compare with a backup",
+WHY = ["a command that was being written when the system stopped, or that a rule refused, so that it is not in the books; "
+       "or the commit byte at the end was changed, and an answered command is lost: compare with a backup",
        "the commit byte at the end was changed, and answered commands are cut off: keep the file, and compare with a "
        "backup"]
 
